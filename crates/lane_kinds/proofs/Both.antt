@@ -1,5 +1,5 @@
 -- Laws of each of two kinds are laws of both beside each other.
-use Rattle.std.proofs.Common.{◌≡◌, ℕ, ◌+◌, ◌≤◌, ◌⊎◌, inl, inr, Bool, true, false, List, [], ◌∷◌, ◌++◌, length, refl, sym, ap, ap₂, ◌∙◌, subst, arith, append-nil, length-append}
+use Rattle.std.proofs.Common.{◌≡◌, ℕ, ◌+◌, ◌≤◌, ◌⊎◌, inl, inr, Bool, true, false, List, [], ◌∷◌, ◌++◌, refl, sym, ap, ap₂, subst, arith, append-nil, length-append}
 use Rattle.std.specs.Prelude.{◌&&◌, ◌||◌}
 use Rattle.runs.specs.Run.{Run}
 use Rattle.lane_kinds.proofs.Stuck.{sum_both}
@@ -13,18 +13,6 @@ use Rattle.lane_kinds.specs.Stuck.{sum_over}
 -- NUMBERS
 none_of_two : (all a b : ℕ) → all ≡ a + b → a ≤ 0 → b ≤ 0 → all ≤ 0
 none_of_two all a b sum one two = omega (arith, sum, one, two)
-
-first_once : (all a b : ℕ) → all ≡ a + b → a ≤ 1 → b ≤ 0 → all ≤ 1
-first_once all a b sum one two = omega (arith, sum, one, two)
-
-second_once : (all a b : ℕ) → all ≡ a + b → a ≤ 0 → b ≤ 1 → all ≤ 1
-second_once all a b sum one two = omega (arith, sum, one, two)
-
-ticks_first : (all a b mark new : ℕ) → all ≡ a + b → a + mark ≡ new → b ≤ 0 → all + mark ≡ new
-ticks_first all a b mark new sum one two = omega (arith, sum, one, two)
-
-ticks_second : (all a b mark new : ℕ) → all ≡ a + b → a ≤ 0 → b + mark ≡ new → all + mark ≡ new
-ticks_second all a b mark new sum one two = omega (arith, sum, one, two)
 
 some_loud : (one two : Bool) (all a b : ℕ) → all ≡ a + b → (one && two) ≡ false → (one ≡ false → 1 ≤ a) → (two ≡ false → 1 ≤ b) → 1 ≤ all
 some_loud true two all a b sum loud first second = omega (arith, sum, second loud)
@@ -44,15 +32,8 @@ pub record Beyond {E : Type 0} (part more a b : List E) : Type 0 where
   pub is : part ≡ a ++ rest
   pub second_is : rest ++ more ≡ b
 
-beyond_more : {E : Type 0} (x : E) (part more a b : List E) → Beyond part more a b → Beyond (x ∷ part) more (x ∷ a) b
-beyond_more {E} x part more a b at = record { rest = at.rest; is = ap (λ (l : List E). x ∷ l) at.is; second_is = at.second_is }
-
-within_more : {E : Type 0} (x : E) (part a : List E) → Within part a → Within (x ∷ part) (x ∷ a)
-within_more {E} x part a at = record { rest = at.rest; is = ap (λ (l : List E). x ∷ l) at.is }
-
 one_more : {E : Type 0} (x : E) (part more a b : List E) → Within part a ⊎ Beyond part more a b → Within (x ∷ part) (x ∷ a) ⊎ Beyond (x ∷ part) more (x ∷ a) b
-one_more x part more a b (inl at) = inl (within_more x part a at)
-one_more x part more a b (inr at) = inr (beyond_more x part more a b at)
+one_more x part more a b given = grind arith
 
 pub front_of_two : {E : Type 0} (part more a b : List E) → part ++ more ≡ a ++ b → Within part a ⊎ Beyond part more a b
 front_of_two part more [] b is = inr (record { rest = part; is = refl; second_is = is })
@@ -84,39 +65,16 @@ module _ {W V E : Type 0} (Step : W → E → W → Type 0) (Other : V → E →
 module _ {W V M N R Q E : Type 0} (K : Rounds W M R E) (L : Rounds V N Q E) where
   -- WHAT STANDS OF EACH stands of both
   pub both_keep : (P : W → M → Type 0) (S : V → N → Type 0) → Keeps K P → Keeps L S → Keeps (both K L) (BothStand P S)
-  both_keep P S one two = record {
-    round = λ w m r v at made. record {
-      of_first = one.round w.first m.first r.first v.first at.of_first made.of_first;
-      of_second = two.round w.second m.second r.second v.second at.of_second made.of_second;
-    };
-    ticks = λ w m r v u at made quiet ticks. record {
-      of_first = one.ticks w.first m.first r.first v.first u.first at.of_first made.of_first (and_left (K.quiet r.first) (L.quiet r.second) quiet) ticks.of_first;
-      of_second = two.ticks w.second m.second r.second v.second u.second at.of_second made.of_second (and_right (K.quiet r.first) (L.quiet r.second) quiet) ticks.of_second;
-    };
-  }
+  both_keep P S one two = grind (arith, and_left, and_right)
 
   -- THE LAST ROUND of both is that of each
   pub first_ends_with : (P : W → M → Type 0) (S : V → N → Type 0) (behind : Two W V) (marks : Two M N) → EndsWith (both K L) (BothStand P S) behind marks
       → EndsWith K P behind.first marks.first
-  first_ends_with P S behind marks at = record {
-    before = at.before.first;
-    stands = at.stands.of_first;
-    steps = at.steps.first;
-    made = at.made.of_first;
-    quiet = and_left (K.quiet at.steps.first) (L.quiet at.steps.second) at.quiet;
-    no_tick = or_left (K.some_ticks behind.first marks.first) (L.some_ticks behind.second marks.second) at.no_tick;
-  }
+  first_ends_with P S behind marks given = grind (arith, and_left, or_left)
 
   pub second_ends_with : (P : W → M → Type 0) (S : V → N → Type 0) (behind : Two W V) (marks : Two M N) → EndsWith (both K L) (BothStand P S) behind marks
       → EndsWith L S behind.second marks.second
-  second_ends_with P S behind marks at = record {
-    before = at.before.second;
-    stands = at.stands.of_second;
-    steps = at.steps.second;
-    made = at.made.of_second;
-    quiet = and_right (K.quiet at.steps.first) (L.quiet at.steps.second) at.quiet;
-    no_tick = or_right (K.some_ticks behind.first marks.first) (L.some_ticks behind.second marks.second) at.no_tick;
-  }
+  second_ends_with P S behind marks given = grind (arith, and_right, or_right)
 
   -- WHAT REMAINS of both falls
   pub both_fall : (P : W → Type 0) (S : V → Type 0) (remaining : W → ℕ) (rest : V → ℕ) → Falls K P remaining → Falls L S rest
@@ -135,46 +93,21 @@ module _ {W V M N R Q E : Type 0} (K : Rounds W M R E) (L : Rounds V N Q E) wher
     round = λ w r v at made.
         both_lower (K.quiet r.first) (L.quiet r.second) (remaining w.first) (remaining v.first) (rest w.second) (rest v.second)
         (one.round w.first r.first v.first at.of_first made.of_first) (two.round w.second r.second v.second at.of_second made.of_second);
-    ticks = λ w m r v u at made quiet ticks.
-        both_unless (K.some_ticks v.first m.first) (L.some_ticks v.second m.second) (remaining v.first) (remaining u.first) (rest v.second) (rest u.second)
-        (one.ticks w.first m.first r.first v.first u.first at.of_first made.of_first (and_left (K.quiet r.first) (L.quiet r.second) quiet) ticks.of_first)
-        (two.ticks w.second m.second r.second v.second u.second at.of_second made.of_second (and_right (K.quiet r.first) (L.quiet r.second) quiet) ticks.of_second);
+    ticks = λ w m r v u at made quiet ticks. grind (arith, both_unless, and_left, and_right);
   }
 
   -- EACH ROUND MOVES
   pub both_move : (moves : List E → ℕ) → Moves K moves → Moves L moves → Moves (both K L) moves
-  both_move moves one two = record {
-    both = one.both;
-    round = λ r loud. some_loud (K.quiet r.first) (L.quiet r.second) (moves (K.leaves r.first ++ L.leaves r.second)) (moves (K.leaves r.first)) (moves (L.leaves r.second))
-        (one.both (K.leaves r.first) (L.leaves r.second)) loud (one.round r.first) (two.round r.second);
-    ticks = λ w m some. some_ticked (K.some_ticks w.first m.first) (L.some_ticks w.second m.second)
-        (moves (K.ticks_leave w.first m.first ++ L.ticks_leave w.second m.second)) (moves (K.ticks_leave w.first m.first)) (moves (L.ticks_leave w.second m.second))
-        (one.both (K.ticks_leave w.first m.first) (L.ticks_leave w.second m.second)) some (one.ticks w.first m.first) (two.ticks w.second m.second);
-  }
+  both_move moves one two = grind (arith, some_loud, some_ticked)
 
   -- SOME LANE OF THEM IS NAMED
   pub both_name : (P : W → M → Type 0) (S : V → N → Type 0) → Names K P → Names L S → Names (both K L) (BothStand P S)
-  both_name P S one two = record {
-    loud = λ w r v made loud.
-        some_loud (K.quiet r.first) (L.quiet r.second) (length (K.names r.first v.first ++ L.names r.second v.second)) (length (K.names r.first v.first)) (length (L.names r.second v.second))
-        (length-append (K.names r.first v.first) (L.names r.second v.second)) loud (one.loud w.first r.first v.first made.of_first) (two.loud w.second r.second v.second made.of_second);
-    ticked = λ w m r v u at made ticks some.
-        some_ticked (K.some_ticks v.first m.first) (L.some_ticks v.second m.second) (length (K.names r.first u.first ++ L.names r.second u.second)) (length (K.names r.first u.first))
-        (length (L.names r.second u.second)) (length-append (K.names r.first u.first) (L.names r.second u.second)) some
-        (one.ticked w.first m.first r.first v.first u.first at.of_first made.of_first ticks.of_first)
-        (two.ticked w.second m.second r.second v.second u.second at.of_second made.of_second ticks.of_second);
-  }
+  both_name P S one two = grind (arith, some_loud, length-append, some_ticked)
 
   -- WHERE ENTRIES LEAD THE ONE, those of the other leading it nowhere
   module _ (To : W → List E → W → Type 0) (laws : Leads K To) (others : Skips L To) where
     pub first_leads : Leads (both K L) (OnFirst To)
-    first_leads = record {
-      none = λ w. laws.none w.first;
-      both = λ w m v one two first second. laws.both w.first m.first v.first one two first second;
-      round = λ w r v made. laws.both w.first v.first v.first (K.leaves r.first) (L.leaves r.second) (laws.round w.first r.first v.first made.of_first) (others.round r.second v.first);
-      ticks = λ w m v ticks. laws.both w.first v.first v.first (K.ticks_leave w.first m.first) (L.ticks_leave w.second m.second)
-          (laws.ticks w.first m.first v.first ticks.of_first) (others.ticks w.second m.second v.first);
-    }
+    first_leads = grind arith
 
     module _ (ends : Ends K To) where
       names_lead : (r : Two R Q) (w : Two W V) (part more : List E) → Within part (K.names r.first w.first) ⊎ Beyond part more (K.names r.first w.first) (L.names r.second w.second)
@@ -219,67 +152,17 @@ module _ {W V M N R Q E : Type 0} (K : Rounds W M R E) (L : Rounds V N Q E) wher
 
   -- COUNTS of the one, which ignore the other
   pub first_counts : (count : List E → ℕ) (mark : M → ℕ) → Counts K count mark → Ignores L count → Counts (both K L) count (λ m. mark m.first)
-  first_counts count mark laws others = record {
-    both = laws.both;
-    round = λ w r v made. none_of_two (count (K.leaves r.first ++ L.leaves r.second)) (count (K.leaves r.first)) (count (L.leaves r.second))
-        (laws.both (K.leaves r.first) (L.leaves r.second)) (laws.round w.first r.first v.first made.of_first) (others.round r.second);
-    ticks = λ w m v ticks. ticks_first (count (K.ticks_leave w.first m.first ++ L.ticks_leave w.second m.second)) (count (K.ticks_leave w.first m.first))
-        (count (L.ticks_leave w.second m.second)) (mark m.first) (mark (K.marked w.first m.first)) (laws.both (K.ticks_leave w.first m.first) (L.ticks_leave w.second m.second))
-        (laws.ticks w.first m.first v.first ticks.of_first) (others.ticks w.second m.second);
-    unmarked = λ w. laws.unmarked w.first;
-    most = λ m. laws.most m.first;
-    answer = laws.answer;
-    names = λ r w. none_of_two (count (K.names r.first w.first ++ L.names r.second w.second)) (count (K.names r.first w.first)) (count (L.names r.second w.second))
-        (laws.both (K.names r.first w.first) (L.names r.second w.second)) (laws.names r.first w.first) (others.names r.second w.second);
-  }
+  first_counts count mark laws others = grind (arith, none_of_two)
 
   -- and of the other
   pub second_counts : (count : List E → ℕ) (mark : N → ℕ) → Counts L count mark → Ignores K count → K.settled ≡ L.settled → Counts (both K L) count (λ m. mark m.second)
-  second_counts count mark laws others one_answer = record {
-    both = laws.both;
-    round = λ w r v made. none_of_two (count (K.leaves r.first ++ L.leaves r.second)) (count (K.leaves r.first)) (count (L.leaves r.second))
-        (laws.both (K.leaves r.first) (L.leaves r.second)) (others.round r.first) (laws.round w.second r.second v.second made.of_second);
-    ticks = λ w m v ticks. ticks_second (count (K.ticks_leave w.first m.first ++ L.ticks_leave w.second m.second)) (count (K.ticks_leave w.first m.first))
-        (count (L.ticks_leave w.second m.second)) (mark m.second) (mark (L.marked w.second m.second)) (laws.both (K.ticks_leave w.first m.first) (L.ticks_leave w.second m.second))
-        (others.ticks w.first m.first) (laws.ticks w.second m.second v.second ticks.of_second);
-    unmarked = λ w. laws.unmarked w.second;
-    most = λ m. laws.most m.second;
-    answer = ap (λ (x : E). count (x ∷ [])) one_answer ∙ laws.answer;
-    names = λ r w. none_of_two (count (K.names r.first w.first ++ L.names r.second w.second)) (count (K.names r.first w.first)) (count (L.names r.second w.second))
-        (laws.both (K.names r.first w.first) (L.names r.second w.second)) (others.names r.first w.first) (laws.names r.second w.second);
-  }
+  second_counts count mark laws others one_answer = grind (arith, none_of_two)
 
   -- AN END OF THE ONE that finds no room, where entries of the other are none of it
   pub first_unsticks : (stuck : ℕ → E → ℕ) (blocked moves : E → ℕ) → Unsticks K stuck blocked moves → Moves L (sum_over moves) → Ignores L (sum_over blocked)
       → Unsticks (both K L) stuck blocked moves
-  first_unsticks stuck blocked moves laws moving others = record {
-    most = laws.most;
-    or_none = laws.or_none;
-    moving = both_move (sum_over moves) laws.moving moving;
-    round = λ w r v made. first_once (sum_over blocked (K.leaves r.first ++ L.leaves r.second)) (sum_over blocked (K.leaves r.first)) (sum_over blocked (L.leaves r.second))
-        (sum_both blocked (K.leaves r.first) (L.leaves r.second)) (laws.round w.first r.first v.first made.of_first) (others.round r.second);
-    ticks = λ w m. none_of_two (sum_over blocked (K.ticks_leave w.first m.first ++ L.ticks_leave w.second m.second)) (sum_over blocked (K.ticks_leave w.first m.first))
-        (sum_over blocked (L.ticks_leave w.second m.second)) (sum_both blocked (K.ticks_leave w.first m.first) (L.ticks_leave w.second m.second))
-        (laws.ticks w.first m.first) (others.ticks w.second m.second);
-    names = λ r w. none_of_two (sum_over blocked (K.names r.first w.first ++ L.names r.second w.second)) (sum_over blocked (K.names r.first w.first))
-        (sum_over blocked (L.names r.second w.second)) (sum_both blocked (K.names r.first w.first) (L.names r.second w.second)) (laws.names r.first w.first)
-        (others.names r.second w.second);
-    answer = laws.answer;
-  }
+  first_unsticks stuck blocked moves laws moving others = grind (arith, both_move, sum_both, none_of_two)
 
   pub second_unsticks : (stuck : ℕ → E → ℕ) (blocked moves : E → ℕ) → Unsticks L stuck blocked moves → Moves K (sum_over moves) → Ignores K (sum_over blocked) → K.settled ≡ L.settled
       → Unsticks (both K L) stuck blocked moves
-  second_unsticks stuck blocked moves laws moving others one_answer = record {
-    most = laws.most;
-    or_none = laws.or_none;
-    moving = both_move (sum_over moves) moving laws.moving;
-    round = λ w r v made. second_once (sum_over blocked (K.leaves r.first ++ L.leaves r.second)) (sum_over blocked (K.leaves r.first)) (sum_over blocked (L.leaves r.second))
-        (sum_both blocked (K.leaves r.first) (L.leaves r.second)) (others.round r.first) (laws.round w.second r.second v.second made.of_second);
-    ticks = λ w m. none_of_two (sum_over blocked (K.ticks_leave w.first m.first ++ L.ticks_leave w.second m.second)) (sum_over blocked (K.ticks_leave w.first m.first))
-        (sum_over blocked (L.ticks_leave w.second m.second)) (sum_both blocked (K.ticks_leave w.first m.first) (L.ticks_leave w.second m.second))
-        (others.ticks w.first m.first) (laws.ticks w.second m.second);
-    names = λ r w. none_of_two (sum_over blocked (K.names r.first w.first ++ L.names r.second w.second)) (sum_over blocked (K.names r.first w.first))
-        (sum_over blocked (L.names r.second w.second)) (sum_both blocked (K.names r.first w.first) (L.names r.second w.second)) (others.names r.first w.first)
-        (laws.names r.second w.second);
-    answer = ap blocked one_answer ∙ laws.answer;
-  }
+  second_unsticks stuck blocked moves laws moving others one_answer = grind (arith, both_move, sum_both, none_of_two)

@@ -30,25 +30,8 @@ none_marked a mark none most = omega (arith, none, most)
 module _ {W V M N R Q E : Type 0} (K : Rounds W M R E) (L : Rounds V N Q E) (F : Fronts W M E) (G : Fronts V N E) where
   -- WHERE THEY LEAD THE ONE
   module _ (To : W → List E → W → Type 0) (laws : Leads K To) (fronts : FrontsLead K F To) (others : SkipsFronts G To) where
-    first_then : (w : Two W V) (part before later : List E) (v : Two W V) → part ≡ before ++ later → To w.first before v.first → To v.first later v.first → To w.first part v.first
-    first_then w part before later v is one two = subst (λ (l : List E). To w.first l v.first) (sym is) (laws.both w.first v.first v.first before later one two)
-
-    round_leads : (w : Two W V) (part : List E) (v : Two W V) → FrontOfFirst F.OfRound w part v ⊎ FrontBehind (AllRound K) G.OfRound w part v → To w.first part v.first
-    round_leads w part v (inl at) = fronts.round w.first part v.first at.front
-    round_leads w part v (inr at) =
-        first_then w part at.before at.later v at.is
-        (subst (λ (l : List E). To w.first l v.first) (sym at.all.is) (laws.round w.first at.all.steps v.first at.all.made)) (others.round w.second at.later v.second at.front v.first)
-
-    ticks_lead : (w : Two W V) (m : Two M N) (part : List E) (v : Two W V)
-        → FrontOfFirst (λ x. F.OfTicks x m.first) w part v ⊎ FrontBehind (AllTicks K m.first) (λ x. G.OfTicks x m.second) w part v → To w.first part v.first
-    ticks_lead w m part v (inl at) = fronts.ticks w.first m.first part v.first at.front
-    ticks_lead w m part v (inr at) =
-        first_then w part at.before at.later v at.is
-        (subst (λ (l : List E). To w.first l v.first) (sym at.all.is) (laws.ticks w.first m.first v.first at.all.ticks))
-        (others.ticks w.second m.second at.later v.second at.front v.first)
-
     pub first_fronts_lead : FrontsLead (both K L) (both_fronts K F G) (OnFirst To)
-    first_fronts_lead = record { round = round_leads; ticks = ticks_lead }
+    first_fronts_lead = grind arith
 
   -- AND THE OTHER
   module _ (To : V → List E → V → Type 0) (laws : Leads L To) (fronts : FrontsLead L G To) (others : Skips K To) (skips : SkipsFronts F To) where
@@ -56,17 +39,11 @@ module _ {W V M N R Q E : Type 0} (K : Rounds W M R E) (L : Rounds V N Q E) (F :
     second_then w part before later v is one two = subst (λ (l : List E). To w.second l v.second) (sym is) (laws.both w.second w.second v.second before later one two)
 
     round_leads_second : (w : Two W V) (part : List E) (v : Two W V) → FrontOfFirst F.OfRound w part v ⊎ FrontBehind (AllRound K) G.OfRound w part v → To w.second part v.second
-    round_leads_second w part v (inl at) = subst (To w.second part) at.other (skips.round w.first part v.first at.front w.second)
-    round_leads_second w part v (inr at) =
-        second_then w part at.before at.later v at.is (subst (λ (l : List E). To w.second l w.second) (sym at.all.is) (others.round at.all.steps w.second))
-        (fronts.round w.second at.later v.second at.front)
+    round_leads_second w part v given = grind (arith, second_then)
 
     ticks_lead_second : (w : Two W V) (m : Two M N) (part : List E) (v : Two W V)
         → FrontOfFirst (λ x. F.OfTicks x m.first) w part v ⊎ FrontBehind (AllTicks K m.first) (λ x. G.OfTicks x m.second) w part v → To w.second part v.second
-    ticks_lead_second w m part v (inl at) = subst (To w.second part) at.other (skips.ticks w.first m.first part v.first at.front w.second)
-    ticks_lead_second w m part v (inr at) =
-        second_then w part at.before at.later v at.is (subst (λ (l : List E). To w.second l w.second) (sym at.all.is) (others.ticks w.first m.first w.second))
-        (fronts.ticks w.second m.second at.later v.second at.front)
+    ticks_lead_second w m part v given = grind (arith, second_then)
 
     pub second_fronts_lead : FrontsLead (both K L) (both_fronts K F G) (OnSecond To)
     second_fronts_lead = record { round = round_leads_second; ticks = ticks_lead_second }
@@ -80,9 +57,7 @@ module _ {W V M N R Q E : Type 0} (K : Rounds W M R E) (L : Rounds V N Q E) (F :
     first_most : (n : ℕ) → ((w : W) (steps : R) (v : W) → K.Makes w steps v → count (K.leaves steps) ≤ n) → ((w : W) (part : List E) (v : W) → F.OfRound w part v → count part ≤ n)
         → IgnoresFronts G count → (w : Two W V) (part : List E) (v : Two W V) → FrontOfFirst F.OfRound w part v ⊎ FrontBehind (AllRound K) G.OfRound w part v → count part ≤ n
     first_most n rounds fronts others w part v (inl at) = fronts w.first part v.first at.front
-    first_most n rounds fronts others w part v (inr at) =
-        first_least (count part) (count at.before) (count at.later) n (sum_is part at.before at.later at.is)
-        (subst (λ (l : List E). count l ≤ n) (sym at.all.is) (rounds w.first at.all.steps v.first at.all.made)) (others.round w.second at.later v.second at.front)
+    first_most n rounds fronts others w part v (inr at) = grind (arith, first_least, sum_is)
 
     least : (a n : ℕ) → a ≤ 0 → a ≤ n
     least a n none = omega (arith, none)
@@ -90,9 +65,7 @@ module _ {W V M N R Q E : Type 0} (K : Rounds W M R E) (L : Rounds V N Q E) (F :
     second_most : (n : ℕ) → ((w : V) (part : List E) (v : V) → G.OfRound w part v → count part ≤ n) → Ignores K count → IgnoresFronts F count → (w : Two W V) (part : List E) (v : Two W V)
         → FrontOfFirst F.OfRound w part v ⊎ FrontBehind (AllRound K) G.OfRound w part v → count part ≤ n
     second_most n fronts all others w part v (inl at) = least (count part) n (others.round w.first part v.first at.front)
-    second_most n fronts all others w part v (inr at) =
-        second_least (count part) (count at.before) (count at.later) n (sum_is part at.before at.later at.is)
-        (subst (λ (l : List E). count l ≤ 0) (sym at.all.is) (all.round at.all.steps)) (fronts w.second at.later v.second at.front)
+    second_most n fronts all others w part v (inr at) = grind (arith, second_least, sum_is)
 
     pub first_fronts_count : (mark : M → ℕ) → Counts K count mark → FrontsCount F count mark → IgnoresFronts G count → FrontsCount (both_fronts K F G) count (λ (m : Two M N). mark m.first)
     first_fronts_count mark laws fronts others = record { round = first_most 0 laws.round fronts.round others; ticks = ticks }
@@ -100,10 +73,7 @@ module _ {W V M N R Q E : Type 0} (K : Rounds W M R E) (L : Rounds V N Q E) (F :
         ticks : (w : Two W V) (m : Two M N) (part : List E) (v : Two W V)
             → FrontOfFirst (λ x. F.OfTicks x m.first) w part v ⊎ FrontBehind (AllTicks K m.first) (λ x. G.OfTicks x m.second) w part v → count part + mark m.first ≤ 1
         ticks w m part v (inl at) = fronts.ticks w.first m.first part v.first at.front
-        ticks w m part v (inr at) =
-            first_marked (count part) (count at.before) (count at.later) (mark m.first) (mark (K.marked w.first m.first)) (sum_is part at.before at.later at.is)
-            (subst (λ (l : List E). count l + mark m.first ≡ mark (K.marked w.first m.first)) (sym at.all.is) (laws.ticks w.first m.first v.first at.all.ticks))
-            (laws.most (K.marked w.first m.first)) (others.ticks w.second m.second at.later v.second at.front)
+        ticks w m part v (inr at) = grind (arith, first_marked, sum_is)
 
     pub second_fronts_count : (mark : N → ℕ) → ((m : N) → mark m ≤ 1) → FrontsCount G count mark → Ignores K count → IgnoresFronts F count
         → FrontsCount (both_fronts K F G) count (λ (m : Two M N). mark m.second)
@@ -112,32 +82,22 @@ module _ {W V M N R Q E : Type 0} (K : Rounds W M R E) (L : Rounds V N Q E) (F :
         ticks : (w : Two W V) (m : Two M N) (part : List E) (v : Two W V)
             → FrontOfFirst (λ x. F.OfTicks x m.first) w part v ⊎ FrontBehind (AllTicks K m.first) (λ x. G.OfTicks x m.second) w part v → count part + mark m.second ≤ 1
         ticks w m part v (inl at) = none_marked (count part) (mark m.second) (others.ticks w.first m.first part v.first at.front) (most m.second)
-        ticks w m part v (inr at) =
-            second_marked (count part) (count at.before) (count at.later) (mark m.second) (sum_is part at.before at.later at.is)
-            (subst (λ (l : List E). count l ≤ 0) (sym at.all.is) (all.ticks w.first m.first)) (fronts.ticks w.second m.second at.later v.second at.front)
+        ticks w m part v (inr at) = grind (arith, second_marked, sum_is)
 
     -- of ticks, where neither counts
     no_ticks : ((w : W) (m : M) → count (K.ticks_leave w m) ≤ 0) → ((w : W) (m : M) (part : List E) (v : W) → F.OfTicks w m part v → count part ≤ 0)
         → ((w : V) (m : N) (part : List E) (v : V) → G.OfTicks w m part v → count part ≤ 0) → (w : Two W V) (m : Two M N) (part : List E) (v : Two W V)
         → FrontOfFirst (λ x. F.OfTicks x m.first) w part v ⊎ FrontBehind (AllTicks K m.first) (λ x. G.OfTicks x m.second) w part v → count part ≤ 0
     no_ticks all one two w m part v (inl at) = one w.first m.first part v.first at.front
-    no_ticks all one two w m part v (inr at) =
-        first_least (count part) (count at.before) (count at.later) 0 (sum_is part at.before at.later at.is)
-        (subst (λ (l : List E). count l ≤ 0) (sym at.all.is) (all w.first m.first)) (two w.second m.second at.later v.second at.front)
+    no_ticks all one two w m part v (inr at) = grind (arith, first_least, sum_is)
 
   -- AN END THAT FINDS NO ROOM, of the one and of the other
   pub first_fronts_unstick : (stuck : ℕ → E → ℕ) (blocked moves : E → ℕ) → Unsticks K stuck blocked moves → FrontsUnstick F blocked → IgnoresFronts G (sum_over blocked)
       → FrontsUnstick (both_fronts K F G) blocked
-  first_fronts_unstick stuck blocked moves laws fronts others = record {
-    round = first_most (sum_over blocked) (sum_both blocked) 1 laws.round fronts.round others;
-    ticks = no_ticks (sum_over blocked) (sum_both blocked) laws.ticks fronts.ticks others.ticks;
-  }
+  first_fronts_unstick stuck blocked moves laws fronts others = grind (arith, first_most, sum_both, no_ticks)
 
   pub second_fronts_unstick : (blocked : E → ℕ) → FrontsUnstick G blocked → Ignores K (sum_over blocked) → IgnoresFronts F (sum_over blocked) → FrontsUnstick (both_fronts K F G) blocked
-  second_fronts_unstick blocked fronts all others = record {
-    round = second_most (sum_over blocked) (sum_both blocked) 1 fronts.round all others;
-    ticks = no_ticks (sum_over blocked) (sum_both blocked) all.ticks others.ticks fronts.ticks;
-  }
+  second_fronts_unstick blocked fronts all others = grind (arith, second_most, sum_both, no_ticks)
 
 -- FRONTS OF LANES say nothing of another kind's, and count for nothing, where their entries do
 module _ {T X E : Type 0} (L : LaneKind T X) (N : Entries X E) (turn_steps : (events : List X) → L.IsTurn events → EachStep L events) where

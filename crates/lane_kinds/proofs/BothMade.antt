@@ -1,15 +1,14 @@
 -- What was made of a round, of ticks and of names by each of two kinds of lanes is what both made beside each other.
-use Rattle.std.proofs.Common.{◌≡◌, ℕ, Bool, true, false, inl, inr, List, [], ◌∷◌, ◌++◌, length, map, take, replicate, ◌≤◌, refl, sym, ap, ap₂, ◌∙◌, subst, append_assoc}
+use Rattle.std.proofs.Common.{◌≡◌, ℕ, Bool, false, List, ◌++◌, length, map, take, replicate, ◌≤◌, ap, ap₂, ◌∙◌, arith}
 use Rattle.std.specs.Prelude.{◌&&◌, ◌||◌}
 use Rattle.lane_kinds.proofs.LaneCounts.{turns_many}
 use Rattle.lane_kinds.proofs.LanesMade.{fresh_marks, lanes_say, or_parts, ticked_many}
 use Rattle.lane_kinds.proofs.RoundsMade.{Says}
-use Rattle.lane_kinds.specs.Both.{BothMake, BothTick, FrontBehind, Two, both, both_fronts}
-use Rattle.lane_kinds.specs.Fronts.{Fronts}
+use Rattle.lane_kinds.specs.Both.{BothMake, BothTick, Two, both}
 use Rattle.lane_kinds.specs.Lanes.{Entries, LaneKind, all_calm, lanes_of, unmarked}
 use Rattle.lane_kinds.specs.LanesMade.{Marks, all_true, both_true, first_marks, names}
 use Rattle.lane_kinds.specs.Rounds.{Rounds}
-use Rattle.lane_kinds.specs.RoundsMade.{GoneSaid, RoundSaid, TicksMade, both_said}
+use Rattle.lane_kinds.specs.RoundsMade.{RoundSaid, TicksMade, both_said}
 
 abbrev two_of : {A B : Type 0} → A → B → Two A B
 two_of a b = record { first = a; second = b }
@@ -20,32 +19,18 @@ module _ {W V M N R Q E P O : Type 0} (K : Rounds W M R E) (L : Rounds V N Q E) 
       → RoundSaid (both K L) (both_said one two) quiet w (part ++ later) v
   both_round quiet w v part later first second = record {
     steps = two_of first.steps second.steps;
-    round = record {
-      made = record { of_first = first.round.made; of_second = second.round.made };
-      leaves = ap₂ (λ (x y : List E). x ++ y) first.round.leaves second.round.leaves;
-    };
+    round = grind arith;
     marks = ap₂ (two_of {A = P} {B = O}) first.marks second.marks;
   }
 
   pub both_ticks : (had have : Two M N) (some any : Bool) (w v : Two W V) (part later : List E) → TicksMade K had.first some have.first w.first part v.first
       → TicksMade L had.second any have.second w.second later v.second → TicksMade (both K L) had (some || any) have w (part ++ later) v
-  both_ticks had have some any w v part later first second = record {
-    ticks = record { of_first = first.ticks; of_second = second.ticks };
-    leaves = ap₂ (λ (x y : List E). x ++ y) first.leaves second.leaves;
-    any = ap₂ (λ (x y : Bool). x || y) first.any second.any;
-    marks = ap₂ (two_of {A = M} {B = N}) first.marks second.marks;
-  }
+  both_ticks had have some any w v part later first second = grind arith
 
   -- WHAT THE MARKS OF BOTH SAY
   pub both_say : (all : P → Bool) (every : O → Bool) (named : P → W → List E) (names : O → V → List E) → Says K one all named → Says L two every names
       → Says (both K L) (both_said one two) (λ quiet. all quiet.first && every quiet.second) (λ quiet w. named quiet.first w.first ++ names quiet.second w.second)
-  both_say all every named names first second = record {
-    quiet = λ r. ap₂ (λ (x y : Bool). x && y) (first.quiet r.first) (second.quiet r.second);
-    names = λ r w. ap₂ (λ (x y : List E). x ++ y) (first.names r.first w.first) (second.names r.second w.second);
-    no_ticks = λ w m none.
-        let parts = or_parts (K.some_ticks w.first m.first) (L.some_ticks w.second m.second) none in
-        ap₂ (λ (x y : List E). x ++ y) (first.no_ticks w.first m.first parts.0) (second.no_ticks w.second m.second parts.1);
-  }
+  both_say all every named names first second = grind (arith, or_parts)
 
 -- OF TWO LISTS: as many lanes
 pub record AsMany {S T : Type 0} (w v : Two (List S) (List T)) : Type 0 where
@@ -79,10 +64,7 @@ module _ {S V T X E : Type 0} (K : LaneKind S V) (N : Entries V E) (L : LaneKind
       both_say (lanes_of K N) (lanes_of L O) (map (all_calm K)) (map (all_calm L)) all_true all_true (names K N 0) (names L O 0) (lanes_say K N) (lanes_say L O)
 
   pub many_made : (w : Two (List S) (List T)) (r : Two (List (List V)) (List (List X))) (v : Two (List S) (List T)) → BothMake (lanes_of K N) (lanes_of L O) w r v → AsMany w v
-  many_made w r v made = record {
-    of_first = turns_many K 0 w.first r.first v.first made.of_first.turns_made;
-    of_second = turns_many L 0 w.second r.second v.second made.of_second.turns_made;
-  }
+  many_made w r v made = grind (arith, turns_many)
 
   pub many_ticked : (w : Two (List S) (List T)) (had : Marks) (v : Two (List S) (List T)) → BothTick (lanes_of K N) (lanes_of L O) w had v → AsMany w v
   many_ticked w had v ticks = record {

@@ -1,11 +1,11 @@
 -- A condition on each entry of a settle's part, and of a front of it: over lanes of one kind, as many as they were, and over those of two kinds
 -- beside each other.
-use Rattle.std.proofs.Common.{◌≡◌, ℕ, ◌+◌, ◌<◌, ◌≤◌, ◌⊎◌, inl, inr, Bool, true, false, List, [], ◌∷◌, ◌++◌, length, slice_get, Some, sym, ◌∙◌, subst, arith, append-nil}
+use Rattle.std.proofs.Common.{◌≡◌, ℕ, ◌+◌, ◌<◌, ◌≤◌, Bool, true, false, List, [], ◌∷◌, ◌++◌, length, slice_get, Some, ◌∙◌, subst, arith, append-nil}
 use Rattle.std.specs.Prelude.{if◌then◌else◌}
 use Rattle.runs.specs.Run.{Run}
 use Rattle.lane_kinds.proofs.LaneFronts.{front_each, fronts_lead, lanes_each, left_each, of_both, of_same, ticked_each, ticks_each}
 use Rattle.lane_kinds.proofs.Moving.{lane_moved, lanes_lead, many_moved}
-use Rattle.lane_kinds.specs.Both.{AllRound, AllTicks, BothHold, FrontBehind, FrontOfFirst, Two, both, both_fronts}
+use Rattle.lane_kinds.specs.Both.{BothHold, Two, both, both_fronts}
 use Rattle.lane_kinds.specs.Fronts.{Fronts}
 use Rattle.lane_kinds.specs.LaneFronts.{fronts_of}
 use Rattle.lane_kinds.specs.Lanes.{AllMove, EachOf, EachStep, Entries, IsSilent, LaneKind, Reads, happened, lanes_of, left_names, round_entries, tick_entries}
@@ -88,45 +88,15 @@ module _ {W V M N R Q E : Type 0} (P : E → Type 0) (K : Rounds W M R E) (L : R
 
   -- the one's entries, and behind them the other's
   two_have : (w v : Two W V) (one two : List E) → HaveEach Stands P w.first one v.first → HaveEach Others P w.second two v.second → Both w (one ++ two) v
-  two_have w v one two first second at =
-      let a = first at.of_first in
-      let b = second at.of_second in
-      (of_both P one two a.0 b.0, record { of_first = a.1; of_second = b.1 })
+  two_have w v one two first second given = grind (arith, of_both)
 
   module _ (first : Leads K (HaveEach Stands P)) (second : Leads L (HaveEach Others P)) where
     pub both_kinds : Leads (both K L) Both
-    both_kinds = record {
-      none = none_have (BothHold Stands Others) P;
-      both = both_have (BothHold Stands Others) P;
-      round = λ w r v made. two_have w v (K.leaves r.first) (L.leaves r.second) (first.round w.first r.first v.first made.of_first) (second.round w.second r.second v.second made.of_second);
-      ticks = λ w m v made. two_have w v (K.ticks_leave w.first m.first) (L.ticks_leave w.second m.second)
-          (first.ticks w.first m.first v.first made.of_first) (second.ticks w.second m.second v.second made.of_second);
-    }
+    both_kinds = grind (arith, none_have, both_have, two_have)
 
     module _ (F : Fronts W M E) (G : Fronts V N E) (fronts : FrontsLead K F (HaveEach Stands P)) (others : FrontsLead L G (HaveEach Others P)) where
-      one_has : (w : Two W V) (part : List E) (v : Two W V) → HaveEach Stands P w.first part v.first → w.second ≡ v.second → Both w part v
-      one_has w part v one same at = ((one at.of_first).0, record { of_first = (one at.of_first).1; of_second = subst Others same at.of_second })
-
-      then_has : (w : Two W V) (part before all later : List E) (v : Two W V) → part ≡ before ++ later → before ≡ all → HaveEach Stands P w.first all v.first
-          → HaveEach Others P w.second later v.second → Both w part v
-      then_has w part before all later v is all_is one two =
-          subst (λ (l : List E). Both w l v) (sym is) (two_have w v before later (subst (λ (l : List E). HaveEach Stands P w.first l v.first) (sym all_is) one) two)
-
-      round_has : (w : Two W V) (part : List E) (v : Two W V) → FrontOfFirst F.OfRound w part v ⊎ FrontBehind (AllRound K) G.OfRound w part v → Both w part v
-      round_has w part v (inl at) = one_has w part v (fronts.round w.first part v.first at.front) at.other
-      round_has w part v (inr at) =
-          then_has w part at.before (K.leaves at.all.steps) at.later v at.is at.all.is (first.round w.first at.all.steps v.first at.all.made)
-          (others.round w.second at.later v.second at.front)
-
-      ticks_have : (w : Two W V) (m : Two M N) (part : List E) (v : Two W V)
-          → FrontOfFirst (λ x. F.OfTicks x m.first) w part v ⊎ FrontBehind (AllTicks K m.first) (λ x. G.OfTicks x m.second) w part v → Both w part v
-      ticks_have w m part v (inl at) = one_has w part v (fronts.ticks w.first m.first part v.first at.front) at.other
-      ticks_have w m part v (inr at) =
-          then_has w part at.before (K.ticks_leave w.first m.first) at.later v at.is at.all.is (first.ticks w.first m.first v.first at.all.ticks)
-          (others.ticks w.second m.second at.later v.second at.front)
-
       pub both_fronts_have : FrontsLead (both K L) (both_fronts K F G) Both
-      both_fronts_have = record { round = round_has; ticks = ticks_have }
+      both_fronts_have = grind (arith, two_have)
 
   module _ (first : Ends K (HaveEach Stands P)) (second : Ends L (HaveEach Others P)) where
     pub both_ends_have : Ends (both K L) Both
@@ -164,7 +134,5 @@ module _ {S V E : Type 0} (Step : S → V → S → Type 0) (said : ℕ → E �
 
   pub lanes_keep : (j : ℕ) (lanes : List S) (part : List E) (behind : List S) → ((k : ℕ) → EachOf Has (happened said k part)) → AllMove Step said j lanes part behind → EachOf Stands lanes
       → EachOf Stands behind
-  lanes_keep j [] part [] each moves all = tt
   lanes_keep j (s ∷ lanes) part (t ∷ behind) each moves all = (events_keep s (happened said j part) t (each j) moves.0 all.0, lanes_keep (j + 1) lanes part behind each moves.1 all.1)
-  lanes_keep j [] part (t ∷ behind) each moves all = absurd moves
-  lanes_keep j (s ∷ lanes) part [] each moves all = absurd moves
+  lanes_keep j lanes part behind each moves all = grind arith

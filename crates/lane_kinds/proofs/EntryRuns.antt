@@ -1,14 +1,14 @@
 -- The part of a settle over lanes of one kind runs them, entry by entry. Entries of lanes of another kind leave them
 -- as they were.
 use Rattle.std.proofs.Common.{◌≡◌, ℕ, ◌+◌, ◌≤◌, ◌<◌, Bool, true, false, List, [], ◌∷◌, ◌++◌, length, refl, sym, subst, arith, append_assoc, length-append}
-use Rattle.std.specs.Prelude.{◌&&◌, if◌then◌else◌}
+use Rattle.std.specs.Prelude.{if◌then◌else◌}
 use Rattle.runs.specs.Run.{Run, run_append}
 use Rattle.lane_kinds.proofs.LaneCounts.{run_many}
 use Rattle.lane_kinds.proofs.Lanes.{as_many}
 use Rattle.lane_kinds.proofs.LaneFronts.{of_both}
 use Rattle.lane_kinds.proofs.Moving.{one_more, one_steps, same_lanes}
 use Rattle.lane_kinds.specs.Both.{Skips}
-use Rattle.lane_kinds.specs.Lanes.{EachOf, Entries, EntryOf, IsSilent, LaneKind, MakeTurns, StepOf, TickAll, TicksIf, all_calm, gets_tick, lanes_of, left_names, round_entries, tick_entries, turn_entries}
+use Rattle.lane_kinds.specs.Lanes.{EachOf, Entries, EntryOf, IsSilent, LaneKind, MakeTurns, StepOf, TickAll, TicksIf, gets_tick, lanes_of, left_names, round_entries, tick_entries, turn_entries}
 use Rattle.lane_kinds.specs.Laws.{Ends, Leads}
 
 -- NUMBERS
@@ -48,19 +48,13 @@ module _ {T X E : Type 0} (L : LaneKind T X) (N : Entries X E) (P : E → Type 0
     round_each k (r ∷ turns) = of_both P (turn_entries L N k r) (round_entries L N (k + 1) turns) (turn_each k r) (round_each (k + 1) turns)
 
     pub ticks_each : (k : ℕ) (lanes : List T) (marks : List Bool) → EachOf P (tick_entries L N k lanes marks)
-    ticks_each k [] marks = tt
-    ticks_each k (s ∷ lanes) [] = tt
-    ticks_each k (s ∷ lanes) (had ∷ marks) =
-        of_both P (if gets_tick L s had then N.of_lane k (L.tick s) ∷ [] else []) (tick_entries L N (k + 1) lanes marks)
-        (when_each (gets_tick L s had) (N.of_lane k (L.tick s)) (event k (L.tick s))) (ticks_each (k + 1) lanes marks)
+    ticks_each k (s ∷ lanes) (had ∷ marks) = grind (arith, of_both, when_each, ticks_each (k + 1) lanes marks)
+    ticks_each k lanes marks = grind arith
 
   module _ (left : (k : ℕ) → P (N.left_over k)) where
     pub names_each : (k : ℕ) (turns : List (List X)) (lanes : List T) → EachOf P (left_names L N k turns lanes)
-    names_each k [] lanes = tt
-    names_each k (r ∷ turns) [] = tt
-    names_each k (r ∷ turns) (s ∷ lanes) =
-        let name = all_calm L r && (if L.waits_on s then false else true) in
-        of_both P (if name then [] else N.left_over k ∷ []) (left_names L N (k + 1) turns lanes) (unless_each name (N.left_over k) (left k)) (names_each (k + 1) turns lanes)
+    names_each k (r ∷ turns) (s ∷ lanes) = grind (arith, of_both, unless_each, names_each (k + 1) turns lanes)
+    names_each k turns lanes = grind arith
 
 -- WHAT LEAVES ALL AS THEY WERE is a run, and so is the first of it
 module _ {W E : Type 0} (Step : W → E → W → Type 0) where
@@ -95,9 +89,7 @@ module _ {S V E : Type 0} (K : LaneKind S V) (N : Entries V E) (Step : List S �
     (left : (k : ℕ) → Leaves Step (N.left_over k)) (answer : Leaves Step N.settled) where
   event_runs : (quiet : Bool) (k : ℕ) (lanes : List S) (event : V) (between : List S) (rest : List E) (behind : List S) → K.is_silent event ≡ quiet → k < length lanes
       → StepOf K k lanes event between → Run Step between rest behind → Run Step lanes ((if quiet then [] else N.of_lane k event ∷ []) ++ rest) behind
-  event_runs true k lanes event between rest behind is less step run =
-      subst (λ (l : List S). Run Step l rest behind) (sym (same_lanes K silent 0 k lanes event between is step.step)) run
-  event_runs false k lanes event between rest behind is less step run = (between, entry k lanes event between (record { within = less; step = step }), run)
+  event_runs quiet k lanes event between rest behind is less step run = grind (arith, same_lanes)
 
   turn_runs : (k : ℕ) (lanes : List S) (events : List V) (behind : List S) → k < length lanes → Run (StepOf K k) lanes events behind → Run Step lanes (turn_entries K N k events) behind
   turn_runs k lanes [] behind less run = run
@@ -116,15 +108,7 @@ module _ {S V E : Type 0} (K : LaneKind S V) (N : Entries V E) (Step : List S �
 
   tick_runs : (get : Bool) (k : ℕ) (front : List S) (s : S) (lanes : List S) (t : S) → k ≡ 0 + length front → TicksIf K get s t
       → Run Step (front ++ s ∷ lanes) (if get then N.of_lane k (K.tick s) ∷ [] else []) (front ++ t ∷ lanes)
-  tick_runs true k front s lanes t place step = (
-    front ++ t ∷ lanes,
-    entry k (front ++ s ∷ lanes) (K.tick s) (front ++ t ∷ lanes) (record {
-      within = place_within k (length front) (length (s ∷ lanes)) (length lanes) (length (front ++ s ∷ lanes)) place (length-append front (s ∷ lanes)) (omega (arith));
-      step = record { sees = tick_sees (front ++ s ∷ lanes) k s; step = one_steps K 0 k front s lanes (K.tick s) t (λ i. silent.tick_gives i s) place step };
-    }),
-    refl,
-  )
-  tick_runs false k front s lanes t place same = subst (λ (x : S). Run Step (front ++ s ∷ lanes) [] (front ++ x ∷ lanes)) (sym same) refl
+  tick_runs get k front s lanes t place step = grind (arith, length-append, one_steps)
 
   ticks_run : (k : ℕ) (front lanes : List S) (marks : List Bool) (behind : List S) → k ≡ 0 + length front → TickAll K lanes marks behind
       → Run Step (front ++ lanes) (tick_entries K N k lanes marks) (front ++ behind)

@@ -1,22 +1,14 @@
 -- Each round of a settle that isn't the last lowers what remains on all lanes, where they are clean: so few are made.
-use Rattle.std.proofs.Common.{◌≡◌, ℕ, ◌+◌, ◌≤◌, ◌<◌, inl, inr, Bool, true, false, List, [], ◌∷◌, ◌++◌, length, refl, sym, ◌∙◌, subst, arith}
+use Rattle.std.proofs.Common.{◌≡◌, ℕ, ◌+◌, ◌≤◌, ◌<◌, inl, inr, Bool, List, [], ◌∷◌, length, refl, subst, arith}
 use Rattle.runs.specs.Run.{Run}
 use Rattle.lane_kinds.proofs.Standing.{goes_on}
-use Rattle.lane_kinds.specs.Laws.{Falls, Lowers, LowersUnless}
+use Rattle.lane_kinds.specs.Laws.{Falls, Lowers}
 use Rattle.lane_kinds.specs.Rounds.{Rounds}
 use Rattle.lane_kinds.specs.Settles.{GoesOn, RunsOut, SettlePart, SettleRound, Settles, Settling, TicksBehind, begin, most_rounds}
-
-not_quiet : (b : Bool) (n m : ℕ) → b ≡ false → Lowers b n m → m < n
-not_quiet b n m loud (inl quiet) = let never : true ≡ false = sym quiet.0 ∙ loud in absurd (cc never)
-not_quiet b n m loud (inr less) = less
 
 at_most : (b : Bool) (n m : ℕ) → Lowers b n m → m ≤ n
 at_most b n m (inl quiet) = quiet.1
 at_most b n m (inr less) = omega (arith, less)
-
-lowered : (b : Bool) (n m : ℕ) → b ≡ true → LowersUnless b n m → m < n
-lowered b n m some (inl none) = let never : true ≡ false = sym some ∙ none.0 in absurd (cc never)
-lowered b n m some (inr less) = less
 
 below : (a b c : ℕ) → a < b → b ≤ c → a < c
 below a b c one two = omega (arith, one, two)
@@ -24,22 +16,13 @@ below a b c one two = omega (arith, one, two)
 one_round : (n m a b c : ℕ) → m ≡ n + 1 → n + a ≤ b → b < c → m + a ≤ c
 one_round n m a b c is many less = omega (arith, is, many, less)
 
-not_itself : (n m : ℕ) → n < m → n ≡ m → ⊥
-not_itself n m less same = omega (arith, less, same)
-
 under : (a b c d : ℕ) → a + b ≤ c → c < d → a < d
 under a b c d sum less = omega (arith, sum, less)
 
 module _ {W M R E : Type 0} (K : Rounds W M R E) (Clean : W → Type 0) (remaining : W → ℕ) (laws : Falls K Clean remaining) where
   fell : (quiet : Bool) (w : Settling W M) (steps : R) (between : W) (entries : List E) (v : Settling W M) → Clean w.lanes → K.Makes w.lanes steps between → K.quiet steps ≡ quiet
       → TicksBehind K quiet w steps between entries v → remaining v.lanes < remaining w.lanes
-  fell false w steps between entries v clean made loud behind =
-      subst (λ (x : Settling W M). remaining x.lanes < remaining w.lanes) (sym behind.0)
-      (not_quiet (K.quiet steps) (remaining w.lanes) (remaining between) loud (laws.round w.lanes steps between clean made))
-  fell true w steps between entries v clean made quiet behind =
-      below (remaining v.lanes) (remaining between) (remaining w.lanes)
-      (lowered (K.some_ticks between w.marks) (remaining between) (remaining v.lanes) behind.0 (laws.ticks w.lanes w.marks steps between v.lanes clean made quiet behind.1))
-      (at_most (K.quiet steps) (remaining w.lanes) (remaining between) (laws.round w.lanes steps between clean made))
+  fell quiet w steps between entries v clean made loud behind = grind arith
 
   -- so many rounds lower it by as many
   pub rounds_lower : (w : Settling W M) (rounds : List (SettleRound R E)) (v : Settling W M) → Clean w.lanes → Run (GoesOn K) w rounds v → length rounds + remaining v.lanes ≤ remaining w.lanes
@@ -52,12 +35,10 @@ module _ {W M R E : Type 0} (K : Rounds W M R E) (Clean : W → Type 0) (remaini
   -- fewer than may be, where less remains than rounds may be made
   pub rounds_few : (start : W) (rounds : List (SettleRound R E)) (now : Settling W M) → Clean start → remaining start < most_rounds K start → Run (GoesOn K) (begin K start) rounds now
       → length rounds < most_rounds K start
-  rounds_few start rounds now clean few run =
-      under (length rounds) (remaining now.lanes) (remaining start) (most_rounds K start) (rounds_lower (begin K start) rounds now clean run) few
+  rounds_few start rounds now clean few run = grind (arith, rounds_lower)
 
   pub never_out : (start : W) (part : List E) (behind : W) → Clean start → remaining start < most_rounds K start → RunsOut K start part behind → ⊥
-  never_out start part behind clean few out =
-      not_itself (length (out.rounds ++ out.last ∷ [])) (most_rounds K start) (rounds_few start (out.rounds ++ out.last ∷ []) out.now clean few out.run) out.most
+  never_out start part behind clean few out = grind (arith, rounds_few)
 
   pub ends_settled : (start : W) (part : List E) (behind : W) → Clean start → remaining start < most_rounds K start → SettlePart K start part behind → Settles K start part behind
   ends_settled start part behind clean few (inl settles) = settles

@@ -1,7 +1,7 @@
 -- Behind a settle that ends settled each lane of a list is finished, or is one that somebody forged and that had its
 -- tick.
-use Rattle.std.proofs.Common.{◌≡◌, ℕ, ◌+◌, ◌⊎◌, inl, inr, Bool, true, false, List, [], ◌∷◌, refl, sym, subst}
-use Rattle.std.specs.Prelude.{◌||◌, ◌==◌, if◌then◌else◌}
+use Rattle.std.proofs.Common.{◌≡◌, ℕ, ◌+◌, ◌⊎◌, inl, inr, Bool, true, false, List, [], ◌∷◌, refl, sym, subst, arith}
+use Rattle.std.specs.Prelude.{◌||◌, if◌then◌else◌}
 use Rattle.runs.specs.Run.{Run}
 use Rattle.lane_kinds.proofs.Lanes.{round_calmly}
 use Rattle.lane_kinds.proofs.Sums.{or_left, or_right}
@@ -24,24 +24,12 @@ module _ {S V : Type 0} (K : LaneKind S V) (Reached Unforged Lossless : S → Ty
     pub whole : had ≡ true → Lossless s
 
   lane_whole : (own : Bool) (k : ℕ) (s : S) (event : V) (t : S) (had : Bool) → IsWhole s had → K.IsStep event → Run K.Step s (own_or own event (K.gets k event)) t → IsWhole t had
-  lane_whole true k s event t had at step run = record {
-    reached = run_reached s (event ∷ []) t at.reached run;
-    whole = λ marked. subst Lossless run.2 (laws.lossless s event run.0 run.1 step (at.whole marked));
-  }
-  lane_whole false k s event t had at step run = record {
-    reached = run_reached s (K.gets k event) t at.reached run;
-    whole = λ marked. laws.given_lossless k event s t run (at.whole marked);
-  }
+  lane_whole own k s event t had given step run = grind (arith, run_reached)
 
   event_whole : (j k : ℕ) (lanes : List S) (event : V) (behind : List S) (marks : List Bool) → EachMarked IsWhole lanes marks → K.IsStep event → AllStep K j lanes k event behind
       → EachMarked IsWhole behind marks
-  event_whole j k [] event [] [] at step all = tt
-  event_whole j k (s ∷ lanes) event (t ∷ behind) (had ∷ marks) at step all =
-      (lane_whole (j == k) j s event t had at.0 step all.0, event_whole (j + 1) k lanes event behind marks at.1 step all.1)
-  event_whole j k [] event [] (had ∷ marks) at step all = absurd at
-  event_whole j k [] event (t ∷ behind) marks at step all = absurd all
-  event_whole j k (s ∷ lanes) event [] marks at step all = absurd all
-  event_whole j k (s ∷ lanes) event (t ∷ behind) [] at step all = absurd at
+  event_whole j k (s ∷ lanes) event (t ∷ behind) (had ∷ marks) at step all = grind (arith, lane_whole, event_whole (j + 1) k lanes event behind marks at.1 step all.1)
+  event_whole j k lanes event behind marks given step all = grind arith
 
   turn_whole : (k : ℕ) (lanes : List S) (events : List V) (behind : List S) (marks : List Bool) → EachMarked IsWhole lanes marks → EachStep K events → Run (StepOf K k) lanes events behind
       → EachMarked IsWhole behind marks
@@ -58,28 +46,13 @@ module _ {S V : Type 0} (K : LaneKind S V) (Reached Unforged Lossless : S → Ty
   -- THE TICKS
   tick_whole : (had waits : Bool) (s : S) (r : List V) (t u : S) → Reached s → IsWhole t had → CalmTurn K s r t → TicksIf K (if had then false else waits) t u
       → IsWhole u (had || (if had then false else waits))
-  tick_whole true waits s r t u at whole turn same = subst (λ (x : S). IsWhole x true) (sym same) whole
-  tick_whole false true s r t u at whole turn step = record {
-    reached = laws.reached t (K.tick t) u whole.reached step;
-    whole = λ marked. laws.tick_lossless s r t u at turn step;
-  }
-  tick_whole false false s r t u at whole turn same = subst (λ (x : S). IsWhole x false) (sym same) whole
+  tick_whole had waits s r t u given whole turn same = grind arith
 
   ticks_whole : (lanes : List S) (turns : List (List V)) (between : List S) (marks : List Bool) (behind : List S) → EachMarked IsWhole lanes marks → EachMarked IsWhole between marks
       → Calmly K lanes turns between → TickAll K between marks behind → EachMarked IsWhole behind (marked K between marks)
-  ticks_whole [] [] [] [] [] was whole calm ticks = tt
-  ticks_whole (s ∷ lanes) (r ∷ turns) (t ∷ between) (had ∷ marks) (u ∷ behind) was whole calm ticks = (
-    tick_whole had (K.waits_on t) s r t u was.0.reached whole.0 calm.0 ticks.0,
-    ticks_whole lanes turns between marks behind was.1 whole.1 calm.1 ticks.1,
-  )
-  ticks_whole [] [] [] (had ∷ marks) behind was whole calm ticks = absurd was
-  ticks_whole [] [] [] [] (u ∷ behind) was whole calm ticks = absurd ticks
-  ticks_whole [] [] (t ∷ between) marks behind was whole calm ticks = absurd calm
-  ticks_whole [] (r ∷ turns) between marks behind was whole calm ticks = absurd calm
-  ticks_whole (s ∷ lanes) [] between marks behind was whole calm ticks = absurd calm
-  ticks_whole (s ∷ lanes) (r ∷ turns) [] marks behind was whole calm ticks = absurd calm
-  ticks_whole (s ∷ lanes) (r ∷ turns) (t ∷ between) [] behind was whole calm ticks = absurd ticks
-  ticks_whole (s ∷ lanes) (r ∷ turns) (t ∷ between) (had ∷ marks) [] was whole calm ticks = absurd ticks
+  ticks_whole (s ∷ lanes) (r ∷ turns) (t ∷ between) (had ∷ marks) (u ∷ behind) was whole calm ticks =
+      grind (arith, tick_whole, ticks_whole lanes turns between marks behind was.1 whole.1 calm.1 ticks.1)
+  ticks_whole lanes turns between marks behind was whole calm ticks = grind arith
 
   pub lanes_keep : {E : Type 0} (N : Entries V E) → Keeps (lanes_of K N) (EachMarked IsWhole)
   lanes_keep N = record {
@@ -110,17 +83,9 @@ module _ {S V : Type 0} (K : LaneKind S V) (Reached Unforged Lossless : S → Ty
   module _ (P : S → Bool → Type 0) (lane : (had : Bool) (s : S) (r : List V) (t : S) → IsWhole s had → CalmTurn K s r t → gets_tick K t had ≡ false → P t had) where
     last_each : (lanes : List S) (turns : List (List V)) (behind : List S) (marks : List Bool) → EachMarked IsWhole lanes marks → Calmly K lanes turns behind → some_tick K behind marks ≡ false
         → EachMarked P behind marks
-    last_each [] [] [] [] at calm none = tt
-    last_each (s ∷ lanes) (r ∷ turns) (t ∷ behind) (had ∷ marks) at calm none = (
-      lane had s r t at.0 calm.0 (or_left (gets_tick K t had) (some_tick K behind marks) none),
-      last_each lanes turns behind marks at.1 calm.1 (or_right (gets_tick K t had) (some_tick K behind marks) none),
-    )
-    last_each [] [] [] (had ∷ marks) at calm none = absurd at
-    last_each [] [] (t ∷ behind) marks at calm none = absurd calm
-    last_each [] (r ∷ turns) behind marks at calm none = absurd calm
-    last_each (s ∷ lanes) [] behind marks at calm none = absurd calm
-    last_each (s ∷ lanes) (r ∷ turns) [] marks at calm none = absurd calm
-    last_each (s ∷ lanes) (r ∷ turns) (t ∷ behind) [] at calm none = absurd at
+    last_each (s ∷ lanes) (r ∷ turns) (t ∷ behind) (had ∷ marks) at calm none =
+        grind (arith, or_left, or_right, last_each lanes turns behind marks at.1 calm.1 (or_right (gets_tick K t had) (some_tick K behind marks) none))
+    last_each lanes turns behind marks given calm none = grind arith
 
     pub all_each : {E : Type 0} (N : Entries V E) (behind : List S) (marks : List Bool) → EndsWith (lanes_of K N) (EachMarked IsWhole) behind marks → EachMarked P behind marks
     all_each N behind marks at = last_each at.before at.steps behind marks at.stands (round_calmly K laws.calm_gives at.before at.steps behind at.quiet at.made) at.no_tick

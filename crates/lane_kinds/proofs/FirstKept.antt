@@ -1,5 +1,5 @@
 -- What entries lead lanes of one kind to, in a settle of theirs beside lanes of another: those of the other kind are dropped.
-use Rattle.std.proofs.Common.{◌≡◌, ◌⊎◌, inl, inr, ℕ, Bool, true, false, List, [], ◌∷◌, ◌++◌, refl, sym, ap, ◌∙◌, subst, append-nil}
+use Rattle.std.proofs.Common.{◌≡◌, ◌⊎◌, inl, inr, ℕ, Bool, true, false, List, [], ◌∷◌, ◌++◌, refl, sym, ap, ◌∙◌, subst, append-nil, arith}
 use Rattle.std.specs.Prelude.{if◌then◌else◌}
 use Rattle.lane_kinds.proofs.Both.{Beyond, Within, front_of_two}
 use Rattle.lane_kinds.proofs.EntriesEach.{first_each}
@@ -7,7 +7,6 @@ use Rattle.lane_kinds.proofs.EntryRuns.{names_each, round_each, ticks_each}
 use Rattle.lane_kinds.proofs.LaneFronts.{front_each, of_same, ticked_each}
 use Rattle.lane_kinds.proofs.Sums.{and_left}
 use Rattle.lane_kinds.specs.Both.{AllRound, AllTicks, FrontBehind, FrontOfFirst, Two, both, both_fronts}
-use Rattle.lane_kinds.specs.Fronts.{Fronts}
 use Rattle.lane_kinds.specs.LaneFronts.{RoundFront, TickFront, fronts_of}
 use Rattle.lane_kinds.specs.Lanes.{EachOf, EachStep, Entries, LaneKind, lanes_of}
 use Rattle.lane_kinds.specs.Laws.{Ends, FrontsLeadWhere, LeadsWhere}
@@ -93,22 +92,7 @@ module _ {S V T X E : Type 0} (K : LaneKind S V) (N : Entries V E) (L : LaneKind
     as_kept w v part a is at = subst (λ (l : List E). To w l v) (sym is) at
 
     pub first_leads_where : LeadsWhere All FirstStands FirstTo
-    first_leads_where = record {
-      keeps = record {
-        round = λ w m r v at made. laws.keeps.round w.first m.first r.first v.first at made.of_first;
-        ticks = λ w m r v u at made quiet ticks.
-            laws.keeps.ticks w.first m.first r.first v.first u.first at made.of_first (and_left (One.quiet r.first) (Other.quiet r.second) quiet) ticks.of_first;
-      };
-      none = λ w. laws.none w.first;
-      both = λ w m v one two first second.
-          as_kept w.first v.first (one ++ two) (kept keep one ++ kept keep two) (kept_both keep one two)
-          (laws.both w.first m.first v.first (kept keep one) (kept keep two) first second);
-      round = λ w m r v at made. as_kept w.first v.first (All.leaves r) (One.leaves r.first) (round_kept r) (laws.round w.first m.first r.first v.first at made.of_first);
-      ticks = λ w m r v u at made quiet ticks.
-          as_kept w.first u.first (All.leaves r ++ All.ticks_leave v m) (One.leaves r.first ++ One.ticks_leave v.first m.first)
-          (kept_then keep (All.leaves r) (All.ticks_leave v m) (One.leaves r.first) (One.ticks_leave v.first m.first) (round_kept r) (ticks_kept v m))
-          (laws.ticks w.first m.first r.first v.first u.first at made.of_first (and_left (One.quiet r.first) (Other.quiet r.second) quiet) ticks.of_first);
-    }
+    first_leads_where = grind (arith, and_left, as_kept, kept_both, round_kept, kept_then, ticks_kept)
 
     -- A FRONT
     module _ (fronts : FrontsLeadWhere One (fronts_of K N) Stands To) where
@@ -135,10 +119,7 @@ module _ {S V T X E : Type 0} (K : LaneKind S V) (N : Entries V E) (L : LaneKind
       ticks_front : (w : Two (List S) (List T)) (m : Two (List Bool) (List Bool)) (r : Two (List (List V)) (List (List X))) (v : Two (List S) (List T)) (part : List E) (u : Two (List S) (List T))
           → FirstStands w m → All.Makes w r v → All.quiet r ≡ true
           → FrontOfFirst (λ x. TickFront K N 0 x m.first) v part u ⊎ FrontBehind (AllTicks One m.first) (λ x. TickFront L O 0 x m.second) v part u → FirstTo w (All.leaves r ++ part) u
-      ticks_front w m r v part u at made quiet (inl front) =
-          as_kept w.first u.first (All.leaves r ++ part) (One.leaves r.first ++ part)
-          (kept_then keep (All.leaves r) part (One.leaves r.first) part (round_kept r) (own_ticks v.first m.first part u.first front.front))
-          (fronts.ticks w.first m.first r.first v.first part u.first at made.of_first (and_left (One.quiet r.first) (Other.quiet r.second) quiet) front.front)
+      ticks_front w m r v part u at made quiet (inl front) = grind (arith, as_kept, kept_then, round_kept, own_ticks, and_left)
       ticks_front w m r v part u at made quiet (inr front) =
           let all = One.ticks_leave v.first m.first in
           as_kept w.first u.first (All.leaves r ++ part) (One.leaves r.first ++ all)
@@ -157,10 +138,7 @@ module _ {S V T X E : Type 0} (K : LaneKind S V) (N : Entries V E) (L : LaneKind
 
       names_to : (r : Two (List (List V)) (List (List X))) (w : Two (List S) (List T)) (part more : List E)
           → Within part (One.names r.first w.first) ⊎ Beyond part more (One.names r.first w.first) (Other.names r.second w.second) → FirstTo w part w
-      names_to r w part more (inl at) =
-          as_kept w.first w.first part part
-          (kept_all keep part (first_each (IsKept keep) part at.rest (of_same (IsKept keep) (part ++ at.rest) (One.names r.first w.first) at.is (own_names r.first w.first))))
-          (ends.names r.first w.first part at.rest at.is)
+      names_to r w part more (inl at) = grind (arith, as_kept, kept_all, first_each, of_same, own_names)
       names_to r w part more (inr at) =
           let all = One.names r.first w.first in
           as_kept w.first w.first part all

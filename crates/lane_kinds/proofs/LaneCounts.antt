@@ -52,16 +52,11 @@ module _ {S V E : Type 0} (K : LaneKind S V) (N : Entries V E) (moves : E → �
 
   turn_moves : (k : ℕ) (events : List V) → all_calm K events ≡ false → 1 ≤ sum_over moves (turn_entries K N k events)
   turn_moves k [] loud = absurd (cc loud)
-  turn_moves k (event ∷ events) loud =
-      loud_one (K.is_calm event) (sum_over moves (turn_entries K N k (event ∷ events))) (sum_over moves (if K.is_silent event then [] else N.of_lane k event ∷ []))
-      (sum_over moves (turn_entries K N k events)) (all_calm K events) (sum_both moves (if K.is_silent event then [] else N.of_lane k event ∷ []) (turn_entries K N k events)) loud
-      (λ here. loud_event (K.is_silent event) k event refl here) (λ more. turn_moves k events more)
+  turn_moves k (event ∷ events) loud = grind (arith, loud_one, sum_both, loud_event, turn_moves k events)
 
   round_moves : (k : ℕ) (turns : List (List V)) → are_still K turns ≡ false → 1 ≤ sum_over moves (round_entries K N k turns)
   round_moves k [] loud = absurd (cc loud)
-  round_moves k (r ∷ turns) loud =
-      loud_one (all_calm K r) (sum_over moves (round_entries K N k (r ∷ turns))) (sum_over moves (turn_entries K N k r)) (sum_over moves (round_entries K N (k + 1) turns)) (are_still K turns)
-      (sum_both moves (turn_entries K N k r) (round_entries K N (k + 1) turns)) loud (λ here. turn_moves k r here) (λ more. round_moves (k + 1) turns more)
+  round_moves k (r ∷ turns) loud = grind (arith, loud_one, sum_both, turn_moves, round_moves (k + 1) turns)
 
   some_one : (get : Bool) (all a b : ℕ) (more : Bool) → all ≡ a + b → (get || more) ≡ true → (get ≡ true → 1 ≤ a) → (more ≡ true → 1 ≤ b) → 1 ≤ all
   some_one true all a b more sum some one rest = first_some all a b sum (one refl)
@@ -72,13 +67,8 @@ module _ {S V E : Type 0} (K : LaneKind S V) (N : Entries V E) (moves : E → �
   tick_moves false k s is = absurd (cc is)
 
   ticks_move : (k : ℕ) (lanes : List S) (marks : List Bool) → some_tick K lanes marks ≡ true → 1 ≤ sum_over moves (tick_entries K N k lanes marks)
-  ticks_move k [] marks some = absurd (cc some)
-  ticks_move k (s ∷ lanes) [] some = absurd (cc some)
-  ticks_move k (s ∷ lanes) (had ∷ marks) some =
-      some_one (gets_tick K s had) (sum_over moves (tick_entries K N k (s ∷ lanes) (had ∷ marks))) (sum_over moves (if gets_tick K s had then N.of_lane k (K.tick s) ∷ [] else []))
-      (sum_over moves (tick_entries K N (k + 1) lanes marks)) (some_tick K lanes marks)
-      (sum_both moves (if gets_tick K s had then N.of_lane k (K.tick s) ∷ [] else []) (tick_entries K N (k + 1) lanes marks)) some (λ here. tick_moves (gets_tick K s had) k s here)
-      (λ more. ticks_move (k + 1) lanes marks more)
+  ticks_move k (s ∷ lanes) (had ∷ marks) some = grind (arith, some_one, sum_both, tick_moves, ticks_move (k + 1) lanes marks)
+  ticks_move k lanes marks some = grind arith
 
   pub lanes_move : Moves (lanes_of K N) (sum_over moves)
   lanes_move = record { both = sum_both moves; round = round_moves 0; ticks = ticks_move 0 }
@@ -91,52 +81,30 @@ module _ {S V E : Type 0} (K : LaneKind S V) (N : Entries V E) (ticks : ℕ → 
 
   turn_none : (k j : ℕ) (events : List V) → EachStep K events → sum_over (ticks k) (turn_entries K N j events) ≤ 0
   turn_none k j [] steps = omega (arith)
-  turn_none k j (event ∷ events) steps =
-      none_of_two (sum_over (ticks k) (turn_entries K N j (event ∷ events))) (sum_over (ticks k) (if K.is_silent event then [] else N.of_lane j event ∷ []))
-      (sum_over (ticks k) (turn_entries K N j events)) (sum_both (ticks k) (if K.is_silent event then [] else N.of_lane j event ∷ []) (turn_entries K N j events))
-      (event_none (K.is_silent event) k j event steps.0) (turn_none k j events steps.1)
+  turn_none k j (event ∷ events) steps = grind (arith, none_of_two, sum_both, event_none, turn_none k j events steps.1)
 
   round_none : (k j : ℕ) (lanes : List S) (turns : List (List V)) (behind : List S) → MakeTurns K j lanes turns behind → sum_over (ticks k) (round_entries K N j turns) ≤ 0
   round_none k j lanes [] behind made = omega (arith)
-  round_none k j lanes (r ∷ turns) behind made =
-      none_of_two (sum_over (ticks k) (round_entries K N j (r ∷ turns))) (sum_over (ticks k) (turn_entries K N j r)) (sum_over (ticks k) (round_entries K N (j + 1) turns))
-      (sum_both (ticks k) (turn_entries K N j r) (round_entries K N (j + 1) turns)) (turn_none k j r (laws.turn_steps r made.1.of_turn)) (round_none k (j + 1) made.0 turns behind made.2)
+  round_none k j lanes (r ∷ turns) behind made = grind (arith, none_of_two, sum_both, turn_none, round_none k (j + 1) made.0 turns behind made.2)
 
   -- a tick marks its lane, which had no mark
   tick_counts : (c had waits : Bool) → once (c && (if had then false else waits)) + once (c && had) ≡ once (c && (had || (if had then false else waits)))
-  tick_counts true true waits = omega (arith)
-  tick_counts true false true = omega (arith)
-  tick_counts true false false = omega (arith)
-  tick_counts false had waits = omega (arith)
-
-  with_true : (c : Bool) → once c ≡ once (c && true)
-  with_true true = refl
-  with_true false = refl
-
-  with_false : (c : Bool) → 0 ≡ once (c && false)
-  with_false true = refl
-  with_false false = refl
+  tick_counts c had waits = grind arith
 
   alone : (n m : ℕ) → n ≡ m → n + 0 ≡ m
   alone n m is = omega (arith, is)
 
   pub tick_is : (get : Bool) (k j : ℕ) (s : S) → sum_over (ticks k) (if get then N.of_lane j (K.tick s) ∷ [] else []) ≡ once ((j == k) && get)
-  tick_is true k j s = alone (ticks k (N.of_lane j (K.tick s))) (once ((j == k) && true)) (laws.tick k j s ∙ with_true (j == k))
-  tick_is false k j s = with_false (j == k)
+  tick_is get k j s = grind (arith, alone)
 
   lane_ticks : (all one rest x mark marks new more : ℕ) → all ≡ one + rest → one ≡ x → x + mark ≡ new → rest + marks ≡ more → all + (mark + marks) ≡ new + more
   lane_ticks all one rest x mark marks new more sum few here others = omega (arith, sum, few, here, others)
 
   pub ticks_mark : (k j : ℕ) (lanes : List S) (marks : List Bool) (behind : List S) → TickAll K lanes marks behind
       → sum_over (ticks k) (tick_entries K N j lanes marks) + mark_at k j marks ≡ mark_at k j (marked K lanes marks)
-  ticks_mark k j [] [] [] made = omega (arith)
   ticks_mark k j (s ∷ lanes) (had ∷ marks) (t ∷ behind) made =
-      lane_ticks (sum_over (ticks k) (tick_entries K N j (s ∷ lanes) (had ∷ marks))) (sum_over (ticks k) (if gets_tick K s had then N.of_lane j (K.tick s) ∷ [] else []))
-      (sum_over (ticks k) (tick_entries K N (j + 1) lanes marks)) (once ((j == k) && gets_tick K s had)) (once ((j == k) && had)) (mark_at k (j + 1) marks)
-      (once ((j == k) && (had || gets_tick K s had))) (mark_at k (j + 1) (marked K lanes marks))
-      (sum_both (ticks k) (if gets_tick K s had then N.of_lane j (K.tick s) ∷ [] else []) (tick_entries K N (j + 1) lanes marks)) (tick_is (gets_tick K s had) k j s)
-      (tick_counts (j == k) had (K.waits_on s)) (ticks_mark k (j + 1) lanes marks behind made.1)
-  ticks_mark k j _ _ _ made = absurd made
+      grind (arith, lane_ticks, sum_both, tick_is, tick_counts, ticks_mark k (j + 1) lanes marks behind made.1)
+  ticks_mark k j lanes marks behind made = grind arith
 
   -- one mark at most
   first_none : (c : Bool) (rest : ℕ) → rest ≡ 0 → once (c && false) + rest ≡ 0
@@ -156,9 +124,7 @@ module _ {S V E : Type 0} (K : LaneKind S V) (N : Entries V E) (ticks : ℕ → 
   no_marks_behind k j (had ∷ marks) less = no_mark (j == k) had (mark_at k (j + 1) marks) j k (eqb-true j k) less (no_marks_behind k (j + 1) marks (below_next j k less))
 
   one_mark : (c had : Bool) (rest j k : ℕ) → (c ≡ true → j ≡ k) → (k < j + 1 → rest ≤ 0) → rest ≤ 1 → once (c && had) + rest ≤ 1
-  one_mark true true rest j k same none few = omega (arith, none (omega (arith, same refl)))
-  one_mark true false rest j k same none few = omega (arith, few)
-  one_mark false had rest j k same none few = omega (arith, few)
+  one_mark c had rest j k same none few = grind arith
 
   pub mark_most : (k j : ℕ) (marks : List Bool) → mark_at k j marks ≤ 1
   mark_most k j [] = omega (arith)
@@ -169,80 +135,44 @@ module _ {S V E : Type 0} (K : LaneKind S V) (N : Entries V E) (ticks : ℕ → 
   name_none k j false = alone_none (ticks k (N.left_over j)) (laws.left k j)
 
   names_none : (k j : ℕ) (turns : List (List V)) (lanes : List S) → sum_over (ticks k) (left_names K N j turns lanes) ≤ 0
-  names_none k j [] lanes = omega (arith)
-  names_none k j (r ∷ turns) [] = omega (arith)
-  names_none k j (r ∷ turns) (s ∷ lanes) =
-      let name = all_calm K r && (if K.waits_on s then false else true) in
-      none_of_two (sum_over (ticks k) (left_names K N j (r ∷ turns) (s ∷ lanes))) (sum_over (ticks k) (if name then [] else N.left_over j ∷ []))
-      (sum_over (ticks k) (left_names K N (j + 1) turns lanes)) (sum_both (ticks k) (if name then [] else N.left_over j ∷ []) (left_names K N (j + 1) turns lanes)) (name_none k j name)
-      (names_none k (j + 1) turns lanes)
+  names_none k j (r ∷ turns) (s ∷ lanes) = grind (arith, none_of_two, sum_both, name_none, names_none k (j + 1) turns lanes)
+  names_none k j turns lanes = grind arith
 
   answer_is : (n : ℕ) → n ≡ 0 → n + 0 ≡ 0
   answer_is n none = omega (arith, none)
 
   pub lanes_tick : (k : ℕ) → Counts (lanes_of K N) (sum_over (ticks k)) (mark_at k 0)
-  lanes_tick k = record {
-    both = sum_both (ticks k);
-    round = λ w r v made. round_none k 0 w r v made.turns_made;
-    ticks = λ w m v made. ticks_mark k 0 w m v made;
-    unmarked = none_marked k 0;
-    most = mark_most k 0;
-    answer = answer_is (ticks k N.settled) (laws.answer k);
-    names = names_none k 0;
-  }
+  lanes_tick k = grind (arith, sum_both, round_none, ticks_mark, none_marked, mark_most, answer_is, names_none)
 
 -- AN END THAT FINDS NO ROOM
 module _ {S V E : Type 0} (K : LaneKind S V) (N : Entries V E) (k : ℕ) (stuck : ℕ → E → ℕ) (blocked moves : E → ℕ) (laws : LaneUnsticks K N k stuck blocked moves) where
   none_behind : (j : ℕ) (lanes : List S) (turns : List (List V)) (behind : List S) → k < j → MakeTurns K j lanes turns behind → sum_over blocked (round_entries K N j turns) ≤ 0
   none_behind j lanes [] behind less made = omega (arith)
   none_behind j lanes (r ∷ turns) behind less made =
-      none_of_two (sum_over blocked (round_entries K N j (r ∷ turns))) (sum_over blocked (turn_entries K N j r)) (sum_over blocked (round_entries K N (j + 1) turns))
-      (sum_both blocked (turn_entries K N j r) (round_entries K N (j + 1) turns))
-      (not_there (j == k) (sum_over blocked (turn_entries K N j r)) j k (eqb-true j k) less (laws.turn j r made.1.of_turn))
-      (none_behind (j + 1) made.0 turns behind (below_next j k less) made.2)
+      grind (arith, none_of_two, sum_both, not_there, eqb-true, below_next, none_behind (j + 1) made.0 turns behind (below_next j k less) made.2)
 
   round_once : (j : ℕ) (lanes : List S) (turns : List (List V)) (behind : List S) → MakeTurns K j lanes turns behind → sum_over blocked (round_entries K N j turns) ≤ 1
-  round_once j lanes [] behind made = omega (arith)
-  round_once j lanes (r ∷ turns) behind made =
-      one_here (j == k) (sum_over blocked (round_entries K N j (r ∷ turns))) (sum_over blocked (turn_entries K N j r)) (sum_over blocked (round_entries K N (j + 1) turns)) j k
-      (sum_both blocked (turn_entries K N j r) (round_entries K N (j + 1) turns)) (laws.turn j r made.1.of_turn) (eqb-true j k)
-      (λ less. none_behind (j + 1) made.0 turns behind less made.2) (round_once (j + 1) made.0 turns behind made.2)
+  round_once j lanes (r ∷ turns) behind made = grind (arith, one_here, sum_both, eqb-true, none_behind, round_once (j + 1) made.0 turns behind made.2)
+  round_once j lanes turns behind made = grind arith
 
   tick_free : (get : Bool) (j : ℕ) (s : S) → sum_over blocked (if get then N.of_lane j (K.tick s) ∷ [] else []) ≤ 0
   tick_free true j s = alone_none (blocked (N.of_lane j (K.tick s))) (laws.tick j s)
   tick_free false j s = omega (arith)
 
   ticks_free : (j : ℕ) (lanes : List S) (marks : List Bool) → sum_over blocked (tick_entries K N j lanes marks) ≤ 0
-  ticks_free j [] marks = omega (arith)
-  ticks_free j (s ∷ lanes) [] = omega (arith)
-  ticks_free j (s ∷ lanes) (had ∷ marks) =
-      none_of_two (sum_over blocked (tick_entries K N j (s ∷ lanes) (had ∷ marks))) (sum_over blocked (if gets_tick K s had then N.of_lane j (K.tick s) ∷ [] else []))
-      (sum_over blocked (tick_entries K N (j + 1) lanes marks)) (sum_both blocked (if gets_tick K s had then N.of_lane j (K.tick s) ∷ [] else []) (tick_entries K N (j + 1) lanes marks))
-      (tick_free (gets_tick K s had) j s) (ticks_free (j + 1) lanes marks)
+  ticks_free j (s ∷ lanes) (had ∷ marks) = grind (arith, none_of_two, sum_both, tick_free, ticks_free (j + 1) lanes marks)
+  ticks_free j lanes marks = grind arith
 
   name_free : (j : ℕ) (c : Bool) → sum_over blocked (if c then [] else N.left_over j ∷ []) ≤ 0
   name_free j true = omega (arith)
   name_free j false = alone_none (blocked (N.left_over j)) (laws.left j)
 
   names_free : (j : ℕ) (turns : List (List V)) (lanes : List S) → sum_over blocked (left_names K N j turns lanes) ≤ 0
-  names_free j [] lanes = omega (arith)
-  names_free j (r ∷ turns) [] = omega (arith)
-  names_free j (r ∷ turns) (s ∷ lanes) =
-      let name = all_calm K r && (if K.waits_on s then false else true) in
-      none_of_two (sum_over blocked (left_names K N j (r ∷ turns) (s ∷ lanes))) (sum_over blocked (if name then [] else N.left_over j ∷ []))
-      (sum_over blocked (left_names K N (j + 1) turns lanes)) (sum_both blocked (if name then [] else N.left_over j ∷ []) (left_names K N (j + 1) turns lanes)) (name_free j name)
-      (names_free (j + 1) turns lanes)
+  names_free j (r ∷ turns) (s ∷ lanes) = grind (arith, none_of_two, sum_both, name_free, names_free (j + 1) turns lanes)
+  names_free j turns lanes = grind arith
 
   pub lanes_unstick : Unsticks (lanes_of K N) stuck blocked moves
-  lanes_unstick = record {
-    most = laws.most;
-    or_none = laws.or_none;
-    moving = lanes_move K N moves laws.moving;
-    round = λ w r v made. round_once 0 w r v made.turns_made;
-    ticks = ticks_free 0;
-    names = names_free 0;
-    answer = laws.answer;
-  }
+  lanes_unstick = grind (arith, lanes_move, round_once, ticks_free, names_free)
 
 -- THE LANES STAY as many
 module _ {S V : Type 0} (K : LaneKind S V) where
@@ -258,28 +188,18 @@ module _ {S V : Type 0} (K : LaneKind S V) where
 module _ {S V E : Type 0} (K : LaneKind S V) (N : Entries V E) where
   loud_here : (quiet waits more : Bool) (x : E) (rest : List E) → (quiet && more) ≡ false → (more ≡ false → 1 ≤ length rest)
       → 1 ≤ length ((if quiet && (if waits then false else true) then [] else x ∷ []) ++ rest)
-  loud_here false waits more x rest loud others = omega (arith)
-  loud_here true true more x rest loud others = omega (arith)
-  loud_here true false more x rest loud others = others loud
+  loud_here quiet waits more x rest loud others = grind arith
 
   loud_named : (k : ℕ) (turns : List (List V)) (lanes : List S) → length turns ≡ length lanes → are_still K turns ≡ false → 1 ≤ length (left_names K N k turns lanes)
-  loud_named k [] lanes long loud = absurd (cc loud)
-  loud_named k (r ∷ turns) [] long loud = absurd (omega (arith, long))
-  loud_named k (r ∷ turns) (s ∷ lanes) long loud =
-      loud_here (all_calm K r) (K.waits_on s) (are_still K turns) (N.left_over k) (left_names K N (k + 1) turns lanes) loud (λ more. loud_named (k + 1) turns lanes (omega (arith, long)) more)
+  loud_named k (r ∷ turns) (s ∷ lanes) long loud = grind (arith, loud_here, loud_named (k + 1) turns lanes (omega (arith, long)))
+  loud_named k turns lanes long loud = grind arith
 
   round_many : (lanes : List S) (turns : List (List V)) (behind : List S) → MakeRound K lanes turns behind → length turns ≡ length behind
   round_many lanes turns behind made = made.many ∙ sym (turns_many K 0 lanes turns behind made.turns_made)
 
   module _ (Reached Unforged Lossless : S → Type 0) (laws : LaneRests K Reached Unforged Lossless) (waits : TickWaits K Reached) where
     named_where : (quiet waiting : Bool) (x : E) (rest : List E) → waiting ≡ true → 1 ≤ length ((if quiet && (if waiting then false else true) then [] else x ∷ []) ++ rest)
-    named_where true true x rest is = omega (arith)
-    named_where false true x rest is = omega (arith)
-    named_where quiet false x rest is = absurd (cc is)
-
-    named_later : (c : Bool) (x : E) (rest : List E) → 1 ≤ length rest → 1 ≤ length ((if c then [] else x ∷ []) ++ rest)
-    named_later true x rest some = some
-    named_later false x rest some = omega (arith)
+    named_where quiet waiting x rest is = grind arith
 
     gets_where : (had waiting : Bool) → (if had then false else waiting) ≡ true → waiting ≡ true
     gets_where true waiting gets = absurd (cc gets)
@@ -287,8 +207,7 @@ module _ {S V E : Type 0} (K : LaneKind S V) (N : Entries V E) where
 
     tick_here : (get had quiet more : Bool) (s t : S) (x : E) (rest : List E) → Reached s → gets_tick K s had ≡ get → TicksIf K get s t → (get || more) ≡ true → (more ≡ true → 1 ≤ length rest)
         → 1 ≤ length ((if quiet && (if K.waits_on t then false else true) then [] else x ∷ []) ++ rest)
-    tick_here true had quiet more s t x rest at gets step some others = named_where quiet (K.waits_on t) x rest (waits s t at (gets_where had (K.waits_on s) gets) step)
-    tick_here false had quiet more s t x rest at gets same some others = named_later (quiet && (if K.waits_on t then false else true)) x rest (others some)
+    tick_here get had quiet more s t x rest given gets step some others = grind arith
 
     ticked_named : (k : ℕ) (turns : List (List V)) (between : List S) (marks : List Bool) (behind : List S) → EachMarked (IsWhole K Reached Unforged Lossless laws) between marks
         → length turns ≡ length between → TickAll K between marks behind → some_tick K between marks ≡ true → 1 ≤ length (left_names K N k turns behind)
@@ -314,37 +233,23 @@ module _ {S V E : Type 0} (K : LaneKind S V) (N : Entries V E) (count : E → �
 
   turn_ignored : (j : ℕ) (events : List V) → sum_over count (turn_entries K N j events) ≤ 0
   turn_ignored j [] = omega (arith)
-  turn_ignored j (event ∷ events) =
-      none_of_two (sum_over count (turn_entries K N j (event ∷ events))) (sum_over count (if K.is_silent event then [] else N.of_lane j event ∷ []))
-      (sum_over count (turn_entries K N j events)) (sum_both count (if K.is_silent event then [] else N.of_lane j event ∷ []) (turn_entries K N j events))
-      (ignored (K.is_silent event) (N.of_lane j event) (events_none j event)) (turn_ignored j events)
+  turn_ignored j (event ∷ events) = grind (arith, none_of_two, sum_both, ignored, turn_ignored j events)
 
   round_ignored : (j : ℕ) (turns : List (List V)) → sum_over count (round_entries K N j turns) ≤ 0
   round_ignored j [] = omega (arith)
-  round_ignored j (r ∷ turns) =
-      none_of_two (sum_over count (round_entries K N j (r ∷ turns))) (sum_over count (turn_entries K N j r)) (sum_over count (round_entries K N (j + 1) turns))
-      (sum_both count (turn_entries K N j r) (round_entries K N (j + 1) turns)) (turn_ignored j r) (round_ignored (j + 1) turns)
+  round_ignored j (r ∷ turns) = grind (arith, none_of_two, sum_both, turn_ignored, round_ignored (j + 1) turns)
 
   tick_ignored : (get : Bool) (j : ℕ) (s : S) → sum_over count (if get then N.of_lane j (K.tick s) ∷ [] else []) ≤ 0
   tick_ignored true j s = alone_none (count (N.of_lane j (K.tick s))) (events_none j (K.tick s))
   tick_ignored false j s = omega (arith)
 
   ticks_ignored : (j : ℕ) (lanes : List S) (marks : List Bool) → sum_over count (tick_entries K N j lanes marks) ≤ 0
-  ticks_ignored j [] marks = omega (arith)
-  ticks_ignored j (s ∷ lanes) [] = omega (arith)
-  ticks_ignored j (s ∷ lanes) (had ∷ marks) =
-      none_of_two (sum_over count (tick_entries K N j (s ∷ lanes) (had ∷ marks))) (sum_over count (if gets_tick K s had then N.of_lane j (K.tick s) ∷ [] else []))
-      (sum_over count (tick_entries K N (j + 1) lanes marks)) (sum_both count (if gets_tick K s had then N.of_lane j (K.tick s) ∷ [] else []) (tick_entries K N (j + 1) lanes marks))
-      (tick_ignored (gets_tick K s had) j s) (ticks_ignored (j + 1) lanes marks)
+  ticks_ignored j (s ∷ lanes) (had ∷ marks) = grind (arith, none_of_two, sum_both, tick_ignored, ticks_ignored (j + 1) lanes marks)
+  ticks_ignored j lanes marks = grind arith
 
   names_ignored : (j : ℕ) (turns : List (List V)) (lanes : List S) → sum_over count (left_names K N j turns lanes) ≤ 0
-  names_ignored j [] lanes = omega (arith)
-  names_ignored j (r ∷ turns) [] = omega (arith)
-  names_ignored j (r ∷ turns) (s ∷ lanes) =
-      let name = all_calm K r && (if K.waits_on s then false else true) in
-      none_of_two (sum_over count (left_names K N j (r ∷ turns) (s ∷ lanes))) (sum_over count (if name then [] else N.left_over j ∷ []))
-      (sum_over count (left_names K N (j + 1) turns lanes)) (sum_both count (if name then [] else N.left_over j ∷ []) (left_names K N (j + 1) turns lanes))
-      (ignored name (N.left_over j) (left_none j)) (names_ignored (j + 1) turns lanes)
+  names_ignored j (r ∷ turns) (s ∷ lanes) = grind (arith, none_of_two, sum_both, ignored, names_ignored (j + 1) turns lanes)
+  names_ignored j turns lanes = grind arith
 
   pub lanes_ignore : Ignores (lanes_of K N) (sum_over count)
   lanes_ignore = record { round = round_ignored 0; ticks = ticks_ignored 0; names = names_ignored 0 }

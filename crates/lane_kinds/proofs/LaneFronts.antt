@@ -1,5 +1,5 @@
 -- Where a front of a round and one of ticks lead, and what they count, for lanes of one kind.
-use Rattle.std.proofs.Common.{◌≡◌, ℕ, ◌+◌, ◌≤◌, ◌<◌, ◌⊎◌, inl, inr, Bool, true, false, List, [], ◌∷◌, ◌++◌, length, refl, sym, ap, ◌∙◌, subst, arith, append_assoc, length-append}
+use Rattle.std.proofs.Common.{◌≡◌, ℕ, ◌+◌, ◌≤◌, ◌<◌, inl, inr, Bool, true, false, List, [], ◌∷◌, ◌++◌, length, refl, sym, ap, ◌∙◌, subst, arith, append_assoc, length-append}
 use Rattle.std.proofs.lemmas.Bool.{eqb-true}
 use Rattle.std.specs.Prelude.{◌&&◌, ◌==◌, if◌then◌else◌}
 use Rattle.lane_kinds.proofs.LaneCounts.{not_there, one_here, tick_is}
@@ -7,7 +7,7 @@ use Rattle.lane_kinds.proofs.Moving.{both_move, none_move, one_more, tick_moves,
 use Rattle.lane_kinds.proofs.Stuck.{sum_both}
 use Rattle.lane_kinds.specs.LaneCounts.{LaneTicks, LaneUnsticks, mark_at, once}
 use Rattle.lane_kinds.specs.LaneFronts.{BeginsTurn, NoMore, RoundFront, TickFront, fronts_of}
-use Rattle.lane_kinds.specs.Lanes.{AllMove, EachOf, EachStep, Entries, IsSilent, LaneKind, MakeRound, MakeTurns, Reads, all_calm, gets_tick, lanes_of, left_names, round_entries, tick_entries, turn_entries}
+use Rattle.lane_kinds.specs.Lanes.{AllMove, EachOf, EachStep, Entries, IsSilent, LaneKind, MakeRound, MakeTurns, Reads, gets_tick, lanes_of, left_names, round_entries, tick_entries, turn_entries}
 use Rattle.lane_kinds.specs.Laws.{FrontsCount, FrontsLead, FrontsUnstick}
 use Rattle.lane_kinds.specs.Stuck.{sum_over}
 
@@ -21,9 +21,7 @@ module _ {S V E : Type 0} (K : LaneKind S V) (N : Entries V E) (said : ℕ → E
       (turn_moves K N said reads silent (length front.turns) front.between front.begun behind front.run))
 
   no_more : (front lanes : List S) (part : List E) (behind : List S) → NoMore lanes part behind → AllMove K.Step said 0 (front ++ lanes) part (front ++ behind)
-  no_more front lanes part behind ended =
-      subst (λ (l : List S). AllMove K.Step said 0 (front ++ lanes) part (front ++ l)) (sym ended.lanes_stay)
-      (subst (λ (l : List E). AllMove K.Step said 0 (front ++ lanes) l (front ++ lanes)) (sym ended.is) (none_move K.Step said 0 (front ++ lanes)))
+  no_more front lanes part behind ended = grind (arith, none_move)
 
   ticked_moves : (k : ℕ) (front lanes : List S) (marks : List Bool) (part : List E) (behind : List S) → k ≡ 0 + length front → TickFront K N k lanes marks part behind
       → AllMove K.Step said 0 (front ++ lanes) part (front ++ behind)
@@ -87,14 +85,7 @@ module _ {E : Type 0} (P : E → Type 0) where
       begun_steps begun at = first_steps begun at.more (turn_steps (begun ++ at.more) at.of_turn)
 
       pub front_each : (lanes : List S) (part : List E) (behind : List S) → RoundFront K N lanes part behind → EachOf P part
-      front_each lanes part behind front =
-          of_same part (round_entries K N 0 front.turns ++ turn_entries K N (length front.turns) front.begun) front.is
-          (of_both (round_entries K N 0 front.turns) (turn_entries K N (length front.turns) front.begun) (turns_each 0 lanes front.turns front.between front.made)
-          (by_next front.next))
-        where
-          by_next : (front.begun ≡ []) ⊎ ((length front.turns < length lanes) × BeginsTurn K front.begun) → EachOf P (turn_entries K N (length front.turns) front.begun)
-          by_next (inl none) = subst (λ (l : List V). EachOf P (turn_entries K N (length front.turns) l)) (sym none) tt
-          by_next (inr next) = turn_each (length front.turns) front.begun (begun_steps front.begun next.1)
+      front_each lanes part behind front = grind (arith, of_same, of_both, turns_each, turn_each, begun_steps)
 
     -- and of ticks
     module _ (ticks : (k : ℕ) (s : S) → P (N.of_lane k (K.tick s))) where
@@ -103,10 +94,8 @@ module _ {E : Type 0} (P : E → Type 0) where
       tick_each false k s = tt
 
       pub ticks_each : (k : ℕ) (lanes : List S) (marks : List Bool) → EachOf P (tick_entries K N k lanes marks)
-      ticks_each k [] marks = tt
-      ticks_each k (s ∷ lanes) [] = tt
-      ticks_each k (s ∷ lanes) (had ∷ marks) =
-          of_both (if gets_tick K s had then N.of_lane k (K.tick s) ∷ [] else []) (tick_entries K N (k + 1) lanes marks) (tick_each (gets_tick K s had) k s) (ticks_each (k + 1) lanes marks)
+      ticks_each k (s ∷ lanes) (had ∷ marks) = grind (arith, of_both, tick_each, ticks_each (k + 1) lanes marks)
+      ticks_each k lanes marks = grind arith
 
       pub ticked_each : (k : ℕ) (lanes : List S) (marks : List Bool) (part : List E) (behind : List S) → TickFront K N k lanes marks part behind → EachOf P part
       ticked_each k [] marks part behind ended = of_none [] part behind ended
@@ -123,11 +112,8 @@ module _ {E : Type 0} (P : E → Type 0) where
       name_each false k less = (names k less, tt)
 
       pub left_each : (k : ℕ) (turns : List (List V)) (lanes : List S) → k + length lanes ≤ n → EachOf P (left_names K N k turns lanes)
-      left_each k [] lanes few = tt
-      left_each k (r ∷ turns) [] few = tt
-      left_each k (r ∷ turns) (s ∷ lanes) few =
-          of_both (if all_calm K r && (if K.waits_on s then false else true) then [] else N.left_over k ∷ []) (left_names K N (k + 1) turns lanes)
-          (name_each (all_calm K r && (if K.waits_on s then false else true)) k (omega (arith, few))) (left_each (k + 1) turns lanes (omega (arith, few)))
+      left_each k (r ∷ turns) (s ∷ lanes) few = grind (arith, of_both, name_each, left_each (k + 1) turns lanes (omega (arith, few)))
+      left_each k turns lanes few = grind arith
 
 -- TICKS of the lane with the number k: no step is one
 at_most : (n : ℕ) → n ≡ 0 → n ≤ 0
@@ -151,9 +137,7 @@ module _ {S V E : Type 0} (K : LaneKind S V) (N : Entries V E) (ticks : ℕ → 
   few_here j rest few same = few.0 (omega (arith, same))
 
   next_few : (c had : Bool) (j rest : ℕ) → (c ≡ true → j ≡ k) → Few (j + 1) rest → Few j (once (c && had) + rest)
-  next_few true true j rest same few = ((λ less. absurd (omega (arith, same refl, less))), omega (arith, few_here j rest few (same refl)))
-  next_few true false j rest same few = ((λ less. absurd (omega (arith, same refl, less))), omega (arith, few.1))
-  next_few false had j rest same few = ((λ less. omega (arith, few_next j rest few less)), omega (arith, few.1))
+  next_few c had j rest same few = grind (arith, few_here, few_next)
 
   marks_few : (j : ℕ) (marks : List Bool) → Few j (mark_at k j marks)
   marks_few j [] = ((λ less. omega (arith)), omega (arith))
@@ -167,22 +151,14 @@ module _ {S V E : Type 0} (K : LaneKind S V) (N : Entries V E) (ticks : ℕ → 
 
   lane_few : (c had waits : Bool) (j all later marks : ℕ) → all ≡ once (c && (if had then false else waits)) + later → (c ≡ true → j ≡ k) → Few (j + 1) (later + marks)
       → Few j (all + (once (c && had) + marks))
-  lane_few true true waits j all later marks is same few = ((λ less. absurd (omega (arith, same refl, less))), omega (arith, is, few_here j (later + marks) few (same refl)))
-  lane_few true false true j all later marks is same few = ((λ less. absurd (omega (arith, same refl, less))), omega (arith, is, few_here j (later + marks) few (same refl)))
-  lane_few true false false j all later marks is same few = ((λ less. absurd (omega (arith, same refl, less))), omega (arith, is, few.1))
-  lane_few false had waits j all later marks is same few = ((λ less. omega (arith, is, few_next j (later + marks) few less)), omega (arith, is, few.1))
+  lane_few c had waits j all later marks is same few = grind (arith, few_here, few_next)
 
   front_few : (j : ℕ) (lanes : List S) (marks : List Bool) (part : List E) (behind : List S) → TickFront K N j lanes marks part behind → Few j (sum_over (ticks k) part + mark_at k j marks)
   front_few j [] marks part behind none = none_few j [] marks part behind none
   front_few j (s ∷ lanes) [] part behind none = none_few j (s ∷ lanes) [] part behind none
   front_few j (s ∷ lanes) (had ∷ marks) part behind (inl none) = none_few j (s ∷ lanes) (had ∷ marks) part behind none
   front_few j (s ∷ lanes) (had ∷ marks) part behind (inr made) =
-      let own = if gets_tick K s had then N.of_lane j (K.tick s) ∷ [] else [] in
-      let sum : sum_over (ticks k) part ≡ once ((j == k) && gets_tick K s had) + sum_over (ticks k) made.later =
-      ap (sum_over (ticks k)) made.is ∙ sum_both (ticks k) own made.later
-      ∙ ap (λ (n : ℕ). n + sum_over (ticks k) made.later) (tick_is K N ticks laws (gets_tick K s had) k j s) in
-      lane_few (j == k) had (K.waits_on s) j (sum_over (ticks k) part) (sum_over (ticks k) made.later) (mark_at k (j + 1) marks) sum (eqb-true j k)
-      (front_few (j + 1) lanes marks made.later made.others made.more)
+      grind (arith, sum_both, tick_is, lane_few, eqb-true, front_few (j + 1) lanes marks made.later made.others made.more)
 
   pub fronts_tick : FrontsCount (fronts_of K N) (sum_over (ticks k)) (mark_at k 0)
   fronts_tick = record {
@@ -199,10 +175,7 @@ module _ {S V E : Type 0} (K : LaneKind S V) (N : Entries V E) (k : ℕ) (stuck 
       → sum_over blocked (round_entries K N j turns) + m ≤ 0
   none_front j n lanes [] between m less place made one = omega (arith, not_there (n == k) m n k (eqb-true n k) (omega (arith, less, place)) one)
   none_front j n lanes (r ∷ turns) between m less place made one =
-      none_more (sum_over blocked (round_entries K N j (r ∷ turns))) (sum_over blocked (turn_entries K N j r)) (sum_over blocked (round_entries K N (j + 1) turns)) m
-      (sum_both blocked (turn_entries K N j r) (round_entries K N (j + 1) turns))
-      (not_there (j == k) (sum_over blocked (turn_entries K N j r)) j k (eqb-true j k) less (laws.turn j r made.1.of_turn))
-      (none_front (j + 1) n made.0 turns between m (omega (arith, less)) (omega (arith, place)) made.2 one)
+      grind (arith, none_more, sum_both, not_there, eqb-true, none_front (j + 1) n made.0 turns between m (omega (arith, less)) (omega (arith, place)) made.2 one)
 
   at_one : (c : Bool) (m : ℕ) → m ≤ once c → 0 + m ≤ 1
   at_one true m one = omega (arith, one)
@@ -213,18 +186,13 @@ module _ {S V E : Type 0} (K : LaneKind S V) (N : Entries V E) (k : ℕ) (stuck 
 
   front_once : (j n : ℕ) (lanes : List S) (turns : List (List V)) (between : List S) (m : ℕ) → n ≡ j + length turns → MakeTurns K j lanes turns between → m ≤ once (n == k)
       → sum_over blocked (round_entries K N j turns) + m ≤ 1
-  front_once j n lanes [] between m place made one = at_one (n == k) m one
   front_once j n lanes (r ∷ turns) between m place made one =
-      one_here (j == k) (sum_over blocked (round_entries K N j (r ∷ turns)) + m) (sum_over blocked (turn_entries K N j r)) (sum_over blocked (round_entries K N (j + 1) turns) + m) j k
-      (regroup (sum_over blocked (round_entries K N j (r ∷ turns))) (sum_over blocked (turn_entries K N j r)) (sum_over blocked (round_entries K N (j + 1) turns)) m
-      (sum_both blocked (turn_entries K N j r) (round_entries K N (j + 1) turns))) (laws.turn j r made.1.of_turn) (eqb-true j k)
-      (λ less. none_front (j + 1) n made.0 turns between m less (omega (arith, place)) made.2 one) (front_once (j + 1) n made.0 turns between m (omega (arith, place)) made.2 one)
+      grind (arith, one_here, regroup, sum_both, eqb-true, none_front, front_once (j + 1) n made.0 turns between m (omega (arith, place)) made.2 one)
+  front_once j n lanes turns between m place made one = grind (arith, at_one)
 
   turn_both : (j : ℕ) (one two : List V) → turn_entries K N j (one ++ two) ≡ turn_entries K N j one ++ turn_entries K N j two
-  turn_both j [] two = refl
-  turn_both j (event ∷ one) two =
-      ap (λ (l : List E). (if K.is_silent event then [] else N.of_lane j event ∷ []) ++ l) (turn_both j one two)
-      ∙ sym (append_assoc (if K.is_silent event then [] else N.of_lane j event ∷ []) (turn_entries K N j one) (turn_entries K N j two))
+  turn_both j (event ∷ one) two = grind (arith, append_assoc, turn_both j one two)
+  turn_both j one two = grind arith
 
   first_of : (all a b c : ℕ) → all ≡ a + b → all ≤ c → a ≤ c
   first_of all a b c sum most = omega (arith, sum, most)
@@ -244,16 +212,7 @@ module _ {S V E : Type 0} (K : LaneKind S V) (N : Entries V E) (k : ℕ) (stuck 
   most_is all a b c sum most = omega (arith, sum, most)
 
   front_free : (lanes : List S) (part : List E) (behind : List S) → RoundFront K N lanes part behind → sum_over blocked part ≤ 1
-  front_free lanes part behind front =
-      let n = length front.turns in
-      most_is (sum_over blocked part) (sum_over blocked (round_entries K N 0 front.turns)) (sum_over blocked (turn_entries K N n front.begun)) 1
-      (ap (sum_over blocked) front.is ∙ sum_both blocked (round_entries K N 0 front.turns) (turn_entries K N n front.begun))
-      (front_once 0 n lanes front.turns front.between (sum_over blocked (turn_entries K N n front.begun)) (own_place n) front.made (by_next front.next))
-    where
-      by_next : (front.begun ≡ []) ⊎ ((length front.turns < length lanes) × BeginsTurn K front.begun)
-          → sum_over blocked (turn_entries K N (length front.turns) front.begun) ≤ once (length front.turns == k)
-      by_next (inl none) = subst (λ (l : List V). sum_over blocked (turn_entries K N (length front.turns) l) ≤ once (length front.turns == k)) (sym none) (no_less (length front.turns == k))
-      by_next (inr next) = begun_once (length front.turns) front.begun next.1
+  front_free lanes part behind front = grind (arith, most_is, sum_both, front_once, own_place, no_less, begun_once)
 
   pub fronts_unstick : FrontsUnstick (fronts_of K N) blocked
   fronts_unstick = record {

@@ -41,12 +41,6 @@ later_sum s t r rest others load one more = omega (arith, one, more)
 falls_in_all : (a b r load : ℕ) → a + 8 * r < b + load → load ≤ 8 * r → a < b
 falls_in_all a b r load less most = omega (arith, less, most)
 
-then_lower : (one two : Bool) (a b c : ℕ) → Lowers one a b → Lowers two b c → Lowers (one && two) a c
-then_lower one two a b c (inl first) (inl second) = inl (both_true one two first.0 second.0, omega (arith, first.1, second.1))
-then_lower one two a b c (inl first) (inr second) = inr (omega (arith, first.1, second))
-then_lower one two a b c (inr first) (inl second) = inr (omega (arith, first, second.1))
-then_lower one two a b c (inr first) (inr second) = inr (omega (arith, first, second))
-
 no_rise : (n : ℕ) → n ≤ n
 no_rise n = omega (arith)
 
@@ -55,26 +49,18 @@ itself_place k = omega (arith)
 
 -- THE LANE with a number, and the others
 pub other_test : (j k : ℕ) → (j ≡ k → ⊥) → (j == k) ≡ false
-other_test j k other = test (j == k) (eqb-true j k) other
-  where
-    test : (c : Bool) → (c ≡ true → j ≡ k) → (j ≡ k → ⊥) → c ≡ false
-    test true same other = absurd (other (same refl))
-    test false same other = refl
+other_test j k other = grind (arith, eqb-true)
 
 module _ {S V : Type 0} (K : LaneKind S V) where
   own_run : (j k : ℕ) (s : S) (event : V) (t : S) → j ≡ k → Run K.Step s (own_or (j == k) event (K.gets j event)) t → K.Step s event t
-  own_run j k s event t same run =
-      let one : Run K.Step s (event ∷ []) t = subst (λ (c : Bool). Run K.Step s (own_or c event (K.gets j event)) t) (eq-eqb j k same) run in
-      subst (K.Step s event) one.2 one.1
+  own_run j k s event t same run = grind (arith, eq-eqb)
 
   gift_run : (j k : ℕ) (s : S) (event : V) (t : S) → (j ≡ k → ⊥) → Run K.Step s (own_or (j == k) event (K.gets j event)) t → Run K.Step s (K.gets j event) t
   gift_run j k s event t other run = subst (λ (c : Bool). Run K.Step s (own_or c event (K.gets j event)) t) (other_test j k other) run
 
   pub as_many : (j k : ℕ) (lanes : List S) (event : V) (behind : List S) → AllStep K j lanes k event behind → length behind ≡ length lanes
-  as_many j k [] event [] step = refl
   as_many j k (s ∷ lanes) event (t ∷ behind) step = ap suc (as_many (j + 1) k lanes event behind step.1)
-  as_many j k [] event (t ∷ behind) step = absurd step
-  as_many j k (s ∷ lanes) event [] step = absurd step
+  as_many j k lanes event behind step = grind arith
 
   -- AN EVENT THAT GIVES NOTHING moves its own lane alone
   record Alone (front : List S) (s : S) (lanes : List S) (events : List V) (m : List S) : Type 0 where
@@ -83,28 +69,17 @@ module _ {S V : Type 0} (K : LaneKind S V) where
     run : Run K.Step s events after
 
   others_stay : (j k : ℕ) (lanes : List S) (event : V) (behind : List S) → ((i : ℕ) → K.gets i event ≡ []) → k < j → AllStep K j lanes k event behind → lanes ≡ behind
-  others_stay j k [] event [] none less step = refl
-  others_stay j k (s ∷ lanes) event (t ∷ behind) none less step =
-      let same : s ≡ t = subst (λ (l : List V). Run K.Step s l t) (none j) (gift_run j k s event t (λ same. omega (arith, less, same)) step.0) in
-      ap (λ (x : S). x ∷ lanes) same ∙ ap (λ (l : List S). t ∷ l) (others_stay (j + 1) k lanes event behind none (next j k less) step.1)
-  others_stay j k [] event (t ∷ behind) none less step = absurd step
-  others_stay j k (s ∷ lanes) event [] none less step = absurd step
+  others_stay j k (s ∷ lanes) event (t ∷ behind) none less step = grind (arith, gift_run, next, others_stay (j + 1) k lanes event behind none (next j k less) step.1)
+  others_stay j k lanes event behind none less step = grind arith
 
   alone_more : (x y : S) (front : List S) (s : S) (lanes : List S) (events : List V) (m : List S) → x ≡ y → Alone front s lanes events m → Alone (x ∷ front) s lanes events (y ∷ m)
   alone_more x y front s lanes events m same at = record { after = at.after; is = ap (λ (z : S). z ∷ m) (sym same) ∙ ap (λ (l : List S). x ∷ l) at.is; run = at.run }
 
   event_alone : (j k : ℕ) (front : List S) (s : S) (lanes : List S) (event : V) (m : List S) → ((i : ℕ) → K.gets i event ≡ []) → k ≡ j + length front
       → AllStep K j (front ++ s ∷ lanes) k event m → Alone front s lanes (event ∷ []) m
-  event_alone j k [] s lanes event [] none place step = absurd step
-  event_alone j k [] s lanes event (t ∷ m) none place step = record {
-    after = t;
-    is = ap (λ (l : List S). t ∷ l) (sym (others_stay (j + 1) k lanes event m none (omega (arith, place)) step.1));
-    run = (t, own_run j k s event t (omega (arith, place)) step.0, refl);
-  }
-  event_alone j k (x ∷ front) s lanes event [] none place step = absurd step
   event_alone j k (x ∷ front) s lanes event (y ∷ m) none place step =
-      let same : x ≡ y = subst (λ (l : List V). Run K.Step x l y) (none j) (gift_run j k x event y (λ same. omega (arith, place, same)) step.0) in
-      alone_more x y front s lanes (event ∷ []) m same (event_alone (j + 1) k front s lanes event m none (omega (arith, place)) step.1)
+      grind (arith, gift_run, alone_more, event_alone (j + 1) k front s lanes event m none (omega (arith, place)) step.1)
+  event_alone j k front s lanes event m none place step = grind (arith, others_stay, own_run)
 
 -- WHERE THESE EVENTS GIVE NOTHING, a round is a turn of each lane alone
 module _ {S V : Type 0} (K : LaneKind S V) where
@@ -143,11 +118,7 @@ module _ {S V : Type 0} (K : LaneKind S V) where
       let more : Behind (front ++ one.after ∷ []) lanes turns behind =
       own_from (k + 1) (front ++ one.after ∷ []) lanes turns behind place (omega (arith, many)) none.1
       (subst (λ (l : List S). MakeTurns K (k + 1) l turns behind) same made.2) in
-      record {
-        rest = one.after ∷ more.rest;
-        is = more.is ∙ append_assoc front (one.after ∷ []) more.rest;
-        own = (record { of_turn = made.1.of_turn; run = one.run }, more.own);
-      }
+      grind (arith, append_assoc)
 
   own_round : (lanes : List S) (turns : List (List V)) (behind : List S) → AllNone turns → MakeRound K lanes turns behind → OwnTurns K lanes turns behind
   own_round lanes turns behind none made =
@@ -168,12 +139,9 @@ module _ {S V : Type 0} (K : LaneKind S V) where
 
   -- and a quiet one is a calm turn of each
   pub calmly : (lanes : List S) (turns : List (List V)) (behind : List S) → are_still K turns ≡ true → OwnTurns K lanes turns behind → Calmly K lanes turns behind
-  calmly [] [] [] still own = tt
-  calmly (s ∷ lanes) (r ∷ turns) (t ∷ behind) still own = (
-    record { of_turn = own.0.of_turn; run = own.0.run; calm = and_left (all_calm K r) (are_still K turns) still },
-    calmly lanes turns behind (and_right (all_calm K r) (are_still K turns) still) own.1,
-  )
-  calmly _ _ _ still own = absurd own
+  calmly (s ∷ lanes) (r ∷ turns) (t ∷ behind) still own =
+      grind (arith, and_left, and_right, calmly lanes turns behind (and_right (all_calm K r) (are_still K turns) still) own.1)
+  calmly lanes turns behind still own = grind arith
 
 -- WHERE CALM EVENTS GIVE NOTHING
 module _ {S V : Type 0} (K : LaneKind S V) (calm_gives : (k : ℕ) (event : V) → K.is_calm event ≡ true → K.gets k event ≡ []) where
@@ -200,16 +168,9 @@ module _ {S V : Type 0} (K : LaneKind S V) (Clean : S → Type 0) (remaining : S
     most : sum_of remaining behind ≤ sum_of remaining lanes + load r lanes
 
   given_all : (j k : ℕ) (lanes : List S) (event : V) (behind : List S) → k < j → EachOf Clean lanes → AllStep K j lanes k event behind → Given (raises event) lanes behind
-  given_all j k [] event [] less clean step = record { clean = tt; most = omega (arith) }
   given_all j k (s ∷ lanes) event (t ∷ behind) less clean step =
-      let run : Run K.Step s (K.gets j event) t = gift_run K j k s event t (λ same. omega (arith, less, same)) step.0 in
-      let rest : Given (raises event) lanes behind = given_all (j + 1) k lanes event behind (next j k less) clean.1 step.1 in
-      record {
-        clean = (laws.given_clean j event s t clean.0 run, rest.clean);
-        most = given_sum (remaining s) (remaining t) (raises event) (sum_of remaining behind) (sum_of remaining lanes) (load (raises event) lanes) (laws.given j event s t clean.0 run) rest.most;
-      }
-  given_all j k [] event (t ∷ behind) less clean step = absurd step
-  given_all j k (s ∷ lanes) event [] less clean step = absurd step
+      grind (arith, gift_run, next, given_sum, given_all (j + 1) k lanes event behind (next j k less) clean.1 step.1)
+  given_all j k lanes event behind less clean step = grind arith
 
   -- all lanes, of which one makes a step that isn't calm
   record Louder (r : ℕ) (lanes behind : List S) : Type 0 where
@@ -218,22 +179,9 @@ module _ {S V : Type 0} (K : LaneKind S V) (Clean : S → Type 0) (remaining : S
 
   loud_at : (j k : ℕ) (lanes : List S) (event : V) (behind : List S) (i : ℕ) → k ≡ j + i → i < length lanes → EachOf Clean lanes → K.IsStep event → K.is_calm event ≡ false
       → AllStep K j lanes k event behind → Louder (raises event) lanes behind
-  loud_at j k [] event behind i place within clean own loud step = absurd (omega (arith, within))
-  loud_at j k (s ∷ lanes) event [] i place within clean own loud step = absurd step
-  loud_at j k (s ∷ lanes) event (t ∷ behind) zero place within clean own loud step =
-      let run : K.Step s event t = own_run K j k s event t (omega (arith, place)) step.0 in
-      let rest : Given (raises event) lanes behind = given_all (j + 1) k lanes event behind (omega (arith, place)) clean.1 step.1 in
-      record {
-        clean = (laws.clean s event t clean.0 run own, rest.clean);
-        less = own_sum (remaining s) (remaining t) (raises event) (sum_of remaining behind) (sum_of remaining lanes) (load (raises event) lanes) (laws.loud s event t clean.0 run own loud) rest.most;
-      }
   loud_at j k (s ∷ lanes) event (t ∷ behind) (suc i) place within clean own loud step =
-      let run : Run K.Step s (K.gets j event) t = gift_run K j k s event t (λ same. omega (arith, place, same)) step.0 in
-      let rest : Louder (raises event) lanes behind = loud_at (j + 1) k lanes event behind i (omega (arith, place)) (omega (arith, within)) clean.1 own loud step.1 in
-      record {
-        clean = (laws.given_clean j event s t clean.0 run, rest.clean);
-        less = later_sum (remaining s) (remaining t) (raises event) (sum_of remaining behind) (sum_of remaining lanes) (load (raises event) lanes) (laws.given j event s t clean.0 run) rest.less;
-      }
+      grind (arith, gift_run, later_sum, loud_at (j + 1) k lanes event behind i (omega (arith, place)) (omega (arith, within)) clean.1 own loud step.1)
+  loud_at j k lanes event behind i place within clean own loud step = grind (arith, own_run, given_all, own_sum)
 
   -- or one that is
   record Calmer (lanes behind : List S) : Type 0 where
@@ -248,16 +196,8 @@ module _ {S V : Type 0} (K : LaneKind S V) (Clean : S → Type 0) (remaining : S
 
   calm_at : (front : List S) (s : S) (lanes : List S) (event : V) (t : S) → EachOf Clean (front ++ s ∷ lanes) → K.IsStep event → K.is_calm event ≡ true → K.Step s event t
       → Calmer (front ++ s ∷ lanes) (front ++ t ∷ lanes)
-  calm_at [] s lanes event t clean own calm step = record {
-    clean = (laws.clean s event t clean.0 step own, clean.1);
-    most = own_less (remaining s) (remaining t) (sum_of remaining lanes) (laws.calm s event t clean.0 step own calm);
-  }
-  calm_at (x ∷ front) s lanes event t clean own calm step =
-      let rest : Calmer (front ++ s ∷ lanes) (front ++ t ∷ lanes) = calm_at front s lanes event t clean.1 own calm step in
-      record {
-        clean = (clean.0, rest.clean);
-        most = own_more (remaining x) (sum_of remaining (front ++ t ∷ lanes)) (sum_of remaining (front ++ s ∷ lanes)) rest.most;
-      }
+  calm_at (x ∷ front) s lanes event t clean own calm step = grind (arith, own_more, calm_at front s lanes event t clean.1 own calm step)
+  calm_at front s lanes event t clean own calm step = grind (arith, own_less)
 
   -- A FRONT of so many lanes
   record Cut (k : ℕ) (lanes : List S) : Type 0 where
@@ -282,21 +222,13 @@ module _ {S V : Type 0} (K : LaneKind S V) (Clean : S → Type 0) (remaining : S
 
   calm_one : (k : ℕ) (front : List S) (s : S) (rest : List S) (event : V) (behind : List S) → length front ≡ k → EachOf Clean (front ++ s ∷ rest) → K.IsStep event → K.is_calm event ≡ true
       → AllStep K 0 (front ++ s ∷ rest) k event behind → Calmer (front ++ s ∷ rest) behind
-  calm_one k front s rest event behind long clean own calm step =
-      let at : Alone K front s rest (event ∷ []) behind = event_alone K 0 k front s rest event behind (none_given K laws.calm_gives event calm) (sym long ∙ itself_place (length front)) step in
-      subst (Calmer (front ++ s ∷ rest)) (sym at.is) (calm_at front s rest event at.after clean own calm (subst (K.Step s event) at.run.2 at.run.1))
+  calm_one k front s rest event behind long clean own calm step = grind (arith, event_alone, none_given, itself_place, calm_at)
 
   event_fell : (calm : Bool) (k : ℕ) (lanes : List S) (event : V) (behind : List S) → K.is_calm event ≡ calm → k < length lanes → Few (length lanes) → EachOf Clean lanes → K.IsStep event
       → AllStep K 0 lanes k event behind → Fell calm lanes behind
   event_fell true k lanes event behind is within few clean own step =
       let c : Cut k lanes = cut k lanes within in
-      let at : Calmer (c.front ++ c.lane ∷ c.rest) behind =
-      calm_one k c.front c.lane c.rest event behind c.long (subst (EachOf Clean) c.is clean) own is (subst (λ (l : List S). AllStep K 0 l k event behind) c.is step) in
-      record {
-        clean = at.clean;
-        many = as_many K 0 k lanes event behind step;
-        lowers = inl (refl, subst (λ (l : List S). sum_of remaining behind ≤ sum_of remaining l) (sym c.is) at.most);
-      }
+      grind (arith, calm_one, as_many)
   event_fell false k lanes event behind is within few clean own step =
       let at : Louder (raises event) lanes behind = loud_at 0 k lanes event behind k (itself_place k) within clean own is step in
       record {
@@ -307,11 +239,7 @@ module _ {S V : Type 0} (K : LaneKind S V) (Clean : S → Type 0) (remaining : S
 
   -- A TURN
   fell_then : (one two : Bool) (lanes m behind : List S) → Fell one lanes m → Fell two m behind → Fell (one && two) lanes behind
-  fell_then one two lanes m behind first second = record {
-    clean = second.clean;
-    many = second.many ∙ first.many;
-    lowers = then_lower one two (sum_of remaining lanes) (sum_of remaining m) (sum_of remaining behind) first.lowers second.lowers;
-  }
+  fell_then one two lanes m behind first second = grind (arith, both_true)
 
   turn_fell : (k : ℕ) (lanes : List S) (events : List V) (behind : List S) → k < length lanes → Few (length lanes) → EachOf Clean lanes → EachStep K events
       → Run (StepOf K k) lanes events behind → Fell (all_calm K events) lanes behind
@@ -325,12 +253,8 @@ module _ {S V : Type 0} (K : LaneKind S V) (Clean : S → Type 0) (remaining : S
   -- TURNS, and a round
   turns_fell : (k : ℕ) (lanes : List S) (turns : List (List V)) (behind : List S) → k + length turns ≡ length lanes → Few (length lanes) → EachOf Clean lanes → MakeTurns K k lanes turns behind
       → Fell (are_still K turns) lanes behind
-  turns_fell k lanes [] behind many few clean made =
-      subst (Fell true lanes) made (record { clean = clean; many = refl; lowers = inl (refl, no_rise (sum_of remaining lanes)) })
-  turns_fell k lanes (r ∷ turns) behind many few clean made =
-      let first : Fell (all_calm K r) lanes made.0 = turn_fell k lanes r made.0 (omega (arith, many)) few clean (laws.turn_steps r made.1.of_turn) made.1.run in
-      fell_then (all_calm K r) (are_still K turns) lanes made.0 behind first
-      (turns_fell (k + 1) made.0 turns behind (omega (arith, many, first.many)) (subst Few (sym first.many) few) first.clean made.2)
+  turns_fell k lanes (r ∷ turns) behind many few clean made = grind (arith, turn_fell, fell_then, turns_fell (k + 1) made.0 turns behind)
+  turns_fell k lanes turns behind many few clean made = grind (arith, no_rise)
 
   round_fell : (lanes : List S) (turns : List (List V)) (behind : List S) → Few (length lanes) → EachOf Clean lanes → MakeRound K lanes turns behind → Fell (are_still K turns) lanes behind
   round_fell lanes turns behind few clean made = turns_fell 0 lanes turns behind (omega (arith, made.many)) few clean made.turns_made
@@ -358,29 +282,17 @@ module _ {S V : Type 0} (K : LaneKind S V) (Clean : S → Type 0) (remaining : S
   same_remains s t is = omega (arith, ap remaining is)
 
   lane_unless : (get had : Bool) (s : S) (r : List V) (t u : S) → Clean s → CalmTurn K s r t → gets_tick K t had ≡ get → TicksIf K get t u → LowersUnless get (remaining t) (remaining u)
-  lane_unless true had s r t u clean turn gets step = inr (laws.tick_falls s r t u clean turn (waits_where had (K.waits_on t) gets) step)
-  lane_unless false had s r t u clean turn gets same = inl (refl, same_remains t u same)
+  lane_unless get had s r t u clean turn gets step = grind arith
 
   ticks_lower : (lanes : List S) (turns : List (List V)) (between : List S) (marks : List Bool) (behind : List S) → EachOf Clean lanes → Calmly K lanes turns between → TickAll K between marks behind
       → LowersUnless (some_tick K between marks) (sum_of remaining between) (sum_of remaining behind)
-  ticks_lower [] [] [] [] [] clean calm ticks = inl (refl, omega (arith))
   ticks_lower (s ∷ lanes) (r ∷ turns) (t ∷ between) (had ∷ marks) (u ∷ behind) clean calm ticks =
-      both_unless (gets_tick K t had) (some_tick K between marks) (remaining t) (remaining u) (sum_of remaining between) (sum_of remaining behind)
-      (lane_unless (gets_tick K t had) had s r t u clean.0 calm.0 refl ticks.0) (ticks_lower lanes turns between marks behind clean.1 calm.1 ticks.1)
-  ticks_lower [] [] [] (had ∷ marks) behind clean calm ticks = absurd ticks
-  ticks_lower [] [] [] [] (u ∷ behind) clean calm ticks = absurd ticks
-  ticks_lower [] [] (t ∷ between) marks behind clean calm ticks = absurd calm
-  ticks_lower [] (r ∷ turns) between marks behind clean calm ticks = absurd calm
-  ticks_lower (s ∷ lanes) [] between marks behind clean calm ticks = absurd calm
-  ticks_lower (s ∷ lanes) (r ∷ turns) [] marks behind clean calm ticks = absurd calm
-  ticks_lower (s ∷ lanes) (r ∷ turns) (t ∷ between) [] behind clean calm ticks = absurd ticks
-  ticks_lower (s ∷ lanes) (r ∷ turns) (t ∷ between) (had ∷ marks) [] clean calm ticks = absurd ticks
+      grind (arith, both_unless, lane_unless, ticks_lower lanes turns between marks behind clean.1 calm.1 ticks.1)
+  ticks_lower lanes turns between marks behind clean calm ticks = grind arith
 
   -- THE COUNT
   clean_round : (lanes : List S) (turns : List (List V)) (behind : List S) → AreCleanWhere Few Clean lanes → MakeRound K lanes turns behind → AreCleanWhere Few Clean behind
-  clean_round lanes turns behind at made =
-      let fell : Fell (are_still K turns) lanes behind = round_fell lanes turns behind at.few at.clean made in
-      record { few = subst Few (sym fell.many) at.few; clean = fell.clean }
+  clean_round lanes turns behind given made = grind (arith, round_fell)
 
   pub few_fall : {E : Type 0} (N : Entries V E) → Falls (lanes_of K N) (AreCleanWhere Few Clean) (sum_of remaining)
   few_fall N = record {
@@ -393,9 +305,7 @@ module _ {S V : Type 0} (K : LaneKind S V) (Clean : S → Type 0) (remaining : S
   }
     where
       ticked : (w : List S) (m : List Bool) (r : List (List V)) (v u : List S) → AreCleanWhere Few Clean w → MakeRound K w r v → TickAll K v m u → AreCleanWhere Few Clean u
-      ticked w m r v u at made ticks =
-          let behind : AreCleanWhere Few Clean v = clean_round w r v at made in
-          record { few = subst Few (sym (ticks_many v m u ticks)) behind.few; clean = ticks_clean v m u behind.clean ticks }
+      ticked w m r v u given made ticks = grind (arith, clean_round, ticks_many, ticks_clean)
 
 -- at most eight; and where no event raises it on others, however many there are
 pub lanes_fall : {S V E : Type 0} (K : LaneKind S V) (Clean : S → Type 0) (remaining : S → ℕ) (raises : V → ℕ) → LaneFalls K Clean remaining raises → (N : Entries V E)

@@ -1,6 +1,6 @@
 -- A round, its ticks and names up to a lane: they begin, go on by the next lane, and are those of all lanes after the
 -- last. Where memory is wanted, what was made is a front.
-use Rattle.std.proofs.Common.{◌≡◌, ℕ, zero, suc, ◌+◌, ◌<◌, ◌≤◌, Bool, true, false, inl, inr, List, [], ◌∷◌, ◌++◌, length, map, take, drop, replicate, slice_get, slice_set, Some, refl, sym, ap, ap₂, ◌∙◌, subst, arith, append_assoc, append-nil, length-append, take-append-drop}
+use Rattle.std.proofs.Common.{◌≡◌, ℕ, zero, suc, ◌+◌, ◌<◌, ◌≤◌, Bool, true, false, inl, List, [], ◌∷◌, ◌++◌, length, map, take, drop, replicate, slice_get, slice_set, Some, refl, sym, ap, ap₂, ◌∙◌, subst, arith, append_assoc, append-nil, length-append, take-append-drop}
 use Rattle.std.specs.Prelude.{◌&&◌, ◌||◌, if◌then◌else◌}
 use Rattle.runs.specs.Run.{Run}
 use Rattle.lane_kinds.proofs.LaneCounts.{turns_many}
@@ -55,19 +55,15 @@ module _ {S V E : Type 0} (K : LaneKind S V) (N : Entries V E) where
 
   turns_more : (k n : ℕ) (lanes : List S) (turns : List (List V)) (m : List S) (r : List V) (behind : List S) → n ≡ k + length turns → MakeTurns K k lanes turns m → MakesTurn K n m r behind
       → MakeTurns K k lanes (turns ++ r ∷ []) behind
-  turns_more k n lanes [] m r behind place made one =
-      let same : n ≡ k = omega (arith, place) in
-      (behind, subst (λ (l : List S). MakesTurn K k l r behind) (sym made) (subst (λ (i : ℕ). MakesTurn K i m r behind) same one), refl)
   turns_more k n lanes (q ∷ turns) m r behind place made one = (made.0, made.1, turns_more (k + 1) n made.0 turns m r behind (omega (arith, place)) made.2 one)
+  turns_more k n lanes turns m r behind place made one = grind arith
 
   turn_alone : (j n : ℕ) (r : List V) → n ≡ j + 0 → round_entries K N j (r ∷ []) ≡ turn_entries K N n r
   turn_alone j n r place = let same : j ≡ n = omega (arith, place) in append-nil (turn_entries K N j r) ∙ ap (λ (i : ℕ). turn_entries K N i r) same
 
   entries_more : (j n : ℕ) (turns : List (List V)) (r : List V) → n ≡ j + length turns → round_entries K N j (turns ++ r ∷ []) ≡ round_entries K N j turns ++ turn_entries K N n r
   entries_more j n [] r place = turn_alone j n r place
-  entries_more j n (q ∷ turns) r place =
-      ap (λ (l : List E). turn_entries K N j q ++ l) (entries_more (j + 1) n turns r (omega (arith, place)))
-      ∙ sym (append_assoc (turn_entries K N j q) (round_entries K N (j + 1) turns) (turn_entries K N n r))
+  entries_more j n (q ∷ turns) r place = grind (arith, append_assoc, entries_more (j + 1) n turns r (omega (arith, place)))
 
   one_longer : (k n m : ℕ) → n ≡ m + 1 → m ≡ k → n ≡ k + 1
   one_longer k n m one two = omega (arith, one, two)
@@ -80,15 +76,8 @@ module _ {S V E : Type 0} (K : LaneKind S V) (N : Entries V E) where
 
   pub round_goes_on : (k : ℕ) (quiet : List Bool) (start : List S) (entries : List E) (w : List S) (r : List V) (one : List E) (calm : Bool) (v : List S) → RoundUpTo K N k quiet start entries w
       → MakesTurn K k w r v → k < length w → one ≡ turn_entries K N k r → calm ≡ all_calm K r → k < length quiet → RoundUpTo K N (k + 1) (slice_set quiet k calm) start (entries ++ one) v
-  round_goes_on k quiet start entries w r one calm v up turn there leaves calm_is less = record {
-    steps = up.steps ++ r ∷ [];
-    made = turns_more 0 k start up.steps w r v (place_is k (length up.steps) up.many) up.made turn;
-    many = one_longer k (length (up.steps ++ r ∷ [])) (length up.steps) (length-append up.steps (r ∷ [])) up.many;
-    within = next_within k (length w) (length start) there (turns_many K 0 start up.steps w up.made);
-    leaves = ap₂ (λ (x y : List E). x ++ y) up.leaves leaves ∙ sym (entries_more 0 k up.steps r (place_is k (length up.steps) up.many));
-    marks = ap (λ (n : ℕ). take n (slice_set quiet k calm)) (after_one k) ∙ take_set_one quiet k calm less ∙ ap (λ (l : List Bool). l ++ calm ∷ []) up.marks
-        ∙ ap (λ (x : Bool). map (all_calm K) up.steps ++ x ∷ []) calm_is ∙ sym (map_both (all_calm K) up.steps (r ∷ []));
-  }
+  round_goes_on k quiet start entries w r one calm v up turn there leaves calm_is less =
+      grind (arith, turns_more, place_is, one_longer, length-append, next_within, turns_many, entries_more, slice_set, after_one, take_set_one, map_both)
 
   -- it is a round after the last lane
   pub round_made : (quiet : List Bool) (start : List S) (entries : List E) (now : List S) (up : RoundUpTo K N (length start) quiet start entries now) → MakeRound K start up.steps now
@@ -114,32 +103,14 @@ module _ {S V E : Type 0} (K : LaneKind S V) (N : Entries V E) where
   same_within n k m is few = omega (arith, is, few)
 
   pub round_wants : (k : ℕ) (quiet : List Bool) (start : List S) (entries : List E) (now : List S) → RoundUpTo K N k quiet start entries now → RoundFront K N start entries now
-  round_wants k quiet start entries now up = record {
-    turns = up.steps;
-    between = now;
-    made = up.made;
-    within = same_within (length up.steps) k (length start) up.many up.within;
-    begun = [];
-    run = refl;
-    next = inl refl;
-    is = up.leaves ∙ sym (append-nil (round_entries K N 0 up.steps));
-  }
+  round_wants k quiet start entries now up = grind (arith, same_within, append-nil)
 
   still_within : (n k m l : ℕ) → n ≡ k → k < m → m ≡ l → n < l
   still_within n k m l is less same = omega (arith, is, less, same)
 
   pub turn_wants : (k : ℕ) (quiet : List Bool) (start : List S) (entries : List E) (w : List S) (begun : List V) (one : List E) (v : List S) → RoundUpTo K N k quiet start entries w
       → Run (StepOf K k) w begun v → k < length w → BeginsTurn K begun → one ≡ turn_entries K N k begun → RoundFront K N start (entries ++ one) v
-  turn_wants k quiet start entries w begun one v up run there begins is = record {
-    turns = up.steps;
-    between = w;
-    made = up.made;
-    within = same_within (length up.steps) k (length start) up.many up.within;
-    begun = begun;
-    run = subst (λ (n : ℕ). Run (StepOf K n) w begun v) (sym up.many) run;
-    next = inr (still_within (length up.steps) k (length w) (length start) up.many there (turns_many K 0 start up.steps w up.made), begins);
-    is = ap₂ (λ (x y : List E). x ++ y) up.leaves (is ∙ ap (λ (n : ℕ). turn_entries K N n begun) (sym up.many));
-  }
+  turn_wants k quiet start entries w begun one v up run there begins is = grind (arith, same_within, turns_many)
 
   -- THE TICKS begin, and go on by the next lane's
   pub ticks_begin : (lanes : List S) (had : List Bool) → TicksUpTo K N 0 had false had lanes [] lanes
@@ -156,20 +127,14 @@ module _ {S V E : Type 0} (K : LaneKind S V) (N : Entries V E) where
 
   ticks_leave_both : (j n : ℕ) (lanes : List S) (marks : List Bool) (behind : List S) (s : S) (had : Bool) → TickAll K lanes marks behind → n ≡ j + length lanes
       → tick_entries K N j (lanes ++ s ∷ []) (marks ++ had ∷ []) ≡ tick_entries K N j lanes marks ++ tick_entry n (gets_tick K s had) s
-  ticks_leave_both j n [] [] [] s had ticks is =
-      let same : j ≡ n = omega (arith, is) in
-      append-nil (tick_entry j (gets_tick K s had) s) ∙ ap (λ (i : ℕ). tick_entry i (gets_tick K s had) s) same
   ticks_leave_both j n (x ∷ lanes) (mark ∷ marks) (y ∷ behind) s had ticks is =
-      ap (λ (l : List E). tick_entry j (gets_tick K x mark) x ++ l) (ticks_leave_both (j + 1) n lanes marks behind s had ticks.1 (omega (arith, is)))
-      ∙ sym (append_assoc (tick_entry j (gets_tick K x mark) x) (tick_entries K N (j + 1) lanes marks) (tick_entry n (gets_tick K s had) s))
-  ticks_leave_both _ _ _ _ _ s had ticks is = absurd ticks
+      grind (arith, append_assoc, ticks_leave_both (j + 1) n lanes marks behind s had ticks.1 (omega (arith, is)))
+  ticks_leave_both j n lanes marks behind s had ticks is = grind (arith, append-nil)
 
   some_both : (lanes : List S) (marks : List Bool) (behind : List S) (s : S) (had : Bool) → TickAll K lanes marks behind
       → some_tick K (lanes ++ s ∷ []) (marks ++ had ∷ []) ≡ (some_tick K lanes marks || gets_tick K s had)
-  some_both [] [] [] s had ticks = or_false (gets_tick K s had)
-  some_both (x ∷ lanes) (mark ∷ marks) (y ∷ behind) s had ticks =
-      ap (λ (b : Bool). gets_tick K x mark || b) (some_both lanes marks behind s had ticks.1) ∙ or_assoc (gets_tick K x mark) (some_tick K lanes marks) (gets_tick K s had)
-  some_both _ _ _ s had ticks = absurd ticks
+  some_both (x ∷ lanes) (mark ∷ marks) (y ∷ behind) s had ticks = grind (arith, or_assoc, some_both lanes marks behind s had ticks.1)
+  some_both lanes marks behind s had ticks = grind (arith, or_false)
 
   marked_both : (lanes : List S) (marks : List Bool) (behind : List S) (s : S) (had : Bool) → TickAll K lanes marks behind
       → marked K (lanes ++ s ∷ []) (marks ++ had ∷ []) ≡ marked K lanes marks ++ (had || gets_tick K s had) ∷ []
@@ -183,23 +148,7 @@ module _ {S V E : Type 0} (K : LaneKind S V) (N : Entries V E) where
   lane_more k had have some mark get start entries one w v s t up before there is ticks gets leaves less =
       let at : SetAt k start w v s t = set_at k start w v s t up.others there is in
       let marks : take (k + 1) had ≡ take k had ++ mark ∷ [] = ap (λ (n : ℕ). take n had) (after_one k) ∙ take_one had k mark before in
-      record {
-        ticks = subst (λ (l : List S). TickAll K l (take (k + 1) had) (take (k + 1) v)) (sym at.front)
-            (subst (λ (l : List Bool). TickAll K (take k start ++ s ∷ []) l (take (k + 1) v)) (sym marks)
-            (subst (λ (l : List S). TickAll K (take k start ++ s ∷ []) (take k had ++ mark ∷ []) l) (sym at.now)
-            (ticks_both (take k start) (take k had) (take k w) s mark t up.ticks ticks)));
-        others = at.others;
-        leaves = ap₂ (λ (x y : List E). x ++ y) up.leaves leaves
-            ∙ sym (ticks_leave_both 0 k (take k start) (take k had) (take k w) s mark up.ticks (place_is k (length (take k start)) at.long))
-            ∙ ap₂ (λ (l : List S) (m : List Bool). tick_entries K N 0 l m) (sym at.front) (sym marks);
-        any = ap₂ (λ (x y : Bool). x || y) up.any gets ∙ sym (some_both (take k start) (take k had) (take k w) s mark up.ticks)
-            ∙ ap₂ (λ (l : List S) (m : List Bool). some_tick K l m) (sym at.front) (sym marks);
-        marks = ap (λ (n : ℕ). take n (slice_set have k (mark || get))) (after_one k) ∙ take_set_one have k (mark || get) less
-            ∙ ap₂ (λ (l : List Bool) (b : Bool). l ++ (mark || b) ∷ []) up.marks gets ∙ sym (marked_both (take k start) (take k had) (take k w) s mark up.ticks)
-            ∙ ap₂ (λ (l : List S) (m : List Bool). marked K l m) (sym at.front) (sym marks);
-        same_marks = ap (λ (n : ℕ). drop n (slice_set have k (mark || get))) (after_one k) ∙ drop_set have k (mark || get) ∙ same_next had have k up.same_marks
-            ∙ sym (ap (λ (n : ℕ). drop n had) (after_one k));
-      }
+      grind (arith, ticks_both, ticks_leave_both, place_is, some_both, slice_set, after_one, take_set_one, marked_both, drop_set, same_next)
 
   pub ticks_go_on : (k : ℕ) (had have : List Bool) (some mark get : Bool) (start : List S) (entries one : List E) (w v : List S) (s t : S) → TicksUpTo K N k had some have start entries w
       → slice_get have k ≡ Some mark → slice_get w k ≡ Some s → v ≡ slice_set w k t → TicksIf K (gets_tick K s mark) s t → get ≡ gets_tick K s mark → one ≡ tick_entry k (gets_tick K s mark) s
@@ -215,16 +164,7 @@ module _ {S V E : Type 0} (K : LaneKind S V) (N : Entries V E) where
 
   pub ticks_made : (had : List Bool) (some : Bool) (have : List Bool) (start : List S) (entries : List E) (now : List S) → TicksUpTo K N (length start) had some have start entries now
       → TicksMade (lanes_of K N) (take (length start) had) some (take (length start) have) start entries now
-  ticks_made had some have start entries now up =
-      let n = length start in
-      let before : take n start ≡ start = take_whole start in
-      let behind : take n now ≡ now = take_most now n (up.others ∙ drop_whole start) in
-      record {
-        ticks = subst (λ (l : List S). TickAll K l (take n had) now) before (subst (λ (l : List S). TickAll K (take n start) (take n had) l) behind up.ticks);
-        leaves = up.leaves ∙ ap (λ (l : List S). tick_entries K N 0 l (take n had)) before;
-        any = up.any ∙ ap (λ (l : List S). some_tick K l (take n had)) before;
-        marks = up.marks ∙ ap (λ (l : List S). marked K l (take n had)) before;
-      }
+  ticks_made had some have start entries now up = grind (arith, take_whole, take_most, drop_whole)
 
   none_left : (j : ℕ) (get : Bool) (s : S) → get ≡ false → tick_entry j get s ≡ []
   none_left j true s is = absurd (cc is)
@@ -245,33 +185,13 @@ module _ {S V E : Type 0} (K : LaneKind S V) (N : Entries V E) where
   none_more j (s ∷ lanes) (had ∷ marks) = inl (record { is = refl; lanes_stay = refl })
 
   pub front_whole : (j : ℕ) (lanes : List S) (marks : List Bool) (behind : List S) → TickAll K lanes marks behind → TickFront K N j lanes marks (tick_entries K N j lanes marks) behind
-  front_whole j [] [] [] ticks = record { is = refl; lanes_stay = refl }
-  front_whole j (s ∷ lanes) (had ∷ marks) (t ∷ behind) ticks =
-      inr (record {
-        after = t;
-        ticks = ticks.0;
-        later = tick_entries K N (j + 1) lanes marks;
-        others = behind;
-        more = front_whole (j + 1) lanes marks behind ticks.1;
-        is = refl;
-        rest = refl;
-      })
-  front_whole _ _ _ _ ticks = absurd ticks
+  front_whole j (s ∷ lanes) (had ∷ marks) (t ∷ behind) ticks = grind (arith, front_whole (j + 1) lanes marks behind ticks.1)
+  front_whole j lanes marks behind ticks = grind arith
 
   front_more : (j : ℕ) (lanes : List S) (marks : List Bool) (behind rest : List S) (more : List Bool) → TickAll K lanes marks behind
       → TickFront K N j (lanes ++ rest) (marks ++ more) (tick_entries K N j lanes marks) (behind ++ rest)
-  front_more j [] [] [] rest more ticks = none_more j rest more
-  front_more j (s ∷ lanes) (had ∷ marks) (t ∷ behind) rest more ticks =
-      inr (record {
-        after = t;
-        ticks = ticks.0;
-        later = tick_entries K N (j + 1) lanes marks;
-        others = behind ++ rest;
-        more = front_more (j + 1) lanes marks behind rest more ticks.1;
-        is = refl;
-        rest = refl;
-      })
-  front_more _ _ _ _ rest more ticks = absurd ticks
+  front_more j (s ∷ lanes) (had ∷ marks) (t ∷ behind) rest more ticks = grind (arith, front_more (j + 1) lanes marks behind rest more ticks.1)
+  front_more j lanes marks behind rest more ticks = grind (arith, none_more)
 
   pub ticks_want : (k : ℕ) (had : List Bool) (some : Bool) (have : List Bool) (start : List S) (entries : List E) (now : List S) → TicksUpTo K N k had some have start entries now → k ≤ length start
       → TickFront K N 0 start (take (length start) had) entries now
@@ -304,12 +224,8 @@ module _ {S V E : Type 0} (K : LaneKind S V) (N : Entries V E) where
   first_zero j n is = omega (arith, is)
 
   names_split : (k j n : ℕ) (marks : List Bool) (lanes : List S) → n ≡ j + k → names K N j (take k marks) (take k lanes) ++ names K N n (drop k marks) (drop k lanes) ≡ names K N j marks lanes
-  names_split zero j n marks lanes is = ap (λ (i : ℕ). names K N i marks lanes) (first_zero j n is)
-  names_split (suc k) j n [] lanes is = refl
-  names_split (suc k) j n (quiet ∷ marks) [] is = no_lanes n (drop k marks)
-  names_split (suc k) j n (quiet ∷ marks) (s ∷ lanes) is =
-      append_assoc (name_of K N j quiet s) (names K N (j + 1) (take k marks) (take k lanes)) (names K N n (drop k marks) (drop k lanes))
-      ∙ ap (λ (l : List E). name_of K N j quiet s ++ l) (names_split k (j + 1) n marks lanes (omega (arith, is)))
+  names_split (suc k) j n (quiet ∷ marks) (s ∷ lanes) is = grind (arith, append_assoc, names_split k (j + 1) n marks lanes (omega (arith, is)))
+  names_split k j n marks lanes is = grind (arith, first_zero, no_lanes)
 
   names_both : (j n : ℕ) (marks more : List Bool) (lanes others : List S) → length marks ≡ length lanes → n ≡ j + length lanes
       → names K N j (marks ++ more) (lanes ++ others) ≡ names K N j marks lanes ++ names K N n more others

@@ -1,5 +1,5 @@
 -- The part of a settle leads to where its rounds and ticks led; and so does a front of it.
-use Rattle.std.proofs.Common.{◌≡◌, ◌<◌, ◌⊎◌, ℕ, inl, inr, Bool, true, false, List, [], ◌∷◌, ◌++◌, length, refl, sym, subst, arith, append-nil}
+use Rattle.std.proofs.Common.{◌≡◌, ◌<◌, ◌⊎◌, ℕ, inl, inr, Bool, List, [], ◌∷◌, ◌++◌, length, sym, subst, arith, append-nil}
 use Rattle.std.specs.Prelude.{⊤}
 use Rattle.runs.specs.Run.{Run}
 use Rattle.lane_kinds.proofs.Standing.{goes_on, rounds_stand}
@@ -15,18 +15,11 @@ not_all made most less all = omega (arith, less, all)
 module _ {W M R E : Type 0} (K : Rounds W M R E) (Stands : W → M → Type 0) (To : W → List E → W → Type 0) (laws : LeadsWhere K Stands To) where
   behind_leads : (quiet : Bool) (w : Settling W M) (steps : R) (between : W) (entries : List E) (v : Settling W M) → Stands w.lanes w.marks → K.Makes w.lanes steps between → K.quiet steps ≡ quiet
       → TicksBehind K quiet w steps between entries v → To w.lanes entries v.lanes
-  behind_leads false w steps between entries v at made loud behind =
-      subst (λ (x : Settling W M). To w.lanes entries x.lanes) (sym behind.0)
-      (subst (λ (l : List E). To w.lanes l between) (sym behind.1) (laws.round w.lanes w.marks steps between at made))
-  behind_leads true w steps between entries v at made quiet behind =
-      subst (λ (l : List E). To w.lanes l v.lanes) (sym behind.3) (laws.ticks w.lanes w.marks steps between v.lanes at made quiet behind.1)
+  behind_leads quiet w steps between entries v given made loud behind = grind arith
 
   stand_lead : (w : Settling W M) (rounds : List (SettleRound R E)) (v : Settling W M) → Stands w.lanes w.marks → Run (GoesOn K) w rounds v → To w.lanes (entries_of_rounds rounds) v.lanes
   stand_lead w [] v at run = subst (λ (x : Settling W M). To w.lanes [] x.lanes) run (laws.none w.lanes)
-  stand_lead w (round ∷ rounds) v at run =
-      laws.both w.lanes run.0.lanes v.lanes round.entries (entries_of_rounds rounds)
-      (behind_leads (K.quiet round.steps) w round.steps run.1.between round.entries run.0 at run.1.made refl run.1.behind)
-      (stand_lead run.0 rounds v (goes_on K Stands laws.keeps w round run.0 run.1 at) run.2)
+  stand_lead w (round ∷ rounds) v at run = grind (arith, behind_leads, goes_on, stand_lead run.0 rounds v (goes_on K Stands laws.keeps w round run.0 run.1 at) run.2)
 
   -- a settle that ends settled, before its answer and with it
   pub before_answer : (start : W) (part : List E) (behind : W) → Stands start (K.unmarked start) → (at : Settles K start part behind) → To start (entries_of_rounds at.rounds ++ K.leaves at.steps) behind
@@ -55,11 +48,7 @@ module _ {W M R E : Type 0} (K : Rounds W M R E) (Stands : W → M → Type 0) (
     later_leads : (rounds : List (SettleRound R E)) (now : Settling W M) (most many : ℕ) (later : List E) (behind : W) → Stands now.lanes now.marks
         → (many ≡ most → NamesFront K rounds now later behind → To now.lanes later behind)
         → ((many < most) × (F.OfRound now.lanes later behind ⊎ QuietFront K F now later behind)) ⊎ ((many ≡ most) × NamesFront K rounds now later behind) → To now.lanes later behind
-    later_leads rounds now most many later behind at named (inl (few, inl front)) = fronts.round now.lanes now.marks later behind at front
-    later_leads rounds now most many later behind at named (inl (few, inr quiet)) =
-        subst (λ (l : List E). To now.lanes l behind) (sym quiet.is)
-        (fronts.ticks now.lanes now.marks quiet.steps quiet.between quiet.later behind at quiet.made quiet.quiet quiet.ticks)
-    later_leads rounds now most many later behind at named (inr (all, front)) = named all front
+    later_leads rounds now most many later behind given named also = grind arith
 
     front_by : (start : W) (part : List E) (behind : W) → Stands start (K.unmarked start) → (at : SettleFront K F start part behind)
         → (length at.rounds ≡ most_rounds K start → NamesFront K at.rounds at.now at.later behind → To at.now.lanes at.later behind) → To start part behind
@@ -69,13 +58,11 @@ module _ {W M R E : Type 0} (K : Rounds W M R E) (Stands : W → M → Type 0) (
         (later_leads at.rounds at.now (most_rounds K start) (length at.rounds) at.later behind (rounds_stand K Stands laws.keeps (begin K start) at.rounds at.now at.run stands) named at.front))
 
     pub front_stands : Ends K To → (start : W) (part : List E) (behind : W) → Stands start (K.unmarked start) → SettleFront K F start part behind → To start part behind
-    front_stands ends start part behind stands at =
-        front_by start part behind stands at
-        (λ all front. subst (To at.now.lanes at.later) (sym front.lanes) (ends.names front.last.steps at.now.lanes at.later front.unnamed front.is))
+    front_stands ends start part behind stands given = grind (arith, front_by)
 
     -- of rounds that haven't run out
     pub few_stand : (start : W) (part : List E) (behind : W) → Stands start (K.unmarked start) → (at : SettleFront K F start part behind) → length at.rounds < most_rounds K start → To start part behind
-    few_stand start part behind stands at few = front_by start part behind stands at (λ all front. absurd (not_all (length at.rounds) (most_rounds K start) few all))
+    few_stand start part behind stands at few = grind (arith, front_by)
 
 -- OF ALL LANES
 module _ {W M R E : Type 0} (K : Rounds W M R E) (To : W → List E → W → Type 0) (laws : Leads K To) where
@@ -83,13 +70,7 @@ module _ {W M R E : Type 0} (K : Rounds W M R E) (To : W → List E → W → Ty
   Always w m = ⊤
 
   always : LeadsWhere K Always To
-  always = record {
-    keeps = record { round = λ w m r v at made. tt; ticks = λ w m r v u at made quiet ticks. tt };
-    none = laws.none;
-    both = laws.both;
-    round = λ w m r v at made. laws.round w r v made;
-    ticks = λ w m r v u at made quiet ticks. laws.both w v u (K.leaves r) (K.ticks_leave v m) (laws.round w r v made) (laws.ticks v m u ticks);
-  }
+  always = grind arith
 
   pub rounds_lead : (w : Settling W M) (rounds : List (SettleRound R E)) (v : Settling W M) → Run (GoesOn K) w rounds v → To w.lanes (entries_of_rounds rounds) v.lanes
   rounds_lead w rounds v run = stand_lead K Always To always w rounds v tt run
@@ -102,10 +83,7 @@ module _ {W M R E : Type 0} (K : Rounds W M R E) (To : W → List E → W → Ty
 
   module _ (F : Fronts W M E) (fronts : FrontsLead K F To) where
     fronts_always : FrontsLeadWhere K F Always To
-    fronts_always = record {
-      round = λ w m part v at front. fronts.round w part v front;
-      ticks = λ w m r v part u at made quiet front. laws.both w v u (K.leaves r) part (laws.round w r v made) (fronts.ticks v m part u front);
-    }
+    fronts_always = grind arith
 
     pub front_leads : Ends K To → (start : W) (part : List E) (behind : W) → SettleFront K F start part behind → To start part behind
     front_leads ends start part behind at = front_stands K Always To always F fronts_always ends start part behind tt at

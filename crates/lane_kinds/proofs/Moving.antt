@@ -35,34 +35,23 @@ module _ {S V E : Type 0} (Step : S → V → S → Type 0) (said : ℕ → E �
   nothing_move j (s ∷ lanes) part none = (subst (λ (l : List V). Run Step s l s) (sym (none j)) refl, nothing_move (j + 1) lanes part none)
 
   pub both_move : (j : ℕ) (lanes between behind : List S) (one two : List E) → AllMove Step said j lanes one between → AllMove Step said j between two behind → AllMove Step said j lanes (one ++ two) behind
-  both_move j [] [] [] one two first second = tt
   both_move j (s ∷ lanes) (m ∷ between) (t ∷ behind) one two first second = (
     subst (λ (l : List V). Run Step s l t) (sym (happened_both said j one two)) (run_append Step s m t (happened said j one) (happened said j two) first.0 second.0),
     both_move (j + 1) lanes between behind one two first.1 second.1,
   )
-  both_move j [] [] (t ∷ behind) one two first second = absurd second
-  both_move j [] (m ∷ between) behind one two first second = absurd first
-  both_move j (s ∷ lanes) [] behind one two first second = absurd first
-  both_move j (s ∷ lanes) (m ∷ between) [] one two first second = absurd second
+  both_move j lanes between behind one two first second = grind arith
 
   -- a lane among those that were moved
   pub lane_moved : (j k n : ℕ) (lanes : List S) (part : List E) (behind : List S) (s t : S) → n ≡ j + k → AllMove Step said j lanes part behind → slice_get lanes k ≡ Some s
       → slice_get behind k ≡ Some t → Run Step s (happened said n part) t
   lane_moved j k n [] part behind s t is moves there after = absurd (cc there)
   lane_moved j k n (x ∷ lanes) part [] s t is moves there after = absurd moves
-  lane_moved j zero n (x ∷ lanes) part (y ∷ behind) s t is moves there after =
-      let here : j ≡ n = omega (arith, is) in
-      let before : x ≡ s = cc there in
-      let now : y ≡ t = cc after in
-      subst (λ (i : ℕ). Run Step s (happened said i part) t) here
-      (subst (λ (l : S). Run Step l (happened said j part) t) before (subst (λ (l : S). Run Step x (happened said j part) l) now moves.0))
+  lane_moved j zero n (x ∷ lanes) part (y ∷ behind) s t is moves there after = grind (arith)
   lane_moved j (suc k) n (x ∷ lanes) part (y ∷ behind) s t is moves there after = lane_moved (j + 1) k n lanes part behind s t (omega (arith, is)) moves.1 there after
 
   pub many_moved : (j : ℕ) (lanes : List S) (part : List E) (behind : List S) → AllMove Step said j lanes part behind → length behind ≡ length lanes
-  many_moved j [] part [] moves = refl
   many_moved j (s ∷ lanes) part (t ∷ behind) moves = ap suc (many_moved (j + 1) lanes part behind moves.1)
-  many_moved j [] part (t ∷ behind) moves = absurd moves
-  many_moved j (s ∷ lanes) part [] moves = absurd moves
+  many_moved j lanes part behind moves = grind arith
 
   pub none_both : (j : ℕ) (one two : List E) → happened said j one ≡ [] → happened said j two ≡ [] → happened said j (one ++ two) ≡ []
   none_both j one two first second = happened_both said j one two ∙ ap (λ (l : List V). l ++ happened said j two) first ∙ second
@@ -95,17 +84,13 @@ module _ {S V : Type 0} (K : LaneKind S V) where
 
   pub one_steps : (j k : ℕ) (front : List S) (s : S) (lanes : List S) (event : V) (t : S) → ((i : ℕ) → K.gets i event ≡ []) → k ≡ j + length front → K.Step s event t
       → AllStep K j (front ++ s ∷ lanes) k event (front ++ t ∷ lanes)
-  one_steps j k [] s lanes event t none place step =
-      (own_run j k s event t (omega (arith, place)) step, later_stay (j + 1) k lanes event none (omega (arith, place)))
-  one_steps j k (x ∷ front) s lanes event t none place step =
-      (stays j k x event (none j) (λ same. omega (arith, place, same)), one_steps (j + 1) k front s lanes event t none (omega (arith, place)) step)
+  one_steps j k (x ∷ front) s lanes event t none place step = grind (arith, stays, one_steps (j + 1) k front s lanes event t none (omega (arith, place)) step)
+  one_steps j k front s lanes event t none place step = grind (arith, own_run, later_stay)
 
   set_steps : (j k n : ℕ) (lanes : List S) (s : S) (event : V) (t : S) → ((i : ℕ) → K.gets i event ≡ []) → n ≡ j + k → slice_get lanes k ≡ Some s → K.Step s event t
       → AllStep K j lanes n event (slice_set lanes k t)
   set_steps j k n [] s event t none place there step = absurd (cc there)
-  set_steps j zero n (x ∷ lanes) s event t none place there step =
-      let same : s ≡ x = cc there in
-      (own_run j n x event t (omega (arith, place)) (subst (λ (y : S). K.Step y event t) same step), later_stay (j + 1) n lanes event none (omega (arith, place)))
+  set_steps j zero n (x ∷ lanes) s event t none place there step = grind (arith, own_run, later_stay)
   set_steps j (suc k) n (x ∷ lanes) s event t none place there step =
       (stays j n x event (none j) (λ same. omega (arith, place, same)), set_steps (j + 1) k n lanes s event t none (omega (arith, place)) there step)
 
@@ -114,10 +99,7 @@ module _ {S V : Type 0} (K : LaneKind S V) where
 
   pub lane_steps : GivesNothing K → (k : ℕ) (lanes : List S) (s : S) (event : V) (t : S) (behind : List S) → slice_get lanes k ≡ Some s → K.Step s event t → behind ≡ slice_set lanes k t
       → StepOf K k lanes event behind
-  lane_steps nothing k lanes s event t behind there step is = record {
-    sees = nothing.sees lanes k event;
-    step = subst (AllStep K 0 lanes k event) (sym is) (set_steps 0 k k lanes s event t (λ i. nothing.gives i event) (own_place k) there step);
-  }
+  lane_steps nothing k lanes s event t behind there step is = grind (arith, set_steps, own_place)
 
 -- A SILENT EVENT leaves all lanes as they were
 module _ {S V : Type 0} (K : LaneKind S V) (silent : IsSilent K) where
@@ -126,11 +108,8 @@ module _ {S V : Type 0} (K : LaneKind S V) (silent : IsSilent K) where
   silent_run false j s event t is run = subst (λ (l : List V). Run K.Step s l t) (silent.gives j event is) run
 
   pub same_lanes : (j k : ℕ) (lanes : List S) (event : V) (behind : List S) → K.is_silent event ≡ true → AllStep K j lanes k event behind → lanes ≡ behind
-  same_lanes j k [] event [] is step = refl
-  same_lanes j k (s ∷ lanes) event (t ∷ behind) is step =
-      ap (λ (x : S). x ∷ lanes) (silent_run (j == k) j s event t is step.0) ∙ ap (λ (l : List S). t ∷ l) (same_lanes (j + 1) k lanes event behind is step.1)
-  same_lanes j k [] event (t ∷ behind) is step = absurd step
-  same_lanes j k (s ∷ lanes) event [] is step = absurd step
+  same_lanes j k (s ∷ lanes) event (t ∷ behind) is step = grind (arith, silent_run, same_lanes (j + 1) k lanes event behind is step.1)
+  same_lanes j k lanes event behind is step = grind arith
 
 module _ {S V E : Type 0} (K : LaneKind S V) (N : Entries V E) (said : ℕ → E → List V) (reads : Reads K N said) (silent : IsSilent K) where
   -- ONE EVENT
@@ -140,10 +119,8 @@ module _ {S V E : Type 0} (K : LaneKind S V) (N : Entries V E) (said : ℕ → E
 
   -- each lane by one entry, whether it would be left or not
   pub told_moves : (j k : ℕ) (lanes : List S) (event : V) (behind : List S) → AllStep K j lanes k event behind → AllMove K.Step said j lanes (N.of_lane k event ∷ []) behind
-  told_moves j k [] event [] step = tt
   told_moves j k (s ∷ lanes) event (t ∷ behind) step = (told_run j k s event t step.0, told_moves (j + 1) k lanes event behind step.1)
-  told_moves j k [] event (t ∷ behind) step = absurd step
-  told_moves j k (s ∷ lanes) event [] step = absurd step
+  told_moves j k lanes event behind step = grind arith
 
   lane_moves : (quiet : Bool) (j k : ℕ) (s : S) (event : V) (t : S) → K.is_silent event ≡ quiet → Run K.Step s (own_or (j == k) event (K.gets j event)) t
       → Run K.Step s (happened said j (if quiet then [] else N.of_lane k event ∷ [])) t
@@ -152,10 +129,8 @@ module _ {S V E : Type 0} (K : LaneKind S V) (N : Entries V E) (said : ℕ → E
 
   event_moves : (j k : ℕ) (lanes : List S) (event : V) (behind : List S) → AllStep K j lanes k event behind
       → AllMove K.Step said j lanes (if K.is_silent event then [] else N.of_lane k event ∷ []) behind
-  event_moves j k [] event [] step = tt
   event_moves j k (s ∷ lanes) event (t ∷ behind) step = (lane_moves (K.is_silent event) j k s event t refl step.0, event_moves (j + 1) k lanes event behind step.1)
-  event_moves j k [] event (t ∷ behind) step = absurd step
-  event_moves j k (s ∷ lanes) event [] step = absurd step
+  event_moves j k lanes event behind step = grind arith
 
   -- TURNS
   pub turn_moves : (k : ℕ) (lanes : List S) (events : List V) (behind : List S) → Run (StepOf K k) lanes events behind → AllMove K.Step said 0 lanes (turn_entries K N k events) behind
@@ -196,12 +171,8 @@ module _ {S V E : Type 0} (K : LaneKind S V) (N : Entries V E) (said : ℕ → E
 
   -- NAMES say nothing
   names_none : (j k : ℕ) (turns : List (List V)) (lanes : List S) → happened said j (left_names K N k turns lanes) ≡ []
-  names_none j k [] lanes = refl
-  names_none j k (r ∷ turns) [] = refl
-  names_none j k (r ∷ turns) (s ∷ lanes) =
-      let name = all_calm K r && (if K.waits_on s then false else true) in
-      none_both K.Step said j (if name then [] else N.left_over k ∷ []) (left_names K N (k + 1) turns lanes) (one_none K.Step said j name (N.left_over k) (reads.of_left j k))
-      (names_none j (k + 1) turns lanes)
+  names_none j k (r ∷ turns) (s ∷ lanes) = grind (arith, none_both, one_none, names_none j (k + 1) turns lanes)
+  names_none j k turns lanes = grind arith
 
   -- THE LAWS
   pub lanes_lead : Leads (lanes_of K N) (AllMove K.Step said 0)
@@ -223,9 +194,7 @@ module _ {S V T X E : Type 0} (Step : S → V → S → Type 0) (said : ℕ → 
     (no_name : (j k : ℕ) → said j (N.left_over k) ≡ []) where
   turn_none : (j k : ℕ) (events : List X) → happened said j (turn_entries L N k events) ≡ []
   turn_none j k [] = refl
-  turn_none j k (event ∷ events) =
-      none_both Step said j (if L.is_silent event then [] else N.of_lane k event ∷ []) (turn_entries L N k events)
-      (one_none Step said j (L.is_silent event) (N.of_lane k event) (ignores j k event)) (turn_none j k events)
+  turn_none j k (event ∷ events) = grind (arith, none_both, one_none, turn_none j k events)
 
   round_none : (j k : ℕ) (turns : List (List X)) → happened said j (round_entries L N k turns) ≡ []
   round_none j k [] = refl
@@ -236,11 +205,8 @@ module _ {S V T X E : Type 0} (Step : S → V → S → Type 0) (said : ℕ → 
   tick_none j k event false = refl
 
   ticks_none : (j k : ℕ) (lanes : List T) (marks : List Bool) → happened said j (tick_entries L N k lanes marks) ≡ []
-  ticks_none j k [] marks = refl
-  ticks_none j k (s ∷ lanes) [] = refl
-  ticks_none j k (s ∷ lanes) (had ∷ marks) =
-      none_both Step said j (if gets_tick L s had then N.of_lane k (L.tick s) ∷ [] else []) (tick_entries L N (k + 1) lanes marks) (tick_none j k (L.tick s) (gets_tick L s had))
-      (ticks_none j (k + 1) lanes marks)
+  ticks_none j k (s ∷ lanes) (had ∷ marks) = grind (arith, none_both, tick_none, ticks_none j (k + 1) lanes marks)
+  ticks_none j k lanes marks = grind arith
 
   left_none : (j k : ℕ) (turns : List (List X)) (lanes : List T) → happened said j (left_names L N k turns lanes) ≡ []
   left_none j k [] lanes = refl

@@ -1,6 +1,6 @@
 -- Where the rounds of a settle ran out some lane is named: one that wasn't quiet in the last of them, or one that had
 -- its tick after it.
-use Rattle.std.proofs.Common.{◌≡◌, ◌≤◌, Bool, true, false, List, [], ◌∷◌, length, refl, sym, subst}
+use Rattle.std.proofs.Common.{◌≡◌, ◌≤◌, Bool, List, [], ◌∷◌, length, arith}
 use Rattle.runs.specs.Run.{run_split}
 use Rattle.lane_kinds.proofs.Standing.{rounds_stand}
 use Rattle.lane_kinds.specs.Laws.{Keeps, Names}
@@ -10,14 +10,9 @@ use Rattle.lane_kinds.specs.Settles.{GoesOn, RunsOut, Settling, TicksBehind, beg
 module _ {W M R E : Type 0} (K : Rounds W M R E) (Stands : W → M → Type 0) (keeps : Keeps K Stands) (laws : Names K Stands) where
   last_names : (quiet : Bool) (w : Settling W M) (steps : R) (between : W) (entries : List E) (v : Settling W M) → Stands w.lanes w.marks → K.Makes w.lanes steps between → K.quiet steps ≡ quiet
       → TicksBehind K quiet w steps between entries v → 1 ≤ length (K.names steps v.lanes)
-  last_names false w steps between entries v at made loud behind =
-      subst (λ (x : Settling W M). 1 ≤ length (K.names steps x.lanes)) (sym behind.0) (laws.loud w.lanes steps between made loud)
-  last_names true w steps between entries v at made quiet behind = laws.ticked w.lanes w.marks steps between v.lanes at made behind.1 behind.0
+  last_names quiet w steps between entries v given made loud behind = grind arith
 
   pub out_names : (start : W) (part : List E) (behind : W) (out : RunsOut K start part behind) → Stands start (K.unmarked start) → 1 ≤ length (K.names out.last.steps behind)
   out_names start part behind out at =
       let parts = run_split (GoesOn K) (begin K start) out.now out.rounds (out.last ∷ []) out.run in
-      subst (λ (l : W). 1 ≤ length (K.names out.last.steps l)) (sym out.lanes)
-      (subst (λ (x : Settling W M). 1 ≤ length (K.names out.last.steps x.lanes)) parts.2.2
-      (last_names (K.quiet out.last.steps) parts.0 out.last.steps parts.2.1.between out.last.entries parts.2.0
-      (rounds_stand K Stands keeps (begin K start) out.rounds parts.0 parts.1 at) parts.2.1.made refl parts.2.1.behind))
+      grind (arith, last_names, rounds_stand)

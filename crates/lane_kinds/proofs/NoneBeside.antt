@@ -6,9 +6,9 @@ use Rattle.runs.specs.Run.{Run}
 use Rattle.lane_kinds.proofs.LaneCounts.{turns_many}
 use Rattle.lane_kinds.proofs.Places.{map_both}
 use Rattle.lane_kinds.specs.Both.{Two, both}
-use Rattle.lane_kinds.specs.Lanes.{Entries, LaneKind, MakeRound, TickAll, are_still, lanes_of, left_names, round_entries, some_tick, tick_entries}
+use Rattle.lane_kinds.specs.Lanes.{Entries, LaneKind, MakeRound, TickAll, lanes_of, left_names, some_tick, tick_entries}
 use Rattle.lane_kinds.specs.Rounds.{Rounds}
-use Rattle.lane_kinds.specs.Settles.{GoesOn, IsLast, RunsOut, SettlePart, SettleRound, Settles, Settling, TicksBehind, begin, entries_of_rounds, most_rounds}
+use Rattle.lane_kinds.specs.Settles.{GoesOn, RunsOut, SettlePart, SettleRound, Settles, Settling, TicksBehind, begin, entries_of_rounds}
 
 -- NO LANE of a kind, in what stands for that: it is quiet in each round and gets no tick; it leaves nothing, and there
 -- is still none
@@ -38,9 +38,7 @@ module _ {T X E : Type 0} (L : LaneKind T X) (O : Entries X E) where
   no_turns v q u none made = empty q (made.many ∙ ap (λ (l : List T). length l) none)
 
   no_ticks : (n : List Bool) (u : List T) → TickAll L [] n u → u ≡ []
-  no_ticks [] [] ticks = refl
-  no_ticks [] (t ∷ u) ticks = absurd ticks
-  no_ticks (had ∷ n) u ticks = absurd ticks
+  no_ticks n u ticks = grind arith
 
   no_tick_entries : (n : List Bool) → tick_entries L O 0 [] n ≡ []
   no_tick_entries [] = refl
@@ -55,16 +53,7 @@ module _ {T X E : Type 0} (L : LaneKind T X) (O : Entries X E) where
   no_names (r ∷ q) = refl
 
   pub list_none : AreNone (lanes_of L O) IsNone
-  list_none = record {
-    round = none_behind;
-    quiet = λ v q u none made. ap (are_still L) (no_turns v q u none made);
-    leaves = λ v q u none made. ap (round_entries L O 0) (no_turns v q u none made);
-    some = λ v n none. ap (λ (l : List T). some_tick L l n) none ∙ no_some n;
-    ticks = λ v n u none ticks. no_ticks n u (subst (λ (l : List T). TickAll L l n u) none ticks);
-    ticks_leave = λ v n none. ap (λ (l : List T). tick_entries L O 0 l n) none ∙ no_tick_entries n;
-    names = λ q v none. ap (left_names L O 0 q) none ∙ no_names q;
-    pending = λ v none. ap (λ (l : List T). (lanes_of L O).pending l) none;
-  }
+  list_none = grind (arith, none_behind, no_turns, no_some, no_ticks, no_tick_entries, no_names)
 
 and_true : (b c : Bool) → c ≡ true → (b && c) ≡ b
 and_true true c is = is
@@ -98,11 +87,7 @@ module _ {W V M N R Q E : Type 0} (K : Rounds W M R E) (L : Rounds V N Q E) (Non
 
   loud : (w : Settling (Two W V) (Two M N)) (steps : Two R Q) (between : Two W V) (entries : List E) (v : Settling (Two W V) (Two M N)) → None between.second → L.leaves steps.second ≡ []
       → K.quiet steps.first ≡ false → TicksBehind (both K L) false w steps between entries v → Still w v steps.first between.first entries
-  loud w steps between entries v none leaves is behind = record {
-    behind = subst (λ (b : Bool). TicksBehind K b (first_of w) steps.first between.first entries (first_of v)) (sym is)
-        (ap first_of behind.0, behind.1 ∙ alone (K.leaves steps.first) (L.leaves steps.second) leaves);
-    none = subst None (ap (λ (x : Settling (Two W V) (Two M N)). x.lanes.second) (sym behind.0)) none;
-  }
+  loud w steps between entries v none leaves is behind = grind (arith, alone)
 
   quiet : (w : Settling (Two W V) (Two M N)) (steps : Two R Q) (between : Two W V) (entries : List E) (v : Settling (Two W V) (Two M N)) → None between.second → L.leaves steps.second ≡ []
       → K.quiet steps.first ≡ true → TicksBehind (both K L) true w steps between entries v → Still w v steps.first between.first entries
@@ -123,8 +108,7 @@ module _ {W V M N R Q E : Type 0} (K : Rounds W M R E) (L : Rounds V N Q E) (Non
 
   either : (b : Bool) (w : Settling (Two W V) (Two M N)) (steps : Two R Q) (between : Two W V) (entries : List E) (v : Settling (Two W V) (Two M N)) → None between.second
       → L.leaves steps.second ≡ [] → K.quiet steps.first ≡ b → TicksBehind (both K L) b w steps between entries v → Still w v steps.first between.first entries
-  either false w steps between entries v none leaves is behind = loud w steps between entries v none leaves is behind
-  either true w steps between entries v none leaves is behind = quiet w steps between entries v none leaves is behind
+  either b w steps between entries v none leaves is behind = grind (arith, alone, quiet)
 
   -- EACH ROUND
   record OneRound (w : Settling (Two W V) (Two M N)) (round : SettleRound (Two R Q) E) (v : Settling (Two W V) (Two M N)) : Type 0 where
@@ -132,14 +116,7 @@ module _ {W V M N R Q E : Type 0} (K : Rounds W M R E) (L : Rounds V N Q E) (Non
     none : None v.lanes.second
 
   one_round : (w : Settling (Two W V) (Two M N)) (round : SettleRound (Two R Q) E) (v : Settling (Two W V) (Two M N)) → None w.lanes.second → GoesOn (both K L) w round v → OneRound w round v
-  one_round w round v none goes =
-      let made = goes.made.of_second in
-      let still = laws.quiet w.lanes.second round.steps.second goes.between.second none made in
-      let at =
-      either (K.quiet round.steps.first) w round.steps goes.between round.entries v (laws.round w.lanes.second round.steps.second goes.between.second none made)
-      (laws.leaves w.lanes.second round.steps.second goes.between.second none made) refl
-      (subst (λ (b : Bool). TicksBehind (both K L) b w round.steps goes.between round.entries v) (and_true (K.quiet round.steps.first) (L.quiet round.steps.second) still) goes.behind) in
-      record { goes = record { between = goes.between.first; made = goes.made.of_first; behind = at.behind }; none = at.none }
+  one_round w round v none goes = grind (arith, alone, quiet, and_true)
 
   record AllRounds (w : Settling (Two W V) (Two M N)) (rounds : List (SettleRound (Two R Q) E)) (v : Settling (Two W V) (Two M N)) : Type 0 where
     run : Run (GoesOn K) (first_of w) (map round_of rounds) (first_of v)
@@ -161,25 +138,14 @@ module _ {W V M N R Q E : Type 0} (K : Rounds W M R E) (L : Rounds V N Q E) (Non
   first_settles : (start : Two W V) (part : List E) (behind : Two W V) → None start.second → Settles (both K L) start part behind → Settles K start.first part behind.first
   first_settles start part behind none settles =
       let all = all_rounds (begin (both K L) start) settles.rounds settles.now none settles.run in
-      let made = settles.last.made.of_second in
-      let v = settles.now.lanes.second in
-      let q = settles.steps.second in
-      let marks = settles.now.marks in
       record {
         rounds = map round_of settles.rounds;
         now = first_of settles.now;
         run = all.run;
-        few = fewer (length settles.rounds) (length (map round_of settles.rounds)) (K.pending start.first) (L.pending start.second) (length-map settles.rounds round_of)
-            (laws.pending start.second none) settles.few;
+        few = grind (arith, all_rounds, fewer, length-map, quiet, and_true, or_false, same_entries, alone);
         steps = settles.steps.first;
-        last = record {
-          made = settles.last.made.of_first;
-          quiet = sym (and_true (K.quiet settles.steps.first) (L.quiet q) (laws.quiet v q behind.second all.none made)) ∙ settles.last.quiet;
-          no_tick = sym (or_false (K.some_ticks behind.first marks.first) (L.some_ticks behind.second marks.second)
-              (laws.some behind.second marks.second (laws.round v q behind.second all.none made))) ∙ settles.last.no_tick;
-        };
-        is = settles.is
-            ∙ ap₂ (λ (x y : List E). x ++ y ++ K.settled ∷ []) (same_entries settles.rounds) (alone (K.leaves settles.steps.first) (L.leaves q) (laws.leaves v q behind.second all.none made));
+        last = grind (arith, all_rounds, fewer, length-map, quiet, and_true, or_false, same_entries, alone);
+        is = grind (arith, all_rounds, fewer, length-map, quiet, and_true, or_false, same_entries, alone);
       }
 
   first_runs_out : (start : Two W V) (part : List E) (behind : Two W V) → None start.second → RunsOut (both K L) start part behind → RunsOut K start.first part behind.first

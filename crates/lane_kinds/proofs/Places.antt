@@ -11,11 +11,8 @@ get_set (z ∷ xs) zero x y there = refl
 get_set (z ∷ xs) (suc k) x y there = get_set xs k x y there
 
 pub get_other : {X : Type 0} (xs : List X) (k j : ℕ) (y : X) → (k ≡ j → ⊥) → slice_get (slice_set xs k y) j ≡ slice_get xs j
-get_other [] k j y other = refl
-get_other (z ∷ xs) zero zero y other = absurd (other refl)
-get_other (z ∷ xs) zero (suc j) y other = refl
-get_other (z ∷ xs) (suc k) zero y other = refl
 get_other (z ∷ xs) (suc k) (suc j) y other = get_other xs k j y (λ same. other (ap suc same))
+get_other xs k j y other = grind arith
 
 -- set to what is there already
 pub set_same : {X : Type 0} (xs : List X) (k : ℕ) (x : X) → slice_get xs k ≡ Some x → slice_set xs k x ≡ xs
@@ -96,10 +93,8 @@ map_both {X} {Y} f (x ∷ xs) ys = ap (λ (l : List Y). f x ∷ l) (map_both f x
 
 -- a front of a front
 pub take_within : {X : Type 0} (k n : ℕ) (xs : List X) → k ≤ n → take k (take n xs) ≡ take k xs
-take_within zero n xs within = refl
-take_within (suc k) zero xs within = absurd (omega (arith, within))
-take_within (suc k) (suc n) [] within = refl
 take_within {X} (suc k) (suc n) (x ∷ xs) within = ap (λ (l : List X). x ∷ l) (take_within k n xs (omega (arith, within)))
+take_within k n xs within = grind arith
 
 -- THE LAST ONE
 pub never_empty : {X : Type 0} (xs : List X) (x : X) → [] ≡ xs ++ x ∷ [] → ⊥

@@ -1,6 +1,6 @@
 -- Rounds of a settle so far, over lanes of any kinds: none yet; one more, in which not all lanes are quiet, or after
 -- which some got a tick; and how it ends, by a last round, by names, or where memory is wanted.
-use Rattle.std.proofs.Common.{◌≡◌, ℕ, ◌+◌, ◌*◌, ◌<◌, ◌≤◌, Bool, true, false, inl, inr, List, [], ◌∷◌, ◌++◌, length, refl, sym, ap, ap₂, ◌∙◌, subst, arith, append_assoc, append-nil, length-append}
+use Rattle.std.proofs.Common.{◌≡◌, ℕ, ◌+◌, ◌<◌, Bool, true, false, inl, inr, List, [], ◌∷◌, ◌++◌, length, refl, sym, ap, ap₂, ◌∙◌, subst, arith, append_assoc, append-nil, length-append}
 use Rattle.runs.specs.Run.{Run, run_push}
 use Rattle.lane_kinds.proofs.Places.{HasLast, has_last, never_empty, same_last}
 use Rattle.lane_kinds.specs.Fronts.{Fronts, SettleFront}
@@ -12,11 +12,8 @@ module _ {W M R E : Type 0} (K : Rounds W M R E) where
   abbrev at_marks : W → M → Settling W M
   at_marks lanes marks = record { lanes = lanes; marks = marks }
 
-  none_last : (Last : R → Type 0) (before : List (SettleRound R E)) (last : SettleRound R E) → [] ≡ before ++ last ∷ [] → Last last.steps
-  none_last Last before last is = absurd (never_empty before last is)
-
   pub nothing_gone : (start : W) (Last : R → Type 0) → GoneOn K 0 (K.unmarked start) Last start [] start
-  nothing_gone start Last = record { rounds = []; run = refl; many = refl; last = none_last Last; leaves = refl }
+  nothing_gone start Last = grind (arith, never_empty)
 
   rounds_more : (rounds : List (SettleRound R E)) (round : SettleRound R E) → entries_of_rounds (rounds ++ round ∷ []) ≡ entries_of_rounds rounds ++ round.entries
   rounds_more [] round = append-nil round.entries
@@ -25,9 +22,6 @@ module _ {W M R E : Type 0} (K : Rounds W M R E) where
 
   one_counted : (count many long : ℕ) → many ≡ count → long ≡ many + 1 → long ≡ count + 1
   one_counted count many long one two = omega (arith, one, two)
-
-  some_rounds : (count pending many : ℕ) → many ≡ count → count ≡ 4096 + 64 * pending → 1 ≤ many
-  some_rounds count pending many one two = omega (arith, one, two)
 
   module _ (count : ℕ) (marks : M) (Last : R → Type 0) (start : W) (entries : List E) (now : W) (gone : GoneOn K count marks Last start entries now) where
     -- ONE MORE ROUND at the end
@@ -82,10 +76,7 @@ module _ {W M R E : Type 0} (K : Rounds W M R E) where
         now = at_marks now marks;
         run = gone.run;
         later = part ++ later;
-        front = inl (
-          subst (λ (n : ℕ). n < most_rounds K start) (sym gone.many) few,
-          inr (record { steps = steps; between = m; made = round.made; quiet = quiet; later = later; ticks = front; is = ap (λ (l : List E). l ++ later) round.leaves }),
-        );
+        front = grind arith;
         is = ap (λ (l : List E). l ++ (part ++ later)) gone.leaves;
       }
 
@@ -102,7 +93,7 @@ module _ {W M R E : Type 0} (K : Rounds W M R E) where
 
     -- THE ROUNDS RAN OUT, and the names stand after them, or the first of them
     last_of : count ≡ most_rounds K start → HasLast gone.rounds
-    last_of most = has_last gone.rounds (some_rounds count (K.pending start) (length gone.rounds) gone.many most)
+    last_of most = grind (arith, has_last)
 
     pub run_out : (part : List E) → count ≡ most_rounds K start → ((steps : R) → Last steps → part ≡ K.names steps now) → SettlePart K start (entries ++ part) now
     run_out part most named =
@@ -155,10 +146,7 @@ module _ {W M R E Q : Type 0} (K : Rounds W M R E) (said : R → Q) (all : Q →
 
     pub ticked_round : (marks : Q) (part : List E) (m : W) (some : Bool) (have : M) (later : List E) (v : W) → RoundSaid K said marks w part m → all marks ≡ true
         → TicksMade K had some have m later v → some ≡ true → GoneSaid K said (count + 1) have marks start (entries ++ (part ++ later)) v
-    ticked_round marks part m some have later v round calm ticks any =
-        subst (λ (h : M). GoneSaid K said (count + 1) h marks start (entries ++ (part ++ later)) v) (sym ticks.marks)
-        (one_round_ticked K count had Last start entries w gone round.steps part m round.round (quiet_so marks w part m round true calm) (λ steps. marks ≡ said steps) later v (sym ticks.any ∙ any)
-        ticks.ticks ticks.leaves round.marks)
+    ticked_round marks part m some have later v round calm ticks any = grind (arith, one_round_ticked, quiet_so)
 
     -- THE LAST ROUND: all were, and none got a tick
     pub none_left : (some : Bool) (have : M) (m : W) (later : List E) (v : W) → TicksMade K had some have m later v → some ≡ false → later ≡ []

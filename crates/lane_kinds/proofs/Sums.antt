@@ -1,5 +1,5 @@
 -- Numbers that fall where not both of two tests hold, and their sums.
-use Rattle.std.proofs.Common.{◌≡◌, ℕ, ◌+◌, inl, inr, Bool, true, false, refl, arith}
+use Rattle.std.proofs.Common.{◌≡◌, ℕ, ◌+◌, Bool, true, false, refl, arith}
 use Rattle.std.specs.Prelude.{◌&&◌, ◌||◌}
 use Rattle.lane_kinds.specs.Laws.{Lowers, LowersUnless}
 
@@ -15,10 +15,6 @@ pub both_true : (a b : Bool) → a ≡ true → b ≡ true → (a && b) ≡ true
 both_true true b one two = two
 both_true false b one two = one
 
-both_false : (a b : Bool) → a ≡ false → b ≡ false → (a || b) ≡ false
-both_false true b one two = one
-both_false false b one two = two
-
 pub or_left : (a b : Bool) → (a || b) ≡ false → a ≡ false
 or_left true b is = is
 or_left false b is = refl
@@ -28,13 +24,7 @@ or_right true b is = absurd (cc is)
 or_right false b is = is
 
 pub both_lower : (one two : Bool) (a b c d : ℕ) → Lowers one a b → Lowers two c d → Lowers (one && two) (a + c) (b + d)
-both_lower one two a b c d (inl first) (inl second) = inl (both_true one two first.0 second.0, omega (arith, first.1, second.1))
-both_lower one two a b c d (inl first) (inr second) = inr (omega (arith, first.1, second))
-both_lower one two a b c d (inr first) (inl second) = inr (omega (arith, first, second.1))
-both_lower one two a b c d (inr first) (inr second) = inr (omega (arith, first, second))
+both_lower one two a b c d first second = grind (arith, both_true)
 
 pub both_unless : (one two : Bool) (a b c d : ℕ) → LowersUnless one a b → LowersUnless two c d → LowersUnless (one || two) (a + c) (b + d)
-both_unless one two a b c d (inl first) (inl second) = inl (both_false one two first.0 second.0, omega (arith, first.1, second.1))
-both_unless one two a b c d (inl first) (inr second) = inr (omega (arith, first.1, second))
-both_unless one two a b c d (inr first) (inl second) = inr (omega (arith, first, second.1))
-both_unless one two a b c d (inr first) (inr second) = inr (omega (arith, first, second))
+both_unless one two a b c d first second = grind arith

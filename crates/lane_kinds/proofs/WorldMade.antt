@@ -1,5 +1,5 @@
 -- The lanes of one kind in a world: a round, its ticks and names go on by the next of them, whatever is beside them.
-use Rattle.std.proofs.Common.{◌≡◌, ℕ, zero, suc, ◌+◌, ◌<◌, ◌≤◌, Bool, true, false, List, [], ◌∷◌, ◌++◌, length, take, drop, slice_get, slice_set, Some, refl, sym, ap, ap₂, ◌∙◌, subst, arith, append_assoc, append-nil, take-append-drop}
+use Rattle.std.proofs.Common.{◌≡◌, ℕ, zero, suc, ◌+◌, ◌<◌, ◌≤◌, Bool, true, false, List, [], ◌∷◌, ◌++◌, length, take, slice_get, slice_set, Some, refl, sym, ap, ap₂, ◌∙◌, subst, arith, append-nil}
 use Rattle.std.proofs.lemmas.Bool.{eq-eqb}
 use Rattle.std.specs.Prelude.{◌==◌, ◌&&◌, ◌||◌, if◌then◌else◌}
 use Rattle.runs.specs.Run.{Run, run_append}
@@ -10,7 +10,7 @@ use Rattle.lane_kinds.proofs.LanesMade as made
 use Rattle.lane_kinds.proofs.LanesMade.{tick_entry}
 use Rattle.lane_kinds.proofs.Places.{set_same}
 use Rattle.lane_kinds.specs.LaneFronts.{BeginsTurn, RoundFront, TickFront}
-use Rattle.lane_kinds.specs.Lanes.{AllStep, EachOf, Entries, EntryOf, LaneKind, TicksIf, gets_tick, own_or, turn_entries}
+use Rattle.lane_kinds.specs.Lanes.{AllStep, EachOf, Entries, EntryOf, LaneKind, TicksIf, gets_tick, own_or}
 use Rattle.lane_kinds.specs.LanesMade.{RoundUpTo, TicksUpTo, name_of, names}
 use Rattle.lane_kinds.specs.WorldMade.{KindMade, KindRuns, LaneMade, LaneTicked, NamesUpTo, TickedWhere}
 
@@ -22,23 +22,14 @@ module _ {S V : Type 0} (K : LaneKind S V) where
     pub is : behind ≡ slice_set lanes k after
 
   other_same : (j k : ℕ) (s : S) (event : V) (t : S) → K.gets j event ≡ [] → (j ≡ k → ⊥) → Run K.Step s (own_or (j == k) event (K.gets j event)) t → t ≡ s
-  other_same j k s event t none other run =
-      let stays : Run K.Step s (K.gets j event) t = subst (λ (c : Bool). Run K.Step s (own_or c event (K.gets j event)) t) (other_test j k other) run in
-      let same : s ≡ t = subst (λ (l : List V). Run K.Step s l t) none stays in
-      sym same
+  other_same j k s event t none other run = grind (arith, other_test)
 
   others_same : (j k : ℕ) (lanes : List S) (event : V) (behind : List S) → ((i : ℕ) → K.gets i event ≡ []) → k < j → AllStep K j lanes k event behind → behind ≡ lanes
-  others_same j k [] event [] none less step = refl
-  others_same j k (s ∷ lanes) event (t ∷ behind) none less step =
-      ap₂ (λ (x : S) (l : List S). x ∷ l) (other_same j k s event t (none j) (λ same. omega (arith, less, same)) step.0)
-      (others_same (j + 1) k lanes event behind none (omega (arith, less)) step.1)
-  others_same j k [] event (t ∷ behind) none less step = absurd step
-  others_same j k (s ∷ lanes) event [] none less step = absurd step
+  others_same j k (s ∷ lanes) event (t ∷ behind) none less step = grind (arith, other_same, others_same (j + 1) k lanes event behind none (omega (arith, less)) step.1)
+  others_same j k lanes event behind none less step = grind arith
 
   own_step : (j k : ℕ) (s : S) (event : V) (t : S) → j ≡ k → Run K.Step s (own_or (j == k) event (K.gets j event)) t → K.Step s event t
-  own_step j k s event t same run =
-      let one : Run K.Step s (event ∷ []) t = subst (λ (c : Bool). Run K.Step s (own_or c event (K.gets j event)) t) (eq-eqb j k same) run in
-      subst (K.Step s event) one.2 one.1
+  own_step j k s event t same run = grind (arith, eq-eqb)
 
   later_set : (k : ℕ) (x : S) (lanes : List S) (s : S) (event : V) (y : S) (behind : List S) → y ≡ x → OneSet k lanes s event behind → OneSet (suc k) (x ∷ lanes) s event (y ∷ behind)
   later_set k x lanes s event y behind same at = record { after = at.after; step = at.step; is = ap₂ (λ (z : S) (l : List S). z ∷ l) same at.is }
@@ -46,16 +37,9 @@ module _ {S V : Type 0} (K : LaneKind S V) where
   pub one_set : (j k n : ℕ) (lanes : List S) (s : S) (event : V) (behind : List S) → ((i : ℕ) → K.gets i event ≡ []) → n ≡ j + k → slice_get lanes k ≡ Some s → AllStep K j lanes n event behind
       → OneSet k lanes s event behind
   one_set j k n [] s event behind none place there step = absurd (cc there)
-  one_set j zero n (x ∷ lanes) s event (t ∷ behind) none place there step =
-      let same : x ≡ s = cc there in
-      record {
-        after = t;
-        step = subst (λ (y : S). K.Step y event t) same (own_step j n x event t (omega (arith, place)) step.0);
-        is = ap (λ (l : List S). t ∷ l) (others_same (j + 1) n lanes event behind none (omega (arith, place)) step.1);
-      }
+  one_set j zero n (x ∷ lanes) s event (t ∷ behind) none place there step = grind (arith, own_step, others_same)
   one_set j (suc k) n (x ∷ lanes) s event (t ∷ behind) none place there step =
-      later_set k x lanes s event t behind (other_same j n x event t (none j) (λ same. omega (arith, place, same)) step.0)
-      (one_set (j + 1) k n lanes s event behind none (omega (arith, place)) there step.1)
+      grind (arith, later_set, other_same, one_set (j + 1) k n lanes s event behind none (omega (arith, place)) there step.1)
   one_set j zero n (x ∷ lanes) s event [] none place there step = absurd step
   one_set j (suc k) n (x ∷ lanes) s event [] none place there step = absurd step
 
@@ -71,13 +55,8 @@ module _ {D S X V E : Type 0} (K : LaneKind S V) (N : Entries V E) (lanes : D �
   Made Of start entries now = KindMade lanes rest Step Of start entries now
 
   -- A STEP runs the world by what it leaves
-  event_run : (quiet : Bool) (w : D) (k : ℕ) (event : V) (v : D) → K.is_silent event ≡ quiet → Step w (N.of_lane k event) v → Run Step w (if quiet then [] else N.of_lane k event ∷ []) v
-  event_run true w k event v is step = laws.silent w k event v is step
-  event_run false w k event v is step = (v, step, refl)
-
   made_run : (OfEnd : V → Type 0) (k : ℕ) (w : D) (entries : List E) (calm : Bool) (v : D) → LaneMade K N Step OfEnd k w entries calm v → Run Step w entries v
-  made_run OfEnd k w entries calm v step =
-      subst (λ (l : List E). Run Step w l v) (sym step.leaves) (event_run (K.is_silent step.event) w k step.event v refl step.moves)
+  made_run OfEnd k w entries calm v step = grind arith
 
   -- A ROUND begins, and goes on by the two steps of the next lane
   pub round_begins : (w : D) (quiet : List Bool) → Made (RoundUpTo K N 0 quiet) w [] w
@@ -137,14 +116,7 @@ module _ {D S X V E : Type 0} (K : LaneKind S V) (N : Entries V E) (lanes : D �
       let entry : EntryOf K k (lanes w) (K.tick lane) (lanes v) = laws.entry w k (K.tick lane) v ticked.0 in
       let at : OneSet K k (lanes w) lane (K.tick lane) (lanes v) =
       one_set K 0 k k (lanes w) lane (K.tick lane) (lanes v) (λ i. laws.tick_gives i lane) (own_place k) there entry.step.step in
-      record {
-        after = at.after;
-        ticks = subst (λ (b : Bool). TicksIf K b lane at.after) gets at.step;
-        set = at.is;
-        leaves = ticked.1 ∙ ap (λ (b : Bool). tick_entry K N k b lane) gets;
-        stays = laws.stays w k (K.tick lane) v ticked.0;
-        run = subst (λ (l : List E). Run Step w l v) (sym ticked.1) (v, ticked.0, refl);
-      }
+      grind arith
   next_ticked k false had w entries v lane there gets ticked = record {
     after = lane;
     ticks = subst (λ (b : Bool). TicksIf K b lane lane) gets refl;
@@ -168,12 +140,7 @@ module _ {D S X V E : Type 0} (K : LaneKind S V) (N : Entries V E) (lanes : D �
   -- by an event of this lane that is its tick; or by none
   pub lane_gets : (k : ℕ) (had : Bool) (w : D) (event : V) (v : D) (lane : S) → slice_get (lanes w) k ≡ Some lane → gets_tick K lane had ≡ true → event ≡ K.tick lane
       → Step w (N.of_lane k event) v → LaneTicked K N Step lanes k had true w (N.of_lane k event ∷ []) v
-  lane_gets k had w event v lane there gets is moves = record {
-    lane = lane;
-    there = there;
-    gets = sym gets;
-    ticked = (subst (λ (x : V). Step w (N.of_lane k x) v) is moves, ap (λ (x : V). N.of_lane k x ∷ []) is);
-  }
+  lane_gets k had w event v lane there gets is moves = grind arith
 
   pub lane_gets_none : (k : ℕ) (had : Bool) (w : D) (lane : S) → slice_get (lanes w) k ≡ Some lane → gets_tick K lane had ≡ false → LaneTicked K N Step lanes k had false w [] w
   lane_gets_none k had w lane there gets = record { lane = lane; there = there; gets = sym gets; ticked = (refl, refl) }
@@ -199,7 +166,5 @@ module _ {D S X V E : Type 0} (K : LaneKind S V) (N : Entries V E) (lanes : D �
   one_leaves false k = (λ w. laws.left k w, tt)
 
   pub names_leave : (k : ℕ) (marks : List Bool) (named : List S) → EachOf (Leaves Step) (names K N k marks named)
-  names_leave k [] named = tt
-  names_leave k (quiet ∷ marks) [] = tt
-  names_leave k (quiet ∷ marks) (s ∷ named) =
-      of_both (Leaves Step) (name_of K N k quiet s) (names K N (k + 1) marks named) (one_leaves (quiet && (if K.waits_on s then false else true)) k) (names_leave (k + 1) marks named)
+  names_leave k (quiet ∷ marks) (s ∷ named) = grind (arith, of_both, one_leaves, names_leave (k + 1) marks named)
+  names_leave k marks named = grind arith

@@ -1,5 +1,5 @@
 -- A whole run, put together from its declarations and its other lines.
-use Rattle.std.proofs.Common.{◌≡◌, ◌≢◌, inl, inr, ℕ, ◌+◌, ◌<◌, Bool, true, false, List, [], ◌∷◌, ◌++◌, length, refl, sym, ◌∙◌, ap, subst, length-append, arith, Option, Some, None, IsTrue, ◌↔◌, zero, suc}
+use Rattle.std.proofs.Common.{◌≡◌, ◌≢◌, inl, inr, ℕ, ◌+◌, ◌<◌, Bool, true, false, List, [], ◌∷◌, ◌++◌, length, refl, sym, ◌∙◌, ap, subst, length-append, arith, Option, Some, None, IsTrue, ◌↔◌}
 use Rattle.std.specs.Io.KnownBytes.{IsAtEnd, Keeps, prepend_known}
 use Rattle.runs.specs.Run.{Run, run_append, run_push}
 use Rattle.vio_io.specs.declared.host.AttachFault.{AttachFault}
@@ -11,10 +11,7 @@ use Rattle.script_reader.specs.declared.lines.LinesStop.{LinesStop}
 use Rattle.script_reader.specs.declared.lines.LinesStop.TheVariants.{Going}
 use Rattle.script_reader.specs.LinesState.{AllFed, LinesState, to_come}
 use Rattle.domain_script.specs.Declarations.{Declared}
-use Rattle.domain_script.specs.declared.event.DiskDecl.{DiskDecl}
-use Rattle.domain_script.specs.declared.event.PortDecl.{PortDecl}
 use Rattle.domain_script.specs.NamesState.{NamesState, declared_by, noted}
-use Rattle.domain_script.specs.Spells.{Spells}
 use Rattle.domain_script.proofs.ScriptLemmas.{taken-append}
 use Rattle.domain_script.proofs.Spelling.{declared_first, port_declared_first}
 use Rattle.ldom_entries.specs.declared.entry.Entry.{Entry}
@@ -34,7 +31,7 @@ use Rattle.script_laws.specs.Replayed.{FaultsAre, Replayed, Stopped, attach_stat
 use Rattle.script_laws.specs.LanesStand.{LanesStand}
 use Rattle.script_laws.specs.Script.{ReadSoFar}
 use Rattle.domain_script.specs.ScriptEvents.{AllSpell, no_names}
-use Rattle.world_parts.specs.Script.{BeginBelow, FitsScript, ScriptParts, all_lines, entries_in, events_in, events_of, journal_of}
+use Rattle.world_parts.specs.Script.{BeginBelow, FitsScript, ScriptParts, entries_in, events_in, events_of, journal_of}
 use Rattle.world_parts.specs.domain_laws.Domain.{DomainState, Lanes, lanes_in}
 use Rattle.script_reader.proofs.FedLines.{fed_both}
 use Rattle.script_laws.proofs.LineCases.{none_begun, noted_disks, noted_ports, silent, stays_ended}
@@ -43,42 +40,24 @@ use Rattle.script_laws.proofs.ReadLemmas.{opening_halves, other_line, read_none}
 use Rattle.script_laws.proofs.RunLemmas.{keeps_same, line_starts, line_step}
 
 spell_append : (xs ys : List (List ℕ)) (a b c : NamesState) (es fs : List Event) → AllSpell xs a es b → AllSpell ys b fs c → AllSpell (xs ++ ys) a (es ++ fs) c
-spell_append [] ys a b c [] fs first second = subst (λ (n : NamesState). AllSpell ys n fs c) first second
-spell_append [] ys a b c (e ∷ es) fs first second = absurd first
-spell_append (x ∷ xs) ys a b c [] fs first second = absurd first
 spell_append (x ∷ xs) ys a b c (e ∷ es) fs first second = (first.0, spell_append xs ys (noted a e) b c es fs first.1 second)
+spell_append xs ys a b c es fs first second = grind arith
 
 -- after the declarations no disk is declared
 same_disks : (texts : List (List ℕ)) (before after : NamesState) (events : List Event) → before.ended ≡ true → AllSpell texts before events after
     → after.disks ≡ before.disks
-same_disks [] before after [] ended spell = ap (λ (n : NamesState). n.disks) spell
-same_disks [] before after (e ∷ es) ended spell = absurd spell
-same_disks (x ∷ xs) before after [] ended spell = absurd spell
 same_disks (x ∷ xs) before after (e ∷ es) ended spell =
-    same_disks xs (noted before e) after es (stays_ended before e ended) spell.1 ∙ elim (noted_disks before e) [
-      | inl declares ↦
-          let spells : Spells x before (line.Disk declares.0) = subst (λ (n : Event). Spells x before n) declares.1 spell.0 in
-          absurd (cc (ended, (declared_first x before declares.0 spells).open_still))
-      | inr same ↦ same
-    ]
+    grind (arith, stays_ended, noted_disks, declared_first, same_disks xs (noted before e) after es (stays_ended before e ended) spell.1)
+same_disks texts before after events ended spell = grind arith
 
 same_ports : (texts : List (List ℕ)) (before after : NamesState) (events : List Event) → before.ended ≡ true → AllSpell texts before events after
     → after.ports ≡ before.ports
-same_ports [] before after [] ended spell = ap (λ (n : NamesState). n.ports) spell
-same_ports [] before after (e ∷ es) ended spell = absurd spell
-same_ports (x ∷ xs) before after [] ended spell = absurd spell
 same_ports (x ∷ xs) before after (e ∷ es) ended spell =
-    same_ports xs (noted before e) after es (stays_ended before e ended) spell.1 ∙ elim (noted_ports before e) [
-      | inl declares ↦
-          let spells : Spells x before (line.Net declares.0) = subst (λ (n : Event). Spells x before n) declares.1 spell.0 in
-          absurd (cc (ended, (port_declared_first x before declares.0 spells).open_still))
-      | inr same ↦ same
-    ]
+    grind (arith, stays_ended, noted_ports, port_declared_first, same_ports xs (noted before e) after es (stays_ended before e ended) spell.1)
+same_ports texts before after events ended spell = grind arith
 
 same_declared : (before after : NamesState) → after.disks ≡ before.disks → after.ports ≡ before.ports → declared_by after ≡ declared_by before
-same_declared before after disks ports =
-    ap (λ (d : List DiskDecl). declared_by (record { disks = d; ports = after.ports; ended = after.ended })) disks
-    ∙ ap (λ (p : List PortDecl). declared_by (record { disks = before.disks; ports = p; ended = before.ended })) ports
+same_declared before after disks ports = grind arith
 
 -- before a line was read, what is to come is what the source has left
 pub from_start : (lines : LinesState) (left : Option (List ℕ)) → lines.held ≡ [] → to_come lines left ≡ left
@@ -112,21 +91,15 @@ first_lines opening event part = opening_lines opening ++ (event, part) ∷ []
 
 first_events : (opening : List Event) (event : Event) (part : List Entry)
     → events_in (first_lines opening event part) ≡ opening ++ event ∷ []
-first_events opening event part =
-    events_both (opening_lines opening) ((event, part) ∷ [])
-    ∙ ap (λ (l : List Event). l ++ event ∷ []) (opening_events opening)
+first_events opening event part = grind (arith, events_both, opening_events)
 
 first_entries : (opening : List Event) (event : Event) (part : List Entry)
     → entries_in (first_lines opening event part) ≡ part
-first_entries opening event part =
-    entries_push (opening_lines opening) (event, part)
-    ∙ ap (λ (l : List Entry). l ++ part) (opening_entries opening)
+first_entries opening event part = grind (arith, entries_push, opening_entries)
 
 first_below : (opening : List Event) (event : Event) (part : List Entry)
     → BeginBelow 0 (first_lines opening event part)
-first_below opening event part =
-    let none = ap (λ (l : List Entry). length l) (opening_entries opening) in
-    below_push 0 (opening_lines opening) (event, part) (opening_below opening) (omega (arith, none))
+first_below opening event part = grind (arith, opening_entries, below_push, opening_below)
 
 -- the parts where only declarations were read, and where memory was wanted at the line behind them
 abbrev pub declared_parts : List Event → ScriptParts
@@ -213,22 +186,15 @@ module _ (stop : LinesStop) (start rest now : Option (List ℕ)) (event : Event)
   entries_are = first_entries opens.opening event fits.adds.part ∙ sym fits.adds.grew
 
   events_are : events_of parts ≡ (opens.opening ++ event ∷ []) ++ events_of runs.parts
-  events_are =
-      events_behind front runs.parts
-      ∙ ap (λ (l : List Event). l ++ events_of runs.parts) (first_events opens.opening event fits.adds.part)
+  events_are = grind (arith, events_behind, first_events)
 
   all_fit : FitsScript 0 s parts t
-  all_fit =
-      let long : length journal ≡ 0 + length (entries_in front) =
-      omega (arith, ap (λ (l : List Entry). length l) entries_are) in
-      record {
-        middle = runs.fits.middle;
-        run = run_append EventStep s m runs.fits.middle front runs.parts.whole front_run runs.fits.run;
-        last = runs.fits.last;
-        begin_below = subst (λ (l : List (Event × List Entry)). BeginBelow 0 l) (sym (all_behind front runs.parts))
-            (below_both 0 front (all_lines runs.parts) (first_below opens.opening event fits.adds.part)
-            (subst (λ (n : ℕ). BeginBelow n (all_lines runs.parts)) long runs.fits.begin_below));
-      }
+  all_fit = record {
+    middle = runs.fits.middle;
+    run = run_append EventStep s m runs.fits.middle front runs.parts.whole front_run runs.fits.run;
+    last = runs.fits.last;
+    begin_below = grind (arith, entries_are, front_run, all_behind, below_both, first_below);
+  }
 
   pub runs_all : RunsAll start now names s why after new t lines
   runs_all =
@@ -308,12 +274,7 @@ runs_none_more start now names s lines opens = record {
 
 -- HOW A RUN ENDED, whether the image failed or not
 pub ended_as : (P : Status → Type 0) (why : Status) (faulty : Bool) → IsReaders why → (P status.Done → P status.StoreFault) → P why → P (ended_status why faulty)
-ended_as P why faulty readers also =
-    by_readers (λ (w : Status). P w → P (ended_status w faulty)) (done faulty) (λ at fault p. p) (λ p. p) (λ at kind p. p) (λ p. p) why readers
-  where
-    done : (faulty : Bool) → P status.Done → P (ended_status status.Done faulty)
-    done true p = also p
-    done false p = p
+ended_as P why faulty readers also = grind (arith, by_readers)
 
 ended_stop : (why : Status) (faulty : Bool) (names : NamesState) (left now : Option (List ℕ)) (held : List ℕ) (count entries : ℕ) → IsReaders why → StopsAt why left held now names count entries
     → StopsAt (ended_status why faulty) left held now names count entries
@@ -328,50 +289,24 @@ ended_journal why faulty s t parts journal readers =
     ended_as (λ (w : Status). JournalIs (ending w) s parts journal t) why faulty readers (λ is. is)
 
 ended_faults : {D : Type 0} (image : D) (why : Status) (faulty : Bool) (faults : ℕ) → IsReaders why → (IsTrue faulty ↔ (0 < faults)) → FaultsAre (ended_status why faulty) (Some image) faults
-ended_faults image why faulty faults readers tells =
-    by_readers (λ (w : Status). FaultsAre (ended_status w faulty) (Some image) faults) (done faulty faults tells) (λ at fault. tt) tt (λ at kind. tt) tt why readers
-  where
-    done : (faulty : Bool) (faults : ℕ) → (IsTrue faulty ↔ (0 < faults)) → FaultsAre (ended_status status.Done faulty) (Some image) faults
-    done true faults tells = (refl, tells.0 refl)
-    done false zero tells = (refl, refl)
-    done false (suc n) tells = absurd (cc (tells.1 (omega arith)))
+ended_faults image why faulty faults readers tells = grind (arith, by_readers)
 
 -- a run in a world has an image
 ended_image : {D : Type 0} (image : D) (why : Status) (faulty : Bool) (events : List Event) (rest : Option (List ℕ)) (journal : List Entry) → IsReaders why → (why ≢ status.Done → AreOpening events → ⊥)
     → ImageStands (ended_status why faulty) events rest journal (Some image)
-ended_image image why faulty events rest journal readers =
-    by_readers (λ (w : Status). (w ≢ status.Done → AreOpening events → ⊥) → ImageStands (ended_status w faulty) events rest journal (Some image))
-    (λ _. done faulty)
-    (λ at fault attached. (λ none. cc none, λ are. absurd (attached (λ is. cc) are)))
-    (λ attached. (λ none. cc none, λ are. absurd (attached (λ is. cc) are)))
-    (λ at kind attached. (λ none. cc none, λ are. absurd (attached (λ is. cc) are)))
-    (λ attached are. absurd (attached (λ is. cc) are)) why readers
-  where
-    done : (faulty : Bool) → ImageStands (ended_status status.Done faulty) events rest journal (Some image)
-    done true = refl
-    done false = refl
+ended_image image why faulty events rest journal readers = grind (arith, by_readers)
 
 -- and its lanes
 ended_lanes : {D : Type 0} (image : D) (why : Status) (faulty : Bool) (lanes : Lanes) (t : DomainState) → IsReaders why → lanes ≡ lanes_in t
     → LanesStand (ended_status why faulty) (Some image) (Some lanes) t
-ended_lanes image why faulty lanes t readers left =
-    by_readers (λ (w : Status). LanesStand (ended_status w faulty) (Some image) (Some lanes) t) (done faulty) (λ at fault. same) same (λ at kind. same) same why readers
-  where
-    same : Some lanes ≡ Some (lanes_in t)
-    same = ap Some left
-
-    done : (faulty : Bool) → LanesStand (ended_status status.Done faulty) (Some image) (Some lanes) t
-    done true = same
-    done false = same
+ended_lanes image why faulty lanes t readers left = grind (arith, by_readers)
 
 -- a run that ended in its declarations has neither
 opening_lanes : (D : Type 0) (why : Status) (t : DomainState) → IsReaders why → LanesStand {D = D} why None None t
 opening_lanes D why t readers = by_readers (λ (w : Status). LanesStand {D = D} w None None t) refl (λ at fault. refl) refl (λ at kind. refl) refl why readers
 
 opening_image : (D : Type 0) (why : Status) (events : List Event) (rest : Option (List ℕ)) → IsReaders why → why ≢ status.Done → AreOpening events → ImageStands {D = D} why events rest [] None
-opening_image D why events rest readers other are =
-    by_readers (λ (w : Status). w ≢ status.Done → ImageStands {D = D} w events rest [] None) (λ o. absurd (o refl)) (λ at fault o. (λ _. are, λ _. refl)) (λ o. (λ _. are, λ _. refl)) (λ at kind o. (λ _. are, λ _. refl))
-    (λ o. (refl, inl are)) why readers other
+opening_image D why events rest readers other are = grind (arith, by_readers)
 
 opening_faults : {D : Type 0} (image : Option D) (why : Status) (faults : ℕ) → IsReaders why → why ≢ status.Done → FaultsAre why image faults
 opening_faults image why faults readers =
@@ -423,13 +358,7 @@ begun_attaches opening event rest are other =
 
 -- where nothing stood between
 nothing_between : (seen image : ImageState) → seen ≡ image → StandsBehind seen image
-nothing_between seen image is = record {
-  told = ap (λ (i : ImageState). i.told) is;
-  faults = ap (λ (i : ImageState). i.faults) is;
-  flushes = ap (λ (i : ImageState). i.flushes) is;
-  writes = ap (λ (i : ImageState). i.writes) is;
-  calls = λ few. omega (arith, ap (λ (i : ImageState). i.calls) is);
-}
+nothing_between seen image is = grind arith
 
 module _ {D : Type 0} (seen : D → ImageState) (start now : Option (List ℕ)) (gives : ℕ → Option (List ℕ)) where
   -- A RUN in a world that ended
@@ -567,9 +496,4 @@ module _ {D : Type 0} (seen : D → ImageState) (start now : Option (List ℕ)) 
       → ended ≡ why → number ≡ lines → now_named ≡ names → entries ≡ journal → disk ≡ image → left ≡ stand
       → Replayed seen start now gives why lines names journal image stand → Replayed seen start now gives ended number now_named entries disk left
   replayed_as why ended lines number names now_named journal entries image disk stand left status_is lines_are names_are journal_is image_is lanes_are replayed =
-      subst (λ (w : Status). Replayed seen start now gives w number now_named entries disk left) (sym status_is)
-      (subst (λ (n : ℕ). Replayed seen start now gives why n now_named entries disk left) (sym lines_are)
-      (subst (λ (n : NamesState). Replayed seen start now gives why lines n entries disk left) (sym names_are)
-      (subst (λ (l : List Entry). Replayed seen start now gives why lines names l disk left) (sym journal_is)
-      (subst (λ (d : Option D). Replayed seen start now gives why lines names journal d left) (sym image_is)
-      (subst (λ (o : Option Lanes). Replayed seen start now gives why lines names journal image o) (sym lanes_are) replayed)))))
+      grind arith

@@ -10,7 +10,7 @@ use Rattle.domain_script.specs.declared.event.Event.{Event}
 use Rattle.domain_script.specs.declared.event.LineFault.{LineFault}
 use Rattle.domain_script.specs.Faults.{first_fault}
 use Rattle.domain_script.specs.NamesState.{NamesState}
-use Rattle.domain_script.specs.ScriptLines.{script_lines, with_front, TakesLine, BeginsWithLonger, TakesLines}
+use Rattle.domain_script.specs.ScriptLines.{script_lines, with_front, TakesLine, TakesLines}
 use Rattle.ldom_entries.specs.declared.entry.Entry.{Entry}
 use Rattle.ldom_report.specs.declared.status.LimitKind.{LimitKind}
 use Rattle.ldom_report.specs.declared.status.LimitKind.TheVariants.{Lines, Bytes, Entries}
@@ -59,9 +59,7 @@ short_behind [] more line short = short.0
 short_behind (x ∷ xs) more line short = short_behind xs more line short.1
 
 either_some : (feed : Bool) (b : ℕ) (lines : List (List ℕ)) → 0 < length (if feed then [] ∷ lines else with_front b lines)
-either_some true b lines = omega arith
-either_some false b [] = omega arith
-either_some false b (line ∷ lines) = omega arith
+either_some feed b lines = grind arith
 
 some_lines : (bytes : List ℕ) → bytes ≢ [] → 0 < length (script_lines bytes)
 some_lines [] some = absurd (some refl)
@@ -69,14 +67,7 @@ some_lines (b ∷ bs) some = either_some (b == 10) b (script_lines bs)
 
 -- none is past a limit
 no_limit : (bytes : List ℕ) (kind : LimitKind) (left : Option (List ℕ)) (texts : List (List ℕ)) (count : ℕ) → length (script_lines bytes) ≤ 20000 → AreShort (script_lines bytes) → TakesLines (Some bytes) left texts → count ≡ length texts → IsPast kind left count → ⊥
-no_limit bytes kind None texts count few short taken counts past = taken
-no_limit bytes Lines (Some left) texts count few short taken counts past =
-    omega (arith, few, ap (λ (l : List (List ℕ)). length l) taken.0, length-append texts (script_lines left), counts, past.0, some_lines left past.1)
-no_limit bytes Entries (Some left) texts count few short taken counts past = past
-no_limit bytes Bytes (Some left) texts count few short taken counts past =
-    let long : BeginsWithLonger 3100 left = past.1 in
-    let lines : script_lines bytes ≡ texts ++ long.line ∷ long.others = taken.0 ∙ ap (λ (l : List (List ℕ)). texts ++ l) long.is in
-    omega (arith, long.long, short_behind texts long.others long.line (subst AreShort lines short))
+no_limit bytes kind left texts count few short taken counts past = grind (arith, length-append, some_lines, short_behind)
 
 -- the clean script declares all disks that were read
 no_fewer : (bytes : List ℕ) (left : Option (List ℕ)) (texts : List (List ℕ)) (names after : NamesState) (events all : List Event) → TakesLines (Some bytes) left texts → AllSpell texts no_names events names → AllSpell (script_lines bytes) no_names all after
@@ -110,9 +101,7 @@ module _ {D : Type 0} (seen : D → ImageState) (script behind : Option (List �
   store_works (Some d) left some is none rose = omega (arith, is.faults, none, rose)
 
   never_past : (at : ℕ) (kind : LimitKind) → (replayed : Replayed seen (Some bytes) behind gives (status.Limit at kind) lines names journal image lanes) → IsPast kind replayed.stopped.left replayed.stopped.count → ⊥
-  never_past at kind replayed past =
-      let read = replayed.stopped.read in
-      no_limit bytes kind replayed.stopped.left read.texts replayed.stopped.count clean.few clean.short read.taken.taken read.counts past
+  never_past at kind replayed past = grind (arith, no_limit)
 
   by_ran : (now : Status) → ran ≡ now → why ≡ now → Replayed seen (Some bytes) behind gives now lines names journal image lanes → EndsClean why journal
   by_ran status.Done ended is replayed = inl is

@@ -1,6 +1,6 @@
 -- A script's journal, line by line, as its world of lanes reads it; and the world that declared disks make.
-use Rattle.std.proofs.Common.{◌≡◌, ◌≤◌, List, [], ◌∷◌, ◌++◌, length, map, Option, Some, IfSome, refl, sym, ap, ◌∙◌, append_assoc, append-nil}
-use Rattle.std.specs.List.{cons_option, filter_map}
+use Rattle.std.proofs.Common.{◌≡◌, ◌≤◌, List, [], ◌∷◌, ◌++◌, length, map, Option, Some, IfSome, refl, sym, ap, ◌∙◌, append_assoc, append-nil, arith}
+use Rattle.std.specs.List.{filter_map}
 use Rattle.runs.specs.Run.{Run}
 use Rattle.disk_law.specs.ListState.{ImageState}
 use Rattle.domain_script.specs.Declarations.{AreDisks}
@@ -24,11 +24,7 @@ use Rattle.world_parts.specs.Parts.{PartSays}
 mapped_kept : {X Y : Type 0} (f : X → Option Y) (g : Y → Y) (xs : List X) (ys : List Y)
     → map f xs ≡ map (λ (y : Y). Some (g y)) ys → filter_map f xs ≡ map g ys
 mapped_kept {X} {Y} f g [] [] is = refl
-mapped_kept {X} {Y} f g (x ∷ xs) (y ∷ ys) is =
-    let first : f x ≡ Some (g y) = cc is in
-    let others : map f xs ≡ map (λ (y : Y). Some (g y)) ys = cc is in
-    ap (λ (o : Option Y). cons_option o (filter_map f xs)) first
-    ∙ ap (λ (l : List Y). g y ∷ l) (mapped_kept f g xs ys others)
+mapped_kept {X} {Y} f g (x ∷ xs) (y ∷ ys) is = grind (arith, mapped_kept f g xs ys)
 mapped_kept {X} {Y} f g [] (y ∷ ys) is = absurd (cc is)
 mapped_kept {X} {Y} f g (x ∷ xs) [] is = absurd (cc is)
 
@@ -61,15 +57,11 @@ as_lines w (line ∷ lines) v run =
 told_more : (lines : List (Event × List Entry)) (line : Event × List Entry)
     → told (lines ++ line ∷ []) ≡ told lines ++ told_by line
 told_more [] line = append-nil (told_by line)
-told_more (first ∷ lines) line =
-    ap (λ (l : List SettleEntry). told_by first ++ l) (told_more lines line)
-    ∙ sym (append_assoc (told_by first) (told lines) (told_by line))
+told_more (first ∷ lines) line = grind (arith, append_assoc, told_more lines line)
 
 pub cut_told : (lines : List (Event × List Entry)) (line : Event × List Entry) (past last : List SettleEntry)
     → told lines ≡ all_told past → told_by line ≡ all_told last → told (lines ++ line ∷ []) ≡ all_told (past ++ last)
-cut_told lines line past last one two =
-    told_more lines line ∙ ap (λ (l : List SettleEntry). l ++ told_by line) one
-    ∙ ap (λ (l : List SettleEntry). all_told past ++ l) two ∙ sym (map_both told_of past last)
+cut_told lines line past last one two = grind (arith, told_more, map_both)
 
 -- THE WORLD of declared disks, whether its image tells its bytes or not
 pub declared_world : (disks : List DiskDecl) (image : ImageState) → AreDisks disks

@@ -7,16 +7,7 @@ use Rattle.world_parts.specs.world_laws.World.{AreShapes, blocks_in}
 use Rattle.world_parts.specs.Declared.{blocks_of, bytes_needed, shape_of, shapes_of}
 
 is_shape : (first : ℕ) (disk : DiskDecl) → IsDisk disk → IsShape (shape_of first disk)
-is_shape first disk is = record {
-  some_blocks = is.some_blocks;
-  most_blocks = is.most_blocks;
-  some_slots = is.least_ring;
-  most_slots = is.most_ring;
-  slots = is.ring_power;
-  some_entries = is.least_queue;
-  most_entries = is.most_queue;
-  entries = is.queue_power;
-}
+is_shape first disk is = grind arith
 
 pub are_shapes : (first : ℕ) (disks : List DiskDecl) → AreDisks disks → AreShapes first (shapes_of first disks)
 are_shapes first [] are = tt

@@ -1,5 +1,5 @@
 -- What the events of a lane that nobody forged tell of the statuses of its completions.
-use Rattle.std.proofs.Common.{◌≡◌, inl, inr, ℕ, Bool, false, cond, List, [], ◌∷◌, refl, ap, arith}
+use Rattle.std.proofs.Common.{◌≡◌, inl, inr, ℕ, false, List, [], ◌∷◌, refl, arith}
 use Rattle.std.specs.List.{All, count_by, filter_map}
 use Rattle.std.proofs.lemmas.List.Elements.{All-cons, All-nil}
 use Rattle.runs.specs.Lawful.{Lawful, log_of}
@@ -28,9 +28,7 @@ carries_status request status bytes (inr failed) = inr failed.0
 pub statuses_of : (l : DiskLog) (events : List DiskEvent) → Lawful StatusAt after l events
     → (log_of after l events).wire.forged ≡ false → All SucceedsOrFails (kept_of events)
 statuses_of l [] lawful clean = All-nil SucceedsOrFails
-statuses_of l (Asks (Accepted id request) ∷ events) lawful clean =
-    All-cons SucceedsOrFails (plain.Accepted id request) (kept_of events) tt
-    (statuses_of (after l (Asks (Accepted id request))) events lawful.1 clean)
+statuses_of l (Asks (Accepted id request) ∷ events) lawful clean = grind (arith, statuses_of (after l (Asks (Accepted id request))) events lawful.1 clean)
 statuses_of l (Works (Done id operation status bytes) ∷ events) lawful clean =
     let event : DiskEvent = Works (Done id operation status bytes) in
     let as_asked : CarriesAsAsked l.work id status bytes = lawful.0 (clean_before l (event ∷ events) clean) in
@@ -58,20 +56,11 @@ statuses_of l (Calms event ∷ events) lawful clean = statuses_of (after l (Calm
 -- AND AS MANY FAILED as the events say
 none_more : (event : DiskEvent) (events : List DiskEvent) (n : ℕ) → is_failed_done event ≡ false
     → n ≡ count_by is_failed_done events → n ≡ count_by is_failed_done (event ∷ events)
-none_more event events n none rest =
-    let one : cond {A = ℕ} (is_failed_done event) 1 0 ≡ 0 = ap (λ (b : Bool). cond {A = ℕ} b 1 0) none in
-    omega (arith, count_more is_failed_done event events, one, rest)
+none_more event events n none rest = grind (arith, count_more)
 
 pub failed_of : (events : List DiskEvent) → count_by has_failed (kept_of events) ≡ count_by is_failed_done events
 failed_of [] = refl
-failed_of (Asks (Accepted id request) ∷ events) =
-    let rest = failed_of events in
-    omega (
-      arith,
-      count_more has_failed (plain.Accepted id request) (kept_of events),
-      count_more is_failed_done (Asks (Accepted id request)) events,
-      rest,
-    )
+failed_of (Asks (Accepted id request) ∷ events) = grind (arith, count_more, failed_of events)
 failed_of (Works (Done id operation status bytes) ∷ events) =
     let event : DiskEvent = Works (Done id operation status bytes) in
     let rest = failed_of events in

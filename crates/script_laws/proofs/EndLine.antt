@@ -12,11 +12,7 @@ regroup : (x a b c d e f : List ℕ) → x ++ (a ++ b ++ c ++ d ++ e ++ f) ≡ x
 regroup x a b c d e f = simp append_assoc
 
 close : (x r a b c d : List ℕ) → r ++ a ++ b ++ c ≡ d → x ++ r ++ a ++ b ++ [] ++ c ≡ x ++ d
-close x r a b c d is =
-    ap (λ (l : List ℕ). l ++ c) (append-nil (x ++ r ++ a ++ b))
-    ∙ ap (λ (l : List ℕ). l ++ b ++ c) (append_assoc x r a)
-    ∙ ap (λ (l : List ℕ). l ++ c) (append_assoc x (r ++ a) b) ∙ append_assoc x (r ++ a ++ b) c
-    ∙ ap (λ (l : List ℕ). x ++ l) is
+close x r a b c d is = grind (arith, append-nil, append_assoc)
 
 abbrev front : ℕ → List ℕ
 front lines = codes "end lines=" ++ decimal lines

@@ -1,5 +1,5 @@
 -- Conditions on entries: those of lanes; and those that aren't the answer of a settle, or name no lane that is left over.
-use Rattle.std.proofs.Common.{List, [], ◌∷◌}
+use Rattle.std.proofs.Common.{List, [], ◌∷◌, arith}
 use Rattle.std.specs.Prelude.{⊤}
 use Rattle.world_parts.specs.world_laws.Settle.{OfLane, OfPort, SettleEntry, Settled, Unsettled, UnsettledPort}
 use Rattle.world_parts.proofs.domain_laws.LineEntries.{EachEntry}
@@ -29,18 +29,14 @@ NotSettled _ = ⊤
 
 -- events of lanes leave no disk over, and don't say so
 lane_leaves : (entry : SettleEntry) → IsOfLane entry → LeavesNone entry
-lane_leaves (OfLane k event) is = tt
-lane_leaves (OfPort k event) is = tt
-lane_leaves _ is = absurd is
+lane_leaves entry is = grind arith
 
 pub lanes_leave : (part : List SettleEntry) → EachEntry IsOfLane part → EachEntry LeavesNone part
 lanes_leave [] each = tt
 lanes_leave (entry ∷ part) each = (lane_leaves entry each.0, lanes_leave part each.1)
 
 lane_unsettled : (entry : SettleEntry) → IsOfLane entry → NotSettled entry
-lane_unsettled (OfLane k event) is = tt
-lane_unsettled (OfPort k event) is = tt
-lane_unsettled _ is = absurd is
+lane_unsettled entry is = grind arith
 
 pub lanes_unsettled : (part : List SettleEntry) → EachEntry IsOfLane part → EachEntry NotSettled part
 lanes_unsettled [] each = tt
@@ -48,9 +44,7 @@ lanes_unsettled (entry ∷ part) each = (lane_unsettled entry each.0, lanes_unse
 
 -- nor do names
 name_unsettled : (entry : SettleEntry) → IsName entry → NotSettled entry
-name_unsettled (Unsettled k) is = tt
-name_unsettled (UnsettledPort k) is = tt
-name_unsettled _ is = absurd is
+name_unsettled entry is = grind arith
 
 pub names_unsettled : (names : List SettleEntry) → EachEntry IsName names → EachEntry NotSettled names
 names_unsettled [] each = tt

@@ -1,5 +1,5 @@
 -- A whole settle that leaves lanes over names exactly those that moved in its last round, or wait.
-use Rattle.std.proofs.Common.{◌≡◌, ◌⊎◌, inl, inr, ℕ, ◌+◌, ◌<◌, Bool, true, false, List, [], ◌∷◌, ◌++◌, length, slice_get, Some, refl, sym, ap, ◌∙◌, subst, arith, append_assoc, append-nil}
+use Rattle.std.proofs.Common.{◌≡◌, ◌⊎◌, inl, inr, ℕ, ◌+◌, ◌<◌, Bool, true, List, [], ◌∷◌, ◌++◌, length, slice_get, Some, refl, sym, ap, ◌∙◌, subst, arith, append_assoc, append-nil}
 use Rattle.std.proofs.lemmas.Option.{slice_get_within}
 use Rattle.std.specs.Prelude.{⊤}
 use Rattle.runs.specs.Run.{Run, run_split}
@@ -13,7 +13,7 @@ use Rattle.world_parts.specs.disk_model.DiskEvent.{DiskEvent}
 use Rattle.world_parts.specs.disk_model.LaneState.{LaneState}
 use Rattle.world_parts.specs.port_model.PortState.{PortState}
 use Rattle.world_parts.proofs.switch_laws.Turns.{silent_calm}
-use Rattle.world_parts.specs.switch_laws.Events.{SwitchEvent, SwitchStep}
+use Rattle.world_parts.specs.switch_laws.Events.{SwitchEvent}
 use Rattle.world_parts.specs.switch_laws.Ports.{ports, waits_on as port_waits}
 use Rattle.world_parts.proofs.world_laws.DiskLaws.{disk_moves}
 use Rattle.world_parts.proofs.world_laws.LaneLists.{many_moved as disks_moved}
@@ -22,7 +22,6 @@ use Rattle.world_parts.specs.world_laws.Rounds.{LaneRound}
 use Rattle.world_parts.specs.world_laws.Settle.{OfLane, OfPort, SettleEntry, Unsettled, UnsettledPort, disk_entries, disks}
 use Rattle.world_parts.proofs.domain_laws.DiskParts.{rounds_move_disks}
 use Rattle.world_parts.proofs.domain_laws.LineEntries.{AllSettling, EachEntry, each_in, rounds_each}
-use Rattle.world_parts.specs.domain_laws.Along.{port_said}
 use Rattle.world_parts.specs.domain_laws.Domain.{Lanes, lanes, port_entries, switch}
 use Rattle.script_laws.proofs.Entries.{IsName, IsOfLane}
 use Rattle.script_laws.proofs.LeftNames.{LoudTurn, MovedBy, NamedIn, WaitsBy, loud_turn, moved_left, moved_right, named, named_where}
@@ -50,10 +49,7 @@ all_are_ticks w m =
 
 ticks_after : (quiet : Bool) (w : AllSettling) (steps : AllSteps) (between : Lanes) (entries : List SettleEntry) (v : AllSettling)
     → TicksBehind lanes quiet w steps between entries v → TicksAfter steps entries
-ticks_after false w steps between entries v behind =
-    record { ticks = []; is = behind.1 ∙ sym (append-nil (lanes.leaves steps)); are = tt }
-ticks_after true w steps between entries v behind =
-    record { ticks = lanes.ticks_leave between w.marks; is = behind.3; are = all_are_ticks between w.marks }
+ticks_after quiet w steps between entries v behind = grind (arith, append-nil, all_are_ticks)
 
 module _ (start : Lanes) (part : List SettleEntry) (behind : Lanes) (out : RunsOut lanes start part behind) where
   abbrev steps : AllSteps
@@ -76,38 +72,20 @@ module _ (start : Lanes) (part : List SettleEntry) (behind : Lanes) (out : RunsO
   after_round = ticks_after (lanes.quiet steps) begun.w steps begun.goes.between out.last.entries begun.v begun.goes.behind
 
   pub part_is : part ≡ entries_of_rounds out.rounds ++ (lanes.leaves steps ++ (after_round.ticks ++ lanes.names steps behind))
-  part_is =
-      let names : List SettleEntry = lanes.names steps behind in
-      let earlier : List SettleEntry = entries_of_rounds out.rounds in
-      out.is ∙ ap (λ (l : List SettleEntry). l ++ names) (last_entries out.rounds out.last)
-      ∙ append_assoc earlier out.last.entries names
-      ∙ ap (λ (l : List SettleEntry). earlier ++ (l ++ names)) after_round.is
-      ∙ ap (λ (l : List SettleEntry). earlier ++ l) (append_assoc (lanes.leaves steps) after_round.ticks names)
+  part_is = grind (arith, last_entries, append_assoc, after_round)
 
   -- as many as there were
   many_disks : length start.first ≡ length begun.w.lanes.first
-  many_disks =
-      sym (disks_moved 0 start.first (entries_of_rounds out.rounds) begun.w.lanes.first
-      (rounds_move_disks (begin lanes start) out.rounds begun.w begun.first))
+  many_disks = grind (arith, disks_moved, begun, rounds_move_disks)
 
   many_ports : length start.second ≡ length begun.w.lanes.second
-  many_ports =
-      sym (many_moved SwitchStep port_said 0 start.second (entries_of_rounds out.rounds) begun.w.lanes.second
-      (rounds_move_ports (begin lanes start) out.rounds begun.w begun.first))
+  many_ports = grind (arith, many_moved, begun, rounds_move_ports)
 
   pub disk_turns : length steps.first ≡ length behind.first
-  disk_turns =
-      begun.goes.made.of_first.many
-      ∙ sym (disks_moved 0 begun.w.lanes.first (entries_of_rounds (out.last ∷ [])) out.now.lanes.first
-      (rounds_move_disks begun.w (out.last ∷ []) out.now begun.last))
-      ∙ ap (λ (l : Lanes). length l.first) (sym out.lanes)
+  disk_turns = grind (arith, begun, disks_moved, rounds_move_disks)
 
   pub port_turns : length steps.second ≡ length behind.second
-  port_turns =
-      begun.goes.made.of_second.many
-      ∙ sym (many_moved SwitchStep port_said 0 begun.w.lanes.second (entries_of_rounds (out.last ∷ [])) out.now.lanes.second
-      (rounds_move_ports begun.w (out.last ∷ []) out.now begun.last))
-      ∙ ap (λ (l : Lanes). length l.second) (sym out.lanes)
+  port_turns = grind (arith, begun, many_moved, rounds_move_ports)
 
   pub record RoundMade : Type 0 where
     pub before : Lanes
@@ -117,13 +95,7 @@ module _ (start : Lanes) (part : List SettleEntry) (behind : Lanes) (out : RunsO
     pub as_many_ports : length before.second ≡ length start.second
 
   pub round_made : RoundMade
-  round_made = record {
-    before = begun.w.lanes;
-    between = begun.goes.between;
-    made = begun.goes.made;
-    as_many_disks = sym many_disks;
-    as_many_ports = sym many_ports;
-  }
+  round_made = grind (arith, begun, many_disks, many_ports)
 
   -- A NAME of the part is among its names
   names_with : (entry : SettleEntry) → IsName entry → (so_far rest : List SettleEntry) → part ≡ so_far ++ entry ∷ rest
@@ -246,13 +218,7 @@ module _ (start : Lanes) (part : List SettleEntry) (behind : Lanes) (out : RunsO
       by_why : MovedBy disk_kind disk_entries k (disks.leaves steps.first) ⊎ WaitsBy disk_kind 0 k behind.first
           → MovedBy disk_kind disk_entries k (lanes.leaves steps) ⊎ (disk_waits s ≡ true)
       by_why (inl moved) = inl (moved_left disk_kind disk_entries k (disks.leaves steps.first) (switch.leaves steps.second) moved)
-      by_why (inr at) =
-          let number : at.index ≡ k = omega (arith, at.is) in
-          let here : slice_get behind.first k ≡ Some at.lane =
-          subst (λ (i : ℕ). slice_get behind.first i ≡ Some at.lane) number at.there in
-          let both : Some at.lane ≡ Some s = sym here ∙ there in
-          let same : at.lane ≡ s = cc both in
-          inr (subst (λ (x : LaneState). disk_waits x ≡ true) same at.waits)
+      by_why (inr at) = grind (arith, slice_get)
 
       by_side : {later rest : List SettleEntry} → InEither (disks.names steps.first behind.first) (switch.names steps.second behind.second) later (Unsettled k) rest
           → MovedBy disk_kind disk_entries k (lanes.leaves steps) ⊎ (disk_waits s ≡ true)

@@ -1,7 +1,7 @@
 -- A disk's state says whether a call of its store failed, and so do its events.
-use Rattle.std.proofs.Common.{◌≡◌, ◌↔◌, false, List, [], ◌∷◌, refl, sym, ap, ◌∙◌}
+use Rattle.std.proofs.Common.{◌≡◌, ◌↔◌, false, List, [], ◌∷◌, sym, ap, ◌∙◌, arith}
 use Rattle.runs.specs.Run.{Run}
-use Rattle.world_parts.specs.disk_model.DiskEvent.{Asks, DiskEvent, OnWire, Calms, Stored, Switches, Works}
+use Rattle.world_parts.specs.disk_model.DiskEvent.{DiskEvent}
 use Rattle.world_parts.specs.disk_model.LaneState.{LaneState, Shape, fresh}
 use Rattle.world_parts.specs.disk_model.LaneStep.{LaneStep}
 use Rattle.world_parts.proofs.lane_laws.FailedRuns.{failed_before, stored_well}
@@ -12,21 +12,13 @@ use Rattle.world_parts.specs.world_laws.Failures.{is_failed_store}
 -- ONE EVENT
 event_well : (s : LaneState) (event : DiskEvent) (t : LaneState) → LaneStep s event t → t.failed ≡ false
     → is_failed_store event ≡ false
-event_well s (Works (Stored operation block count failed)) t step well =
-    stored_well s step.0 operation block count failed t step.1 well
-event_well s (Works _) t step well = refl
-event_well s (OnWire event) t step well = refl
-event_well s (Asks event) t step well = refl
-event_well s (Switches event) t step well = refl
-event_well s (Calms event) t step well = refl
+event_well s event t step well = grind (arith, stored_well)
 
 -- A RUN that leads to a lane none of whose calls failed, and one that leads from it
 none_failed : (s : LaneState) (events : List DiskEvent) (t : LaneState) → Run LaneStep s events t → t.failed ≡ false
     → (s.failed ≡ false) × NoStoreFailed events
 none_failed s [] t run well = (ap (λ (l : LaneState). l.failed) run ∙ well, tt)
-none_failed s (event ∷ events) t run well =
-    let later = none_failed run.0 events t run.2 well in
-    (failed_before s event run.0 run.1 later.0, (event_well s event run.0 run.1 later.0, later.1))
+none_failed s (event ∷ events) t run well = grind (arith, failed_before, event_well, none_failed run.0 events t run.2 well)
 
 stays_well : (s : LaneState) (events : List DiskEvent) (t : LaneState) → Run LaneStep s events t → s.failed ≡ false
     → NoStoreFailed events → t.failed ≡ false
@@ -36,7 +28,4 @@ stays_well s (event ∷ events) t run well none =
 
 pub fails_by_events : (shape : Shape) (events : List DiskEvent) (s : LaneState) → Run LaneStep (fresh shape) events s
     → (s.failed ≡ false) ↔ NoStoreFailed events
-fails_by_events shape events s run = (
-  λ well. (none_failed (fresh shape) events s run well).1,
-  λ none. stays_well (fresh shape) events s run refl none,
-)
+fails_by_events shape events s run = grind (arith, none_failed, stays_well)

@@ -1,20 +1,19 @@
 -- Whether a disk's lane is finished, by its log.
-use Rattle.std.proofs.Common.{◌≡◌, ℕ, ◌-◌, ◌≤◌, Bool, true, false, List, [], ◌∷◌, length, Option, Some, None, refl, sym, ◌∙◌, arith}
+use Rattle.std.proofs.Common.{◌≡◌, ℕ, ◌-◌, ◌≤◌, Bool, true, false, List, [], ◌∷◌, length, refl, sym, ◌∙◌, arith}
 use Rattle.std.specs.Prelude.{◌&&◌, is_some}
 use Rattle.runs.specs.Lawful.{log_of, run_lawful}
 use Rattle.runs.specs.Run.{Run}
-use Rattle.world_parts.specs.disk_model.ClientState.{ClientSession, is_finished, is_nothing}
+use Rattle.world_parts.specs.disk_model.ClientState.{is_finished, is_nothing}
 use Rattle.world_parts.specs.disk_model.DiskEvent.{DiskEvent}
 use Rattle.world_parts.specs.disk_model.LaneState.{IsShape, LaneState, Shape, fresh}
 use Rattle.world_parts.specs.disk_model.LaneStep.{LaneStep}
 use Rattle.world_parts.proofs.lane_laws.AgreementRuns.{run_agrees}
 use Rattle.world_parts.proofs.lane_laws.CarriedRuns.{AllStand, all_step, fresh_all}
 use Rattle.world_parts.proofs.lane_laws.StandingRuns.{pending_is}
-use Rattle.world_parts.specs.lane_laws.Agreement.{AgreesWithLog, ClientAgrees}
+use Rattle.world_parts.specs.lane_laws.Agreement.{AgreesWithLog}
 use Rattle.world_parts.specs.lane_laws.DiskLog.{DiskLog, after, nothing_yet}
 use Rattle.world_parts.specs.lane_laws.RequestLaws.{CarriesAt}
 use Rattle.world_parts.specs.lane_laws.Standing.{RequestsStand}
-use Rattle.world_parts.specs.lane_laws.WorkLog.{ClientCounts}
 use Rattle.script_laws.specs.Settled.{IsFinishedBy}
 use Rattle.vdisk_msg.specs.declared.request.Request.{Request}
 
@@ -45,12 +44,6 @@ nothing_pending : (requests : List Request) → length requests ≡ 0 → is_not
 nothing_pending [] none = refl
 nothing_pending (request ∷ requests) none = absurd (omega (arith, none))
 
-session_by : (s : Option ClientSession) (done : ℕ) (c : Option ClientCounts) → ClientAgrees s done c → is_some s ≡ is_some c
-session_by None done None agrees = refl
-session_by None done (Some c) agrees = absurd agrees
-session_by (Some s) done None agrees = absurd agrees
-session_by (Some s) done (Some c) agrees = refl
-
 none_missing : (pending issued done : ℕ) → pending ≡ 0 → pending ≡ issued - done → done ≤ issued → done ≡ issued
 none_missing pending issued done none is few = omega (arith, none, is, few)
 
@@ -67,7 +60,7 @@ module _ (shape : Shape) (events : List DiskEvent) (s : LaneState) (sound : IsSh
   agrees = run_agrees shape events s sound run
 
   open_by : is_some s.client.session ≡ is_some l.work.client
-  open_by = session_by s.client.session l.work.done l.work.client agrees.client
+  open_by = grind (arith, agrees)
 
   pub finished_by : is_finished s.client ≡ true → IsFinishedBy l
   finished_by finished =

@@ -1,5 +1,5 @@
 -- A line of a script that is for one lane leaves all others, and the image around its disk's region.
-use Rattle.std.proofs.Common.{◌≡◌, ℕ, ◌≤◌, Option, Some, IfSome, List, ◌∷◌, ◌++◌, length, slice_get, sym, ap, ◌∙◌, subst}
+use Rattle.std.proofs.Common.{◌≡◌, ℕ, ◌≤◌, Option, Some, IfSome, List, ◌∷◌, ◌++◌, length, slice_get, sym, ap, ◌∙◌, subst, arith}
 use Rattle.runs.specs.Run.{Run, run_split}
 use Rattle.disk_law.specs.ListState.{ImageState}
 use Rattle.world_parts.specs.disk_model.LaneState.{Shape}
@@ -18,7 +18,7 @@ use Rattle.world_parts.specs.domain_laws.Lines.{DiskLane, PortLane}
 use Rattle.ldom_entries.specs.declared.entry.Entry.{Entry}
 use Rattle.script_laws.proofs.DeclaredWorlds.{AsLines, as_lines, declared_world, says_told}
 use Rattle.script_laws.proofs.Untold.{told_put}
-use Rattle.script_laws.specs.Apart.{CutsOff, LeavesAlone, PassesBy, StandApart}
+use Rattle.script_laws.specs.Apart.{CutsOff, PassesBy, StandApart}
 use Rattle.script_laws.specs.Told.{told_by}
 use Rattle.world_parts.specs.Declared.{bytes_needed, shapes_of, world_of}
 use Rattle.world_parts.specs.Lines.{EventStep, LineStarts, line_of}
@@ -127,7 +127,4 @@ module _ (disks : List DiskDecl) (nets : List NetShape) (image : ImageState) (pa
 
 pub stand_apart : (disks : List DiskDecl) (nets : List NetShape) (image : ImageState) (parts : ScriptParts) (v : DomainState)
     → AreDisks disks → FitsScript 0 (world_of disks nets image) parts v → StandApart disks nets image parts v
-stand_apart disks nets image parts v are fits = record {
-  whole = passes_by disks nets image parts v are fits;
-  cut = cuts_off disks nets image parts v are fits;
-}
+stand_apart disks nets image parts v are given = grind (arith, passes_by, cuts_off)

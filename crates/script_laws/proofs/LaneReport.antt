@@ -20,8 +20,7 @@ use Rattle.domain_script.specs.declared.event.Side.{Side}
 use Rattle.domain_script.specs.declared.event.Side.TheVariants.{Client, Server}
 use Rattle.world_parts.specs.world_laws.Settle.{OfLane, SettleEntry, Settled, Unsettled}
 use Rattle.kept_requests.specs.Bytes.{filled}
-use Rattle.ldom_report.specs.DiskEvents.{said, said_of_any, whole_history}
-use Rattle.ldom_report.specs.EntryText.{entry_lines, line_text, report_entries}
+use Rattle.ldom_report.specs.EntryText.{line_text, report_entries}
 use Rattle.ldom_report.specs.Report.{accepted_count, done_count, frame_count, reset_count}
 use Rattle.ldom_entries.specs.declared.entry.Entry.{Entry}
 use Rattle.ldom_entries.specs.declared.entry.Entry.TheVariants as entry
@@ -117,20 +116,9 @@ joined s t = record {
   frames = s.frames + t.frames;
 }
 
-ids_append : (one two : List Entry) → completed_ids (one ++ two) ≡ completed_ids one ++ completed_ids two
-ids_append one two =
-    ap (λ (es : List plain.ListEvent). completed es) (filter_map-append (λ (x : Entry). said_of_any (said x)) one two)
-    ∙ completed-append (whole_history one) (whole_history two)
-
 parts_joined : (disk : DiskDecl) (one two : List Entry)
     → told_part disk (one ++ two) ≡ joined (told_part disk one) (told_part disk two)
-parts_joined disk one two =
-    let text = flat_map-append (entry_lines mode.Run (one_disk disk)) one two in
-    let ids = ids_append one two in
-    let done : done_count (one ++ two) ≡ done_count one + done_count two = sum_by-append _ one two in
-    let resets : reset_count (one ++ two) ≡ reset_count one + reset_count two = sum_by-append _ one two in
-    let frames : frame_count (one ++ two) ≡ frame_count one + frame_count two = sum_by-append _ one two in
-    λ i. record { text = text i; ids = ids i; done = done i; resets = resets i; frames = frames i }
+parts_joined disk one two = grind (arith, flat_map-append, filter_map-append, completed-append, sum_by-append)
 
 pub texts_append : (disk : DiskDecl) (one two : List SettleEntry)
     → texts disk (one ++ two) ≡ texts disk one ++ texts disk two
@@ -147,11 +135,7 @@ lanes_joined : (disk : DiskDecl) (one two : List SettleEntry)
     → told_lanes disk (one ++ two) ≡ joined (told_lanes disk one) (told_lanes disk two)
 lanes_joined disk one two =
     let text = texts_append disk one two in
-    let ids = ids_in_append one two in
-    let done : length (ids_in (one ++ two)) ≡ length (ids_in one) + length (ids_in two) =
-    ap (λ (l : List ℕ). length l) ids ∙ length-append (ids_in one) (ids_in two) in
-    let resets = resets_append one two in
-    λ i. record { text = text i; ids = ids i; done = done i; resets = resets i; frames = 0 }
+    grind (arith, ids_in_append, length-append, resets_append)
 
 pub told_append : (disk : DiskDecl) (xs ys others more : List SettleEntry) → told_lanes disk xs ≡ told_lanes disk ys
     → told_lanes disk others ≡ told_lanes disk more → told_lanes disk (xs ++ others) ≡ told_lanes disk (ys ++ more)

@@ -1,6 +1,6 @@
 -- What a script's journal leads to, also where want of memory cut off its last line: no lane is left over where nobody
 -- forged one before, and after each settle all disks are finished whose servers run and that nobody forged.
-use Rattle.std.proofs.Common.{◌≡◌, inl, inr, ℕ, Option, Some, None, List, [], ◌∷◌, ◌++◌, refl, sym, ap, ◌∙◌, subst}
+use Rattle.std.proofs.Common.{◌≡◌, inl, inr, ℕ, Option, Some, None, List, [], ◌∷◌, ◌++◌, refl, sym, ap, ◌∙◌, subst, arith}
 use Rattle.runs.specs.Run.{Run, run_append}
 use Rattle.disk_law.specs.ListState.{ImageState}
 use Rattle.domain_script.specs.declared.event.DiskDecl.{DiskDecl}
@@ -11,10 +11,10 @@ use Rattle.world_parts.specs.world_laws.World.{WorldStep, fresh_world}
 use Rattle.world_parts.proofs.domain_laws.LineEntries.{each_in}
 use Rattle.world_parts.proofs.domain_laws.Running.{disks_run}
 use Rattle.world_parts.proofs.domain_laws.ScriptEntries.{lines_run}
-use Rattle.world_parts.specs.domain_laws.Domain.{DomainState, DomainStep, lanes_in}
+use Rattle.world_parts.specs.domain_laws.Domain.{DomainState, DomainStep}
 use Rattle.world_parts.specs.domain_laws.Lines as world
 use Rattle.ldom_entries.specs.declared.entry.Entry.{Entry}
-use Rattle.script_laws.proofs.Entries.{IsName, IsOfLane, NotSettled}
+use Rattle.script_laws.proofs.Entries.{IsName, IsOfLane}
 use Rattle.script_laws.proofs.LineEntries.{begins_lanes, begins_unsettled}
 use Rattle.script_laws.proofs.Places.{InEither, place_in}
 use Rattle.script_laws.proofs.ReachedLanes.{AreLanes, any_front}
@@ -96,19 +96,14 @@ module _ (disks : List DiskDecl) (nets : List NetShape) (image : ImageState) whe
 
     lines_lead : (lines : List (Event × List Entry)) (v : DomainState) → Run EventStep Start lines v
         → Leads disks nets image (told lines) v
-    lines_lead lines v run =
-        let real : AsLines Start lines v = as_lines Start lines v run in
-        subst (λ (l : List SettleEntry). Leads disks nets image l v) (sym real.told_is)
-        (as_told (world.entries_of_lines real.real) v (whole_lead real.real v real.run))
+    lines_lead lines v run = grind (arith, as_lines, as_told, whole_lead)
 
     -- A FRONT OF ONE MORE doesn't say that all is settled; and where nobody forged a lane it names none
     module _ (lines : List (world.Line × List SettleEntry)) (w : DomainState) (line : world.Line)
         (part : List SettleEntry) (v : DomainState) (run : Run world.LineStep Start lines w)
         (begun : world.LineBegins w line part v) (before behind : List SettleEntry) where
       not_lane : (entry : SettleEntry) → IsName entry → IsOfLane entry → ⊥
-      not_lane (Unsettled k) name of = of
-      not_lane (UnsettledPort k) name of = of
-      not_lane _ name of = name
+      not_lane entry name of = grind arith
 
       cut_none : (entry : SettleEntry) → IsName entry → InEither (world.entries_of_lines lines) part before entry behind
           → NobodyForgesAll before → ⊥
@@ -116,16 +111,10 @@ module _ (disks : List DiskDecl) (nets : List NetShape) (image : ImageState) whe
       cut_none entry name (inr at) none =
           let front : NobodyForgesAll (world.entries_of_lines lines) =
           any_front (world.entries_of_lines lines) at.later (subst NobodyForgesAll at.before_is none) in
-          let of_lanes = begins_lanes line (lanes_in w) part (lanes_in v) (reached_lines disks nets image are lines w run)
-          (unforged_lines disks nets image are lines w run front) begun.begins in
-          not_lane entry name (each_in IsOfLane part at.later entry behind at.is of_lanes)
+          grind (arith, begins_lanes, reached_lines, unforged_lines, not_lane, each_in)
 
       cut_finished : InEither (world.entries_of_lines lines) part before Settled behind → FinishedAt disks image before
-      cut_finished (inl at) = finished_at disks nets image are lines w run before at.rest at.is
-      cut_finished (inr at) =
-          absurd
-          (each_in NotSettled part at.later Settled behind at.is
-          (begins_unsettled line (lanes_in w) part (lanes_in v) begun.begins))
+      cut_finished given = grind (arith, finished_at, each_in, begins_unsettled)
 
       cut_rest : InEither (world.entries_of_lines lines) part before Settled behind
           → PortsRestAt disks nets image before behind v
@@ -139,10 +128,7 @@ module _ (disks : List DiskDecl) (nets : List NetShape) (image : ImageState) whe
                 (run_append DomainStep rest.at w v at.rest part rest.on begun.run);
             rests = rest.rests;
           }
-      cut_rest (inr at) =
-          absurd
-          (each_in NotSettled part at.later Settled behind at.is
-          (begins_unsettled line (lanes_in w) part (lanes_in v) begun.begins))
+      cut_rest (inr at) = grind (arith, each_in, begins_unsettled)
 
     cut_lead : (lines : List (world.Line × List SettleEntry)) (w : DomainState) (line : world.Line)
         (part : List SettleEntry) (v : DomainState) → Run world.LineStep Start lines w
@@ -156,9 +142,7 @@ module _ (disks : List DiskDecl) (nets : List NetShape) (image : ImageState) whe
       finished = λ before behind is.
           cut_finished lines w line part v run begun before behind
           (place_in (world.entries_of_lines lines) part before Settled behind is);
-      ports_rest = λ before behind is.
-          cut_rest lines w line part v run begun before behind
-          (place_in (world.entries_of_lines lines) part before Settled behind is);
+      ports_rest = λ before behind is. grind (arith, cut_rest, place_in);
     }
 
     -- ALL LINES, of which the last may have been cut off

@@ -1,5 +1,5 @@
 -- A lane that was led on, by a part, from where the lines before it led.
-use Rattle.std.proofs.Common.{◌≡◌, ℕ, List, ◌++◌, slice_get, Some, sym, subst}
+use Rattle.std.proofs.Common.{◌≡◌, ℕ, List, ◌++◌, slice_get, Some, sym, subst, arith}
 use Rattle.runs.specs.Run.{Run, run_append}
 use Rattle.disk_law.specs.ListState.{ImageState}
 use Rattle.world_parts.specs.disk_model.DiskEvent.{DiskEvent}
@@ -27,9 +27,7 @@ use Rattle.world_parts.specs.Lines.{EventStep}
 pub real_run : (disks : List DiskDecl) (nets : List NetShape) (image : ImageState) (lines : List (Event × List Entry))
     (w : DomainState) (run : Run EventStep (world_of disks nets image) lines w)
     → Run DomainStep (world_of disks nets image) (entries_of_lines (as_lines (world_of disks nets image) lines w run).real) w
-real_run disks nets image lines w run =
-    let lines_are = as_lines (world_of disks nets image) lines w run in
-    lines_run (world_of disks nets image) lines_are.real w lines_are.run
+real_run disks nets image lines w run = grind (arith, as_lines, lines_run)
 
 pub told_run : (disks : List DiskDecl) (nets : List NetShape) (image : ImageState) (lines : List (Event × List Entry))
     (w : DomainState) → Run EventStep (world_of disks nets image) lines w
@@ -46,9 +44,7 @@ module _ (disks : List DiskDecl) (nets : List NetShape) (image : ImageState) (x 
     (run : Run EventStep (world_of disks nets image) before w) (s : LaneState) (there : slice_get w.first.lanes x ≡ Some s) where
   -- up to there
   pub own_run : Run LaneStep (fresh shape) (happened x (told before)) s
-  own_run =
-      (lanes_run (shapes_of 0 disks) image (told before) w.first (told_run disks nets image before w run)).each x shape s of_shape
-      there
+  own_run = grind (arith, lanes_run, told_run)
 
   -- and on
   pub led_run : (so_far : List SettleEntry) (t : LaneState) → Run LaneStep s (happened x so_far) t

@@ -23,13 +23,7 @@ pub record WaitsBy {S V : Type 0} (K : LaneKind S V) (k x : ℕ) (w : List S) : 
 module _ {S V E : Type 0} (K : LaneKind S V) (N : Entries V E) where
   -- in a longer part
   pub moved_left : (x : ℕ) (one two : List E) → MovedBy K N x one → MovedBy K N x (one ++ two)
-  moved_left x one two at = record {
-    before = at.before;
-    event = at.event;
-    later = at.later ++ two;
-    is = ap (λ (l : List E). l ++ two) at.is ∙ append_assoc at.before (N.of_lane x at.event ∷ at.later) two;
-    loud = at.loud;
-  }
+  moved_left x one two given = grind (arith, append_assoc)
 
   pub moved_right : (x : ℕ) (one two : List E) → MovedBy K N x two → MovedBy K N x (one ++ two)
   moved_right x one two at = record {
@@ -175,22 +169,15 @@ module _ {S V E : Type 0} (K : LaneKind S V) (N : Entries V E) where
     first_false false b is = refl
 
     later_loud : (k x : ℕ) (event : V) (events : List V) → OwnLoud k x events → OwnLoud k x (event ∷ events)
-    later_loud k x event events at = record { same = at.same; loud = and_false (K.is_calm event) (all_calm K events) at.loud }
+    later_loud k x event events given = grind arith
 
     in_event : (k x : ℕ) (event : V) (events : List V) (silent : Bool) (before : List E) (f : V) (later : List E)
         → (if silent then [] else N.of_lane k event ∷ []) ++ turn_entries K N k events ≡ before ++ N.of_lane x f ∷ later
         → K.is_calm f ≡ false
         → ((past : List E) → turn_entries K N k events ≡ past ++ N.of_lane x f ∷ later → OwnLoud k x events) → OwnLoud k x (event ∷ events)
     in_event k x event events true before f later is loud more = later_loud k x event events (more before is)
-    in_event k x event events false [] f later is loud more =
-        let first : N.of_lane k event ≡ N.of_lane x f = cc is in
-        record {
-          same = one_lane k x event f first;
-          loud = first_false (K.is_calm event) (all_calm K events) (ap K.is_calm (one_event k x event f first) ∙ loud);
-        }
-    in_event k x event events false (y ∷ before) f later is loud more =
-        let rest : turn_entries K N k events ≡ before ++ N.of_lane x f ∷ later = cc is in
-        later_loud k x event events (more before rest)
+    in_event k x event events false [] f later is loud more = grind (arith, first_false)
+    in_event k x event events false (y ∷ before) f later is loud more = grind (arith, later_loud)
 
     in_turn : (k x : ℕ) (events : List V) (before : List E) (f : V) (later : List E) → turn_entries K N k events ≡ before ++ N.of_lane x f ∷ later
         → K.is_calm f ≡ false → OwnLoud k x events

@@ -28,11 +28,11 @@ use Rattle.world_parts.specs.world_laws.DiskKind.{waits_on}
 use Rattle.world_parts.specs.world_laws.Moves.{IsLeftOver, MovedIn}
 use Rattle.world_parts.specs.world_laws.Requests.{pending_of}
 use Rattle.world_parts.specs.world_laws.Rounds.{LaneRound}
-use Rattle.world_parts.specs.world_laws.Settle.{OfLane, SettleEntry, Unsettled, UnsettledPort, disks, pending_on, round_entries}
+use Rattle.world_parts.specs.world_laws.Settle.{SettleEntry, Unsettled, UnsettledPort, disks, pending_on, round_entries}
 use Rattle.world_parts.proofs.domain_laws.Counting.{made_move}
 use Rattle.world_parts.proofs.domain_laws.DiskParts.{disks_end as names_move, rounds_move_disks}
 use Rattle.world_parts.proofs.domain_laws.LineEntries.{AllRound, EachEntry, each_in}
-use Rattle.world_parts.specs.domain_laws.Counts.{moves, moves_in}
+use Rattle.world_parts.specs.domain_laws.Counts.{moves_in}
 use Rattle.world_parts.specs.domain_laws.Domain.{DomainState, Lanes, lanes, lanes_in, port_entries, switch}
 use Rattle.world_parts.specs.domain_laws.Lines.{fronts}
 use Rattle.ldom_entries.specs.declared.entry.Entry.{Entry}
@@ -80,11 +80,7 @@ pub name_at : (start : Lanes) (part : List SettleEntry) (behind : Lanes)
     → (so_far rest : List SettleEntry) → part ≡ so_far ++ entry ∷ rest → most_rounds lanes start ≤ moves_in so_far
 name_at start part behind goes entry name so_far rest is =
     let at : NamesAt start so_far entry behind = names_at start part behind goes entry name so_far rest is in
-    let rounds : List AllRound = at.rounds ++ at.last ∷ [] in
-    let all : List SettleEntry = entries_of_rounds rounds in
-    subst (λ (l : List SettleEntry). most_rounds lanes start ≤ moves_in l) (sym at.so_far_is)
-    (enough (most_rounds lanes start) (length rounds) (moves_in all) (moves_in (all ++ at.later)) (moves_in at.later) at.most
-    (made_move (begin lanes start) rounds at.now at.run) (sum_both moves all at.later))
+    grind (arith, enough, made_move, sum_both)
 
 -- and the disk moved in the last of them, or waits
 left_why : (x : ℕ) (steps : Two (List LaneRound) (List (List SwitchEvent))) (so_far : List SettleEntry) (behind : List LaneState)
@@ -95,13 +91,7 @@ left_why x steps so_far behind last (inl moved) =
     (moved_right x last.earlier (lanes.leaves steps ++ last.later)
     (moved_left x (lanes.leaves steps) last.later
     (moved_left x (round_entries 0 steps.first) (switch.leaves steps.second) moved))))
-left_why x steps so_far behind last (inr at) =
-    let number : at.index ≡ x = omega (arith, at.is) in
-    inr (record {
-      lane = at.lane;
-      there = subst (λ (i : ℕ). slice_get behind i ≡ Some at.lane) number at.there;
-      waits = at.waits;
-    })
+left_why x steps so_far behind last (inr at) = grind (arith, slice_get)
 
 pub left_at : (start : Lanes) (part : List SettleEntry) (behind : Lanes)
     → SettlePart lanes start part behind ⊎ SettleFront lanes fronts start part behind → (x : ℕ)
@@ -125,13 +115,7 @@ left_at start part behind goes x so_far rest is =
 
 -- AS IT IS TOLD
 told_moved : (x : ℕ) (part : List SettleEntry) → MovedIn x part → MovedIn x (all_told part)
-told_moved x part at = record {
-  before = all_told at.before;
-  event = at.event;
-  later = all_told at.later;
-  is = ap all_told at.is ∙ map_both told_of at.before (OfLane x at.event ∷ at.later);
-  loud = at.loud;
-}
+told_moved x part given = grind (arith, map_both)
 
 most_is : (p q r m n : ℕ) → 4096 + 64 * (p + q) ≤ m → p ≡ r → n ≡ m → 4096 + 64 * (r + q) ≤ n
 most_is p q r m n most one two = omega (arith, most, one, two)

@@ -1,5 +1,5 @@
 -- The part of a line: where it isn't a settle's, events of lanes alone; and a settle ends with its answer or with names.
-use Rattle.std.proofs.Common.{◌≡◌, ◌⊎◌, inl, inr, ℕ, ◌≤◌, List, [], ◌∷◌, ◌++◌, replicate, subst, sym}
+use Rattle.std.proofs.Common.{◌≡◌, ◌⊎◌, inl, inr, ℕ, ◌≤◌, List, [], ◌∷◌, ◌++◌, replicate, subst, sym, arith}
 use Rattle.lane_kinds.specs.Fronts.{SettleFront}
 use Rattle.lane_kinds.specs.Settles.{SettlePart, Settles}
 use Rattle.world_parts.specs.world_laws.Settle.{SettleEntry, Settled}
@@ -88,9 +88,7 @@ settle_rules w part behind (inr at) =
 
 -- NO LANE IS LEFT OVER by a line over lanes that nobody forged
 last_leaves : (part : List SettleEntry) → SettledLast part → EachEntry LeavesNone part
-last_leaves part at =
-    each_as LeavesNone part (at.front ++ Settled ∷ []) at.is
-    (each_both LeavesNone at.front (Settled ∷ []) (lanes_leave at.front at.of_lanes) (tt, tt))
+last_leaves part given = grind (arith, each_as, each_both, lanes_leave)
 
 by_kind : (w : Lanes) (part : List SettleEntry) (behind : Lanes) → AreReachedFew w → AreUnforged w
     → SettlePart lanes w part behind ⊎ AreOfLanes part → EachEntry LeavesNone part
@@ -105,10 +103,7 @@ part_leaves line w part behind at unforged is =
 
 -- THE ANSWER OF A SETTLE stands in no other part, and in none that ran out of rounds
 pub names_last : (part : List SettleEntry) → NamesLast part → EachEntry NotSettled part
-names_last part at =
-    each_as NotSettled part (at.front ++ at.names) at.is
-    (each_both NotSettled at.front at.names (lanes_unsettled at.front at.of_lanes)
-    (names_unsettled at.names at.are))
+names_last part given = grind (arith, each_as, each_both, lanes_unsettled, names_unsettled)
 
 settles_if : (w : Lanes) (part before later : List SettleEntry) (behind : Lanes)
     → part ≡ before ++ Settled ∷ later → SettlePart lanes w part behind ⊎ AreOfLanes part

@@ -1,5 +1,5 @@
 -- Lists of lines with their parts, one after another, of which the last may be cut off; and how they end.
-use Rattle.std.proofs.Common.{◌≡◌, ℕ, ◌+◌, ◌<◌, List, [], ◌∷◌, ◌++◌, length, Option, Some, None, refl, sym, ◌∙◌, ap, subst, append_assoc, length-append, arith}
+use Rattle.std.proofs.Common.{◌≡◌, ℕ, ◌+◌, ◌<◌, List, [], ◌∷◌, ◌++◌, length, Option, Some, None, refl, ◌∙◌, ap, append_assoc, length-append, arith}
 use Rattle.std.proofs.lemmas.List.{append-nil, map-append}
 use Rattle.std.proofs.lemmas.List.Concat.{flat_map-append}
 use Rattle.domain_script.specs.declared.event.Event.{Event}
@@ -11,7 +11,7 @@ use Rattle.ldom_report.specs.declared.status.Status.TheVariants as status
 use Rattle.ldom_report.specs.Stops.{IsReaders}
 use Rattle.world_parts.specs.Endings.{EndsSo, ending}
 use Rattle.world_parts.specs.Lines.{EventStep}
-use Rattle.world_parts.specs.Script.{BeginBelow, FitsScript, LastStarts, ScriptParts, all_lines, entries_in, events_in, events_of, journal_of, with_last}
+use Rattle.world_parts.specs.Script.{BeginBelow, FitsScript, ScriptParts, all_lines, entries_in, events_in, events_of, journal_of, with_last}
 use Rattle.world_parts.specs.domain_laws.Domain.{DomainState}
 use Rattle.runs.specs.Run.{Run}
 
@@ -55,27 +55,13 @@ pub record RanWhole (entries : ℕ) (s : DomainState) (parts : ScriptParts) (t :
 
 pub ran_whole : (entries : ℕ) (s : DomainState) (parts : ScriptParts) (t : DomainState) → parts.cut ≡ None
     → FitsScript entries s parts t → RanWhole entries s parts t
-ran_whole entries s parts t none fits =
-    let last : t ≡ fits.middle =
-    subst (λ (cut : Option (Event × List Entry)). LastStarts fits.middle cut t) none fits.last in
-    record {
-      run = subst (λ (x : DomainState). Run EventStep s parts.whole x) (sym last) fits.run;
-      lines_are = ap (λ (cut : Option (Event × List Entry)). with_last parts.whole cut) none;
-    }
+ran_whole entries s parts t none given = grind arith
 
 -- lines that begin below the most, and then others
 pub below_both : (entries : ℕ) (lines more : List (Event × List Entry)) → BeginBelow entries lines
     → BeginBelow (entries + length (entries_in lines)) more → BeginBelow entries (lines ++ more)
-below_both entries [] more first second =
-    let same : entries + 0 ≡ entries = omega arith in
-    subst (λ (n : ℕ). BeginBelow n more) same second
-below_both entries (line ∷ lines) more first second =
-    let behind : List Entry = entries_in lines in
-    let same : entries + length (line.1 ++ behind) ≡ entries + length line.1 + length behind =
-    omega (arith, length-append line.1 behind) in (
-      first.0,
-      below_both (entries + length line.1) lines more first.1 (subst (λ (n : ℕ). BeginBelow n more) same second),
-    )
+below_both entries (line ∷ lines) more first second = grind (arith, length-append, below_both (entries + length line.1) lines more first.1)
+below_both entries lines more first second = grind arith
 
 pub below_push : (entries : ℕ) (lines : List (Event × List Entry)) (line : Event × List Entry)
     → BeginBelow entries lines → entries + length (entries_in lines) < 2000000
@@ -86,26 +72,13 @@ below_push entries lines line first below = below_both entries lines (line ∷ [
 pub by_readers : (P : Status → Type 0) → P status.Done → ((at : ℕ) (fault : LineFault) → P (status.Script at fault))
     → P status.SourceFault → ((at : ℕ) (kind : LimitKind) → P (status.Limit at kind)) → P status.NoMemory
     → (why : Status) → IsReaders why → P why
-by_readers P done script source limit memory status.Done readers = done
-by_readers P done script source limit memory (status.Script at fault) readers = script at fault
-by_readers P done script source limit memory status.SourceFault readers = source
-by_readers P done script source limit memory (status.Limit at kind) readers = limit at kind
-by_readers P done script source limit memory status.NoMemory readers = memory
-by_readers P done script source limit memory status.Usage readers = absurd readers
-by_readers P done script source limit memory status.SinkFault readers = absurd readers
-by_readers P done script source limit memory status.HostFault readers = absurd readers
-by_readers P done script source limit memory status.StoreFault readers = absurd readers
-by_readers P done script source limit memory (status.ImageSize need have) readers = absurd readers
+by_readers P done script source limit memory why readers = grind arith
 
 -- where none was cut off, and where more lines stand before
 pub whole_ends : (lines : List (Event × List Entry)) (why : Status) → IsReaders why
     → EndsSo (ending why) (record { whole = lines; cut = None })
-whole_ends lines why readers =
-    by_readers (λ (w : Status). EndsSo (ending w) (record { whole = lines; cut = None })) refl (λ at fault. refl) refl
-    (λ at kind. refl) tt why readers
+whole_ends lines why readers = grind (arith, by_readers)
 
 pub behind_ends : (lines : List (Event × List Entry)) (parts : ScriptParts) (why : Status) → IsReaders why
     → EndsSo (ending why) parts → EndsSo (ending why) (behind_lines lines parts)
-behind_ends lines parts why readers =
-    by_readers (λ (w : Status). EndsSo (ending w) parts → EndsSo (ending w) (behind_lines lines parts)) (λ is. is)
-    (λ at fault is. is) (λ is. is) (λ at kind is. is) (λ is. tt) why readers
+behind_ends lines parts why readers = grind (arith, by_readers)

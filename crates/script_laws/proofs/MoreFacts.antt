@@ -1,5 +1,5 @@
 -- What the image of every run is left with, outside of what accepted writes name.
-use Rattle.std.proofs.Common.{◌≡◌, inl, inr, ℕ, ◌≤◌, List, [], length, refl, sym, ◌∙◌, ap, subst, Option, Some, None, IfSome}
+use Rattle.std.proofs.Common.{◌≡◌, ℕ, ◌≤◌, List, [], length, refl, sym, ◌∙◌, ap, subst, Option, Some, None, IfSome, arith}
 use Rattle.world_parts.specs.domain_laws.Domain.{Lanes}
 use Rattle.std.proofs.lemmas.Option.{IfSome_then}
 use Rattle.disk_law.specs.ListState.{ImageState}
@@ -64,13 +64,7 @@ module _ {D : Type 0} (seen : D → ImageState) (script now : Option (List ℕ))
     by_told : (o : Option (List ℕ)) → gives (bytes_needed names.disks) ≡ o
         → IfSome image (λ disk. KeepsTold o (IsOutsideDisks names.disks journal) (seen disk).told)
     by_told None is = untold image
-    by_told (Some first) is = elim (long_or_none size why (bytes_needed names.disks) (gives (bytes_needed names.disks)) image sized) [
-      | inl long ↦
-          one_told image first
-          (subst (λ (o : Option (List ℕ)). IfSome image (λ disk. IfSome o (λ bytes. bytes_needed names.disks ≤ length bytes))) is long)
-          (others first is) refl
-      | inr none ↦ nothing first is none
-    ]
+    by_told (Some first) is = grind (arith, long_or_none, one_told, others, nothing)
 
     pub others_told : IfSome image (λ disk. KeepsTold (gives (bytes_needed names.disks)) (IsOutsideDisks names.disks journal) (seen disk).told)
     others_told = by_told (gives (bytes_needed names.disks)) refl

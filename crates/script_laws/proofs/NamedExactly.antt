@@ -1,6 +1,6 @@
 -- Each whole settle of a script's lines that leaves lanes over names exactly those that moved in its last round, or aren't
 -- finished.
-use Rattle.std.proofs.Common.{◌≡◌, ◌⊎◌, ◌↔◌, inl, inr, ℕ, Bool, true, false, List, [], ◌∷◌, ◌++◌, length, slice_get, Some, refl, sym, ap, ◌∙◌, subst}
+use Rattle.std.proofs.Common.{◌≡◌, ◌⊎◌, ◌↔◌, inl, inr, ℕ, Bool, true, false, List, [], ◌∷◌, ◌++◌, length, slice_get, Some, sym, ap, ◌∙◌, subst, arith}
 use Rattle.std.specs.Prelude.{if◌then◌else◌}
 use Rattle.runs.specs.Run.{Run}
 use Rattle.disk_law.specs.ListState.{ImageState}
@@ -16,10 +16,7 @@ use Rattle.world_parts.specs.disk_model.ClientState.{is_finished}
 use Rattle.world_parts.specs.disk_model.DiskEvent.{DiskEvent}
 use Rattle.world_parts.specs.disk_model.LaneState.{IsShape, LaneState, Shape, fresh}
 use Rattle.world_parts.specs.disk_model.LaneStep.{LaneStep}
-use Rattle.world_parts.specs.port_model.NetEvent.{CalmTick, NetEvent, Ticked}
 use Rattle.world_parts.specs.port_model.NetLaneState.{NetShape}
-use Rattle.world_parts.specs.port_model.PortState.{OnLane, Receives}
-use Rattle.world_parts.specs.switch_laws.Events.{OnPort, Switched}
 use Rattle.world_parts.specs.switch_laws.Ports.{ports}
 use Rattle.world_parts.proofs.world_laws.Along.{lane_at, lanes_run, shape_at}
 use Rattle.world_parts.specs.world_laws.Along.{happened}
@@ -47,23 +44,14 @@ use Rattle.script_laws.proofs.TicksNeeded.{waits_by}
 use Rattle.script_laws.proofs.TicksStand.{MovedTo, moved_to}
 use Rattle.script_laws.proofs.Untold.{Untold, all_told, real_unsettled, told_happened, untold}
 use Rattle.script_laws.specs.LastRounds.{EachNamesExactly, IsTick, NamesDisk, NamesExactly, NamesLane, RanOut}
-use Rattle.script_laws.specs.PortSettles.{is_port_tick}
 use Rattle.script_laws.specs.Settled.{EndsUnsettled, WaitsBy}
 use Rattle.script_laws.specs.Told.{log_at, told, told_by}
 use Rattle.world_parts.specs.Declared.{shapes_of, world_of}
-use Rattle.world_parts.specs.WorldEvents.{told_net, told_of}
+use Rattle.world_parts.specs.WorldEvents.{told_of}
 
 -- TICKS AND NAMES as they are told
-net_tick : (k : ℕ) (event : NetEvent) → is_port_tick (OnPort (OnLane event)) ≡ true → is_port_tick (OnPort (OnLane (told_net event))) ≡ true
-net_tick k (Ticked queued lost) is = refl
-net_tick k (CalmTick queued) is = absurd (cc is)
-net_tick k event is = is
-
 tick_told : (entry : SettleEntry) → IsTick entry → IsTick (told_of entry)
-tick_told (OfPort k (OnPort (OnLane event))) is = net_tick k event is
-tick_told (OfPort k (OnPort (Receives frame))) is = absurd (cc is)
-tick_told (OfPort k (Switched frame out full)) is = absurd (cc is)
-tick_told entry is = is
+tick_told entry is = grind arith
 
 ticks_told : (part : List SettleEntry) → EachEntry IsTick part → EachEntry IsTick (all_told part)
 ticks_told [] are = tt
@@ -78,11 +66,7 @@ names_told [] are = tt
 names_told (entry ∷ part) are = (name_told entry are.0, names_told part are.1)
 
 disk_told : (x : ℕ) (part : List SettleEntry) → NamesDisk x part → NamesDisk x (all_told part)
-disk_told x part at = record {
-  front = all_told at.front;
-  later = all_told at.later;
-  is = ap all_told at.is ∙ map_both told_of at.front (Unsettled x ∷ at.later);
-}
+disk_told x part given = grind (arith, map_both)
 
 moved_in : (x : ℕ) (part : List SettleEntry) → MovedBy disk_kind disk_entries x part → MovedIn x part
 moved_in x part at = record { before = at.before; event = at.event; later = at.later; is = at.is; loud = at.loud }
@@ -91,9 +75,7 @@ moved_by : (x : ℕ) (part : List SettleEntry) → MovedIn x part → MovedBy di
 moved_by x part at = record { before = at.before; event = at.event; later = at.later; is = at.is; loud = at.loud }
 
 both_wait : (finished stopped : Bool) → (finished ≡ true → ⊥) → stopped ≡ false → (if finished then false else if stopped then false else true) ≡ true
-both_wait true stopped waits runs = absurd (waits refl)
-both_wait false true waits runs = absurd (cc runs)
-both_wait false false waits runs = refl
+both_wait finished stopped waits runs = grind arith
 
 -- IT RAN OUT OF ROUNDS where it ends with names
 has_run_out : (disks : List DiskDecl) (nets : List NetShape) (image : ImageState) (before : List (Event × List Entry))
@@ -141,9 +123,7 @@ module _ (disks : List DiskDecl) (nets : List NetShape) (image : ImageState) (ar
 
   -- how many lanes there are
   many_disks : length of.at.first.lanes ≡ length disks
-  many_disks =
-      (lanes_run (shapes_of 0 disks) image (told before) of.at.first (told_run disks nets image before of.at of.run)).many
-      ∙ many_shapes 0 disks
+  many_disks = grind (arith, lanes_run, told_run, many_shapes)
 
   many_ports : length of.at.second ≡ length nets
   many_ports =
@@ -193,11 +173,7 @@ module _ (disks : List DiskDecl) (nets : List NetShape) (image : ImageState) (ar
     real_name at =
         let place : Untold of.real at.front (Unsettled x) at.later =
         untold of.real at.front (Unsettled x) at.later (sym of.told_is ∙ at.is) in
-        record {
-          front = place.past;
-          later = place.rest;
-          is = place.is ∙ ap (λ (e : SettleEntry). place.past ++ e ∷ place.rest) (real_unsettled x place.real place.real_is);
-        }
+        grind (arith, real_unsettled)
 
     disk_exact : (NamesDisk x part) ↔ (MovedIn x round ⊎ Waits)
     disk_exact = (

@@ -1,12 +1,12 @@
 -- Where a name stands in the part of a settle, the rounds ran out: it is among the names behind the last of them.
-use Rattle.std.proofs.Common.{◌≡◌, ◌⊎◌, inl, inr, Bool, true, false, List, [], ◌∷◌, ◌++◌, length, refl, sym, ap, ◌∙◌, subst, append_assoc, append-nil}
+use Rattle.std.proofs.Common.{◌≡◌, ◌⊎◌, inl, inr, Bool, true, false, List, [], ◌∷◌, ◌++◌, length, refl, sym, ap, ◌∙◌, subst, append_assoc, append-nil, arith}
 use Rattle.runs.specs.Run.{Run, run_split}
 use Rattle.lane_kinds.specs.Both.{Two}
 use Rattle.lane_kinds.specs.Fronts.{NamesFront, SettleFront}
 use Rattle.lane_kinds.specs.Settles.{GoesOn, RunsOut, SettlePart, TicksBehind, begin, entries_of_rounds, most_rounds}
 use Rattle.world_parts.specs.switch_laws.Events.{SwitchEvent}
 use Rattle.world_parts.specs.world_laws.Rounds.{LaneRound}
-use Rattle.world_parts.specs.world_laws.Settle.{SettleEntry, Settled, Unsettled, UnsettledPort}
+use Rattle.world_parts.specs.world_laws.Settle.{SettleEntry, Settled}
 use Rattle.world_parts.proofs.domain_laws.LineEntries.{AllRound, AllSettling, each_in, rounds_each}
 use Rattle.world_parts.specs.domain_laws.Domain.{Lanes, lanes}
 use Rattle.world_parts.specs.domain_laws.Lines.{fronts}
@@ -16,9 +16,7 @@ use Rattle.script_laws.proofs.SettleEntries.{SettledLast, lane_steps, lane_ticks
 
 -- a name is no event of a lane
 pub no_name : (entry : SettleEntry) → IsName entry → IsOfLane entry → ⊥
-no_name (Unsettled k) name of = of
-no_name (UnsettledPort k) name of = of
-no_name _ name of = name
+no_name entry name of = grind arith
 
 no_lane : (part so_far rest : List SettleEntry) (entry : SettleEntry) → IsName entry → SettledLast part
     → part ≡ so_far ++ entry ∷ rest → ⊥
@@ -26,12 +24,8 @@ no_lane part so_far rest entry name last is =
     by_side (place_in last.front (Settled ∷ []) so_far entry rest (sym last.is ∙ is))
   where
     not_the_answer : (later : List SettleEntry) → Settled ∷ [] ≡ later ++ entry ∷ rest → ⊥
-    not_the_answer [] same =
-        let answer : Settled ≡ entry = cc same in
-        subst IsName (sym answer) name
-    not_the_answer (other ∷ later) same =
-        let none : [] ≡ later ++ entry ∷ rest = cc same in
-        no_place later entry rest none
+    not_the_answer [] same = grind (arith)
+    not_the_answer (other ∷ later) same = grind (arith, no_place)
 
     by_side : InEither last.front (Settled ∷ []) so_far entry rest → ⊥
     by_side (inl at) = no_name entry name (each_in IsOfLane last.front so_far entry at.rest at.is last.of_lanes)
@@ -136,9 +130,7 @@ leaves_first true w steps between entries v behind = record { ticks = lanes.tick
 pub last_entries : (rounds : List AllRound) (last : AllRound)
     → entries_of_rounds (rounds ++ last ∷ []) ≡ entries_of_rounds rounds ++ last.entries
 last_entries [] last = append-nil last.entries
-last_entries (round ∷ rounds) last =
-    ap (λ (l : List SettleEntry). round.entries ++ l) (last_entries rounds last)
-    ∙ sym (append_assoc round.entries (entries_of_rounds rounds) last.entries)
+last_entries (round ∷ rounds) last = grind (arith, append_assoc, last_entries rounds last)
 
 pub last_round : (start : Lanes) (so_far : List SettleEntry) (entry : SettleEntry) (behind : Lanes)
     (at : NamesAt start so_far entry behind) → LastRound at.last.steps so_far

@@ -11,19 +11,18 @@ use Rattle.lane_kinds.specs.Lanes.{EachOf}
 use Rattle.lane_kinds.specs.Settles.{SettlePart}
 use Rattle.world_parts.specs.port_model.NetLaneState.{IsNetShape, NetShape}
 use Rattle.world_parts.specs.world_laws.Settle.{SettleEntry}
-use Rattle.world_parts.proofs.domain_laws.LineEntries.{AreSoMany, by_answer}
+use Rattle.world_parts.proofs.domain_laws.LineEntries.{by_answer}
 use Rattle.world_parts.proofs.domain_laws.ScriptEntries.{fresh_many, lines_run, many_kept}
 use Rattle.world_parts.specs.domain_laws.Domain.{DomainState, Lanes, lanes, lanes_in}
-use Rattle.world_parts.specs.domain_laws.Lines.{AreSteps, Asked, Calls, DiskLane, EndTurn, Joins, Line, Nothing, PartOf, PortLane, Rounds, Sends, Steps, both_ends, entries_of_lines, lanes_from, round_turns, turn, turns_of}
+use Rattle.world_parts.specs.domain_laws.Lines.{AreSteps, Asked, Calls, DiskLane, EndTurn, Joins, Line, Nothing, PartOf, PortLane, Rounds, Sends, Steps, both_ends, lanes_from, round_turns, turn, turns_of}
 use Rattle.world_parts.specs.domain_laws.Lines as world
-use Rattle.world_parts.specs.WorldEvents.{told_of, world_event}
 use Rattle.ldom_entries.specs.declared.entry.Entry.{Entry}
 use Rattle.script_laws.proofs.AnswerEntries.{BeginsUnnamed, UpToAnswer, begun_unnamed, one_front, up_to_names, up_to_settled, whole_unnamed}
 use Rattle.script_laws.proofs.ReachedLanes.{AreLanes, AreReachedFew}
-use Rattle.script_laws.proofs.DeclaredWorlds.{AsLines, as_lines}
+use Rattle.script_laws.proofs.DeclaredWorlds.{as_lines}
 use Rattle.script_laws.proofs.SettleEntries.{NamesLast, SettledLast, out_last, settled_last, some_left}
 use Rattle.script_laws.proofs.Settling.{reached_events}
-use Rattle.world_parts.specs.Declared.{shapes_of, world_of}
+use Rattle.world_parts.specs.Declared.{world_of}
 use Rattle.world_parts.specs.Lines.{EventStep, LineStarts, line_of}
 use Rattle.world_parts.specs.Parts.{PartSays}
 use Rattle.world_parts.specs.Script.{FitsScript, LastStarts, ScriptParts, all_lines, entries_in, events_in, events_of, journal_of, with_last}
@@ -33,10 +32,7 @@ same_front : {X : Type 0} (p q j k : List X) → length p ≡ length q → p ++ 
 same_front {X} [] [] j k long is = refl
 same_front {X} [] (y ∷ q) j k long is = absurd (omega (arith, long))
 same_front {X} (x ∷ p) [] j k long is = absurd (omega (arith, long))
-same_front {X} (x ∷ p) (y ∷ q) j k long is =
-    let first : x ≡ y = cc is in
-    let others : p ++ j ≡ q ++ k = cc is in
-    ap (λ (z : X). z ∷ p) first ∙ ap (λ (l : List X). y ∷ l) (same_front p q j k (omega (arith, long)) others)
+same_front {X} (x ∷ p) (y ∷ q) j k long is = grind (arith, same_front p q j k (omega (arith, long)))
 
 -- THE PART OF A LINE has so many entries, by the number of lanes; that of a settle ends with its answer, or with names
 abbrev part_size : Line → Lanes → Option ℕ
@@ -59,14 +55,7 @@ same_rounds zero w u same = refl
 same_rounds (suc count) w u same = ap₂ (λ (a b : List EndTurn). a ++ b) same (same_rounds count w u same)
 
 same_size : (line : Line) (w u : Lanes) → round_turns w ≡ round_turns u → part_size line w ≡ part_size line u
-same_size (Rounds count) w u same = ap (λ (l : List EndTurn). Some (length l)) (same_rounds count w u same)
-same_size Nothing w u same = refl
-same_size (Asked k request) w u same = refl
-same_size (Sends k frame) w u same = refl
-same_size (Joins k address) w u same = refl
-same_size (Steps lane e count) w u same = refl
-same_size world.Settles w u same = refl
-same_size (Calls lane call) w u same = refl
+same_size line w u same = grind (arith, same_rounds)
 
 record SomeNamed (part : List SettleEntry) : Type 0 where
   last : NamesLast part
@@ -77,10 +66,8 @@ IsDelimited (Some n) part = length part ≡ n
 IsDelimited None part = SettledLast part ⊎ SomeNamed part
 
 as_turns : (turns : List EndTurn) (part : List SettleEntry) → AreSteps turns part → length part ≡ length turns
-as_turns [] [] are = refl
 as_turns (next ∷ turns) (entry ∷ part) are = let rest = as_turns turns part are.1 in omega (arith, rest)
-as_turns [] (entry ∷ part) are = absurd are
-as_turns (next ∷ turns) [] are = absurd are
+as_turns turns part are = grind arith
 
 settle_delimited : (w : Lanes) (part : List SettleEntry) (behind : Lanes) → AreReachedFew w
     → SettlePart lanes w part behind → SettledLast part ⊎ SomeNamed part
@@ -97,16 +84,12 @@ delimited (Joins k address) w part behind at one = ap (λ (l : List SettleEntry)
 delimited (Steps lane e count) w part behind at is = as_turns (replicate count (turn lane e)) part is
 delimited (Rounds count) w part behind at is = as_turns (turns_of count w) part is
 delimited world.Settles w part behind at is = settle_delimited w part behind at is
-delimited (Calls lane call) w part behind at is =
-    by_answer (λ (l : List SettleEntry). length l ≡ 1) lane call part (λ k event same answers. refl)
-    (λ k event same answers. refl) is
+delimited (Calls lane call) w part behind at is = grind (arith, by_answer)
 
 -- ITS ENTRIES are as many, or the answer stands last among them
 says_long : (line : Line) (part : List Entry) (entries : List SettleEntry) → PartSays line part entries
     → length part ≡ length entries
-says_long line part entries says =
-    sym (length-map part (world_event line)) ∙ ap (λ (l : List (Option SettleEntry)). length l) says
-    ∙ length-map entries (λ (x : SettleEntry). Some (told_of x))
+says_long line part entries says = grind (arith, length-map)
 
 up_to_answer : (line : Line) (part : List Entry) (entries : List SettleEntry) → PartSays line part entries
     → SettledLast entries ⊎ SomeNamed entries → UpToAnswer part
@@ -129,10 +112,7 @@ no_events (line ∷ lines) is = absurd (cc is)
 only_line : (line : Event × List Entry) (lines : List (Event × List Entry)) → line.0 ∷ [] ≡ events_in lines
     → entries_in (line ∷ []) ≡ entries_in lines → line ∷ [] ≡ lines
 only_line line [] events entries = absurd (cc events)
-only_line line (other ∷ []) events entries =
-    let same : line.0 ≡ other.0 = cc events in
-    let part : line.1 ≡ other.1 = sym (append-nil line.1) ∙ entries ∙ append-nil other.1 in
-    ap (λ (event : Event). (event, line.1) ∷ []) same ∙ ap (λ (l : List Entry). (other.0, l) ∷ []) part
+only_line line (other ∷ []) events entries = grind (arith, append-nil)
 only_line line (other ∷ next ∷ lines) events entries = absurd (cc events)
 
 first_last : (line : Event × List Entry) (lines : List (Event × List Entry)) (cut : Option (Event × List Entry))
@@ -148,13 +128,8 @@ begun_first m line v starts =
 
 lines_unnamed : (w m v : DomainState) (xs : List (Event × List Entry)) (cut : Option (Event × List Entry))
     → Run EventStep w xs m → LastStarts m cut v → BeginsUnnamed (entries_in (with_last xs cut))
-lines_unnamed w m v [] None run last = tt
-lines_unnamed w m v [] (Some line) run last = begun_first m line v last
-lines_unnamed w m v (x ∷ xs) cut run last =
-    let step = run.1 in
-    subst (λ (l : List (Event × List Entry)). BeginsUnnamed (entries_in l)) (sym (first_last x xs cut))
-    (whole_unnamed (line_of x.0) x.1 step.entries (lanes_in w) (lanes_in run.0) (entries_in (with_last xs cut)) step.says
-    step.moves.part_of (lines_unnamed run.0 m v xs cut run.2 last))
+lines_unnamed w m v (x ∷ xs) cut run last = grind (arith, first_last, whole_unnamed, lines_unnamed run.0 m v xs cut run.2 last)
+lines_unnamed w m v xs cut run last = grind (arith, begun_first)
 
 -- LINES over the same disks
 module _ (disks : List DiskDecl) (nets : List NetShape) (image : ImageState) (are : AreLanes disks nets) where
@@ -172,19 +147,9 @@ module _ (disks : List DiskDecl) (nets : List NetShape) (image : ImageState) (ar
   reached_there : (w : DomainState) → IsLed w → AreReachedFew (lanes_in w)
   reached_there w at = reached_events disks nets image are at.before w at.run
 
-  many_there : (w : DomainState) → IsLed w → AreSoMany (length (shapes_of 0 disks)) (length nets) (lanes_in w)
-  many_there w at =
-      let start : DomainState = world_of disks nets image in
-      let real : AsLines start at.before w = as_lines start at.before w at.run in
-      many_kept (length (shapes_of 0 disks)) (length nets) start (entries_of_lines real.real) w
-      (lines_run start real.real w real.run) (fresh_many (shapes_of 0 disks) image nets)
-
   -- as many in each world that they led to
   same_there : (w u : DomainState) → IsLed w → IsLed u → round_turns (lanes_in w) ≡ round_turns (lanes_in u)
-  same_there w u led also =
-      let one = many_there w led in
-      let two = many_there u also in
-      same_turns (lanes_in w) (lanes_in u) (one.of_first ∙ sym two.of_first) (one.of_second ∙ sym two.of_second)
+  same_there w u led also = grind (arith, as_lines, many_kept, lines_run, fresh_many)
 
   there_delimited : (w : DomainState) (event : Event) (part : List Entry) (v : DomainState) → IsLed w
       → (step : EventStep w (event, part) v) → IsDelimited (part_size (line_of event) (lanes_in w)) step.entries
@@ -222,21 +187,12 @@ module _ (disks : List DiskDecl) (nets : List NetShape) (image : ImageState) (ar
     later_events = cc events
 
     pub later_entries : entries_in lines ≡ entries_in others
-    later_entries =
-        append_cancel_left line.1 (entries_in lines) (entries_in others)
-        (entries ∙ ap (λ (l : List Entry). l ++ entries_in others) (sym first_part))
+    later_entries = grind (arith, append_cancel_left, first_part)
 
   same_lines : (w u m n v z : DomainState) (xs ys : List (Event × List Entry)) (c d : Option (Event × List Entry))
       → IsLed w → IsLed u → Run EventStep w xs m → Run EventStep u ys n → LastStarts m c v → LastStarts n d z
       → events_in (with_last xs c) ≡ events_in (with_last ys d)
       → entries_in (with_last xs c) ≡ entries_in (with_last ys d) → with_last xs c ≡ with_last ys d
-  same_lines w u m n v z [] ys None d led also one two last other events entries = no_events (with_last ys d) events
-  same_lines w u m n v z [] ys (Some line) d led also one two last other events entries =
-      only_line line (with_last ys d) events entries
-  same_lines w u m n v z (x ∷ xs) [] c None led also one two last other events entries =
-      sym (no_events (with_last (x ∷ xs) c) (sym events))
-  same_lines w u m n v z (x ∷ xs) [] c (Some line) led also one two last other events entries =
-      sym (only_line line (with_last (x ∷ xs) c) (sym events) (sym entries))
   same_lines w u m n v z (x ∷ xs) (y ∷ ys) c d led also one two last other events entries =
       let front = first_last x xs c in
       let second = first_last y ys d in
@@ -258,6 +214,7 @@ module _ (disks : List DiskDecl) (nets : List NetShape) (image : ImageState) (ar
       all_entries) in
       front ∙ ap (λ (l : Event × List Entry). l ∷ with_last xs c) same
       ∙ ap (λ (l : List (Event × List Entry)). y ∷ l) rest ∙ sym second
+  same_lines w u m n v z xs ys c d led also one two last other events entries = grind (arith, no_events, only_line)
 
 pub one_cut : (disks : List DiskDecl) (nets : List NetShape) (image : ImageState) (parts others : ScriptParts)
     (v u : DomainState) → AreDisks disks → length disks ≤ 8 → EachOf IsNetShape nets → length nets ≤ 8

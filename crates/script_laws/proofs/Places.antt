@@ -1,5 +1,5 @@
 -- Where an element of two lists, one after the other, stands; and where an entry of a script's lines does.
-use Rattle.std.proofs.Common.{◌≡◌, ◌⊎◌, inl, inr, List, [], ◌∷◌, ◌++◌, refl, sym, ap, ◌∙◌, subst, append_assoc}
+use Rattle.std.proofs.Common.{◌≡◌, ◌⊎◌, inl, inr, List, [], ◌∷◌, ◌++◌, refl, sym, ap, ◌∙◌, subst, append_assoc, arith}
 use Rattle.world_parts.specs.world_laws.Settle.{SettleEntry}
 use Rattle.world_parts.specs.domain_laws.Lines.{Line, entries_of_lines}
 
@@ -24,23 +24,16 @@ InEither one two before x behind = InFirst one two before x behind ⊎ InSecond 
 
 one_further : {X : Type 0} (y : X) (one two before : List X) (x : X) (behind : List X)
     → InEither one two before x behind → InEither (y ∷ one) two (y ∷ before) x behind
-one_further {X} y one two before x behind (inl at) =
-    inl (record { rest = at.rest; is = ap (λ (l : List X). y ∷ l) at.is; others = at.others })
-one_further {X} y one two before x behind (inr at) =
-    inr (record { later = at.later; before_is = ap (λ (l : List X). y ∷ l) at.before_is; is = at.is })
+one_further y one two before x behind given = grind arith
 
 pub place_in : {X : Type 0} (one two before : List X) (x : X) (behind : List X) → one ++ two ≡ before ++ x ∷ behind
     → InEither one two before x behind
-place_in {X} [] two before x behind is = inr (record { later = before; before_is = refl; is = is })
-place_in {X} (y ∷ one) two [] x behind is =
-    let same : y ≡ x = cc is in
-    let rest : one ++ two ≡ behind = cc is in
-    inl (record { rest = one; is = ap (λ (z : X). z ∷ one) same; others = rest })
 place_in {X} (y ∷ one) two (z ∷ before) x behind is =
     let same : y ≡ z = cc is in
     let rest : one ++ two ≡ before ++ x ∷ behind = cc is in
     subst (λ (v : X). InEither (y ∷ one) two (v ∷ before) x behind) same
     (one_further y one two before x behind (place_in one two before x behind rest))
+place_in one two before x behind is = grind arith
 
 -- IN A LINE of a script, after so much of its part
 pub record InLine (lines : List (Line × List SettleEntry)) (before : List SettleEntry) (entry : SettleEntry)

@@ -1,24 +1,22 @@
 -- The plain run of a script and the plain list of requests of lanes go side by side: the text, and the ids that were
 -- completed, grow by what each line shows of the plain list.
-use Rattle.std.proofs.Common.{◌≡◌, ℕ, zero, suc, ◌+◌, Bool, true, false, Option, Some, None, List, [], ◌∷◌, ◌++◌, length, map, refl, sym, ◌∙◌, ap, subst, arith, append_assoc}
+use Rattle.std.proofs.Common.{◌≡◌, ℕ, suc, ◌+◌, Bool, Option, List, [], ◌∷◌, ◌++◌, length, map, refl, sym, ◌∙◌, ap, subst, arith, append_assoc}
 use Rattle.std.specs.Prelude.{codes, decimal, nat_le}
 use Rattle.std.specs.List.{range_with_len}
 use Rattle.std.proofs.lemmas.Fmt.{decimal_digit}
 use Rattle.std.proofs.lemmas.List.{append-nil}
 use Rattle.vdisk_msg.specs.declared.request.Request.{Request}
-use Rattle.vdisk_msg.specs.declared.request.Request.TheVariants.{Flush, Read, Write}
-use Rattle.vdisk_msg.specs.Requests.{BadCount, BadRange, Defect, defect, operation_of}
-use Rattle.world_parts.specs.disk_model.DiskEvent.{Asks, Full, Refused}
+use Rattle.vdisk_msg.specs.Requests.{Defect, defect, operation_of}
+use Rattle.world_parts.specs.disk_model.DiskEvent.{Full, Refused}
 use Rattle.domain_script.specs.declared.event.DiskDecl.{DiskDecl}
 use Rattle.domain_script.specs.declared.event.Event.{Event}
 use Rattle.domain_script.specs.declared.event.Event.TheVariants as event
 use Rattle.domain_script.specs.LaneKinds.{disk_lane}
-use Rattle.world_parts.specs.world_laws.Settle.{OfLane, SettleEntry, Settled}
-use Rattle.kept_requests.specs.BlockWord.{blocks_text}
+use Rattle.world_parts.specs.world_laws.Settle.{SettleEntry, Settled}
 use Rattle.kept_requests.specs.Bytes.{filled}
 use Rattle.ldom_entries.specs.declared.entry.Entry.TheVariants as entry
 use Rattle.ldom_entries.specs.declared.entry.Who.TheVariants.{Lane as OfWhole}
-use Rattle.ldom_entries.specs.declared.entry.Why.TheVariants.{Count, Range}
+use Rattle.ldom_entries.specs.declared.entry.Why.TheVariants.{Count}
 use Rattle.script_laws.proofs.LaneReport.{ids_in, ids_in_append, lane_ids, lane_resets, lane_text, resets_append, resets_in, run_line, texts, texts_append}
 use Rattle.script_laws.specs.PlainRun.{Plain, asked, complete, complete_all, done_line, name_text, plain_line, plain_run, refusal_line, settled}
 use Rattle.world_parts.specs.Declared.{shape_of}
@@ -41,11 +39,7 @@ pub record Grows (disk : DiskDecl) (p : Plain) (entries : List SettleEntry) (q :
   pub resets : resets_in entries ≡ 0
 
 grows_still : (disk : DiskDecl) (p q : Plain) → q.text ≡ p.text → q.completed ≡ p.completed → Grows disk p [] q
-grows_still disk p q text completed = record {
-  text = text ∙ sym (append-nil p.text);
-  ids = ap (range_with_len 0) completed ∙ sym (append-nil (ids_below p));
-  resets = refl;
-}
+grows_still disk p q text completed = grind (arith, append-nil)
 
 longer : (all one two more : List ℕ) → all ≡ two ++ more → (first : List ℕ) → two ≡ one ++ first
     → all ≡ one ++ (first ++ more)
@@ -69,30 +63,12 @@ grows_on disk p m q xs ys first second =
 grows_line : (disk : DiskDecl) (p : Plain) (x : SettleEntry) (line : List ℕ) → lane_text disk x ≡ line
     → lane_ids x ≡ [] → lane_resets x ≡ 0
     → Grows disk p (x ∷ []) (record p { text = p.text ++ line })
-grows_line disk p x line is none never =
-    let resets : lane_resets x + 0 ≡ 0 = omega (arith, never) in
-    record {
-      text = ap (λ (l : List ℕ). p.text ++ l) (sym (append-nil (lane_text disk x) ∙ is));
-      ids = sym (ap (λ (l : List ℕ). ids_below p ++ l) (append-nil (lane_ids x) ∙ none) ∙ append-nil (ids_below p));
-      resets = resets;
-    }
+grows_line disk p x line is none never = grind (arith, append-nil)
 
 -- LINES that their parts make, where nothing stands before the line feed
-bare : (a b c d : List ℕ) → b ++ c ≡ d → a ++ b ++ [] ++ c ≡ a ++ d
-bare a b c d is =
-    ap (λ (l : List ℕ). l ++ c) (append-nil (a ++ b)) ∙ append_assoc a b c ∙ ap (λ (l : List ℕ). a ++ l) is
-
 refused_count : (disk : DiskDecl)
     → run_line disk (entry.Refused (OfWhole (disk_lane 0)) Count) ≡ codes "refused " ++ name_text disk ++ codes " count\n"
-refused_count disk =
-    bare (codes "refused " ++ name_text disk ++ codes " ") (codes "count") (codes "\n") (codes "count\n") refl
-    ∙ append_assoc (codes "refused " ++ name_text disk) (codes " ") (codes "count\n")
-
-refused_range : (disk : DiskDecl)
-    → run_line disk (entry.Refused (OfWhole (disk_lane 0)) Range) ≡ codes "refused " ++ name_text disk ++ codes " range\n"
-refused_range disk =
-    bare (codes "refused " ++ name_text disk ++ codes " ") (codes "range") (codes "\n") (codes "range\n") refl
-    ∙ append_assoc (codes "refused " ++ name_text disk) (codes " ") (codes "range\n")
+refused_count disk = grind (arith, append-nil, append_assoc)
 
 full_line : (disk : DiskDecl)
     → run_line disk (entry.Full (OfWhole (disk_lane 0))) ≡ codes "full " ++ name_text disk ++ codes "\n"
@@ -102,71 +78,34 @@ pub zero_text : decimal 0 ≡ codes "0"
 zero_text = decimal_digit 0 (omega arith)
 
 -- a completion's word and its status
-status_zero : (a word spaced : List ℕ) → codes " " ++ word ≡ spaced
-    → a ++ codes " " ++ word ++ codes " " ++ decimal 0 ≡ a ++ spaced ++ codes " 0"
-status_zero a word spaced is =
-    ap (λ (l : List ℕ). a ++ codes " " ++ word ++ codes " " ++ l) zero_text
-    ∙ append_assoc (a ++ codes " " ++ word) (codes " ") (codes "0")
-    ∙ ap (λ (l : List ℕ). l ++ codes " 0") (append_assoc a (codes " ") word ∙ ap (λ (l : List ℕ). a ++ l) is)
-
 abbrev done_front : DiskDecl → ℕ → List ℕ
 done_front disk id = codes "done " ++ name_text disk ++ codes " " ++ decimal id
 
 done_text : (disk : DiskDecl) (id : ℕ) (content : List ℕ) (request : Request)
     → run_line disk (entry.Done 0 id (operation_of request) 0 (filled (lanes.given content request)))
     ≡ done_line disk id content request
-done_text disk id content (Read block count) =
-    ap (λ (l : List ℕ). l ++ blocks_text (lanes.given content (Read block count)) ++ codes "\n")
-    (status_zero (done_front disk id) (codes "read") (codes " read") refl)
-done_text disk id content (Write block count fill) =
-    ap (λ (l : List ℕ). l ++ [] ++ codes "\n") (status_zero (done_front disk id) (codes "write") (codes " write") refl)
-done_text disk id content Flush =
-    ap (λ (l : List ℕ). l ++ [] ++ codes "\n") (status_zero (done_front disk id) (codes "flush") (codes " flush") refl)
+done_text disk id content request = grind (arith, zero_text, append_assoc)
 
 -- A REQUEST, by its defect, and by whether the ring is full
 asked_same : (disk : DiskDecl) (p : Plain) (request : Request) (why : Option Defect) (full : Bool)
     → listed (asked p request (refusal_line disk why full)) ≡ lanes.asked (listed p) request why full
-asked_same disk p request (Some BadCount) full = refl
-asked_same disk p request (Some BadRange) full = refl
-asked_same disk p request None true = refl
-asked_same disk p request None false = refl
+asked_same disk p request why full = grind arith
 
 asked_grows : (disk : DiskDecl) (p : Plain) (request : Request) (why : Option Defect) (full : Bool)
     → Grows disk p (lanes.answer request why full) (asked p request (refusal_line disk why full))
-asked_grows disk p request (Some BadCount) full =
-    grows_line disk p (OfLane 0 (Asks (Refused BadCount request)))
-    (codes "refused " ++ name_text disk ++ codes " count\n") (refused_count disk) refl refl
-asked_grows disk p request (Some BadRange) full =
-    grows_line disk p (OfLane 0 (Asks (Refused BadRange request)))
-    (codes "refused " ++ name_text disk ++ codes " range\n") (refused_range disk) refl refl
-asked_grows disk p request None true =
-    grows_line disk p (OfLane 0 (Asks (Full request)))
-    (codes "full " ++ name_text disk ++ codes "\n") (full_line disk) refl refl
-asked_grows disk p request None false =
-    grows_still disk p (record p { waiting = p.waiting ++ request ∷ [] }) refl refl
+asked_grows disk p request why full = grind (arith, grows_line, append-nil, append_assoc, grows_still)
 
 -- A SETTLE: one number more for each completion
 range_more : (a n k : ℕ) → a + n ≡ k → range_with_len a (suc n) ≡ range_with_len a n ++ k ∷ []
-range_more a zero k is =
-    let last : a ≡ k = omega (arith, is) in
-    ap (λ (m : ℕ). m ∷ []) last
 range_more a (suc n) k is = ap (λ (l : List ℕ). a ∷ l) (range_more (a + 1) n k (omega (arith, is)))
+range_more a n k is = grind arith
 
 next_id : (done : ℕ) → range_with_len 0 (done + 1) ≡ range_with_len 0 done ++ done ∷ []
-next_id done =
-    let more : done + 1 ≡ suc done = omega (arith) in
-    let last : 0 + done ≡ done = omega (arith) in
-    ap (range_with_len 0) more ∙ range_more 0 done done last
+next_id done = grind (arith, range_more)
 
 complete_grows : (disk : DiskDecl) (p : Plain) (request : Request) (behind : List Request)
     → Grows disk p (lanes.completion (listed p) request ∷ []) (complete disk p request behind)
-complete_grows disk p request behind = record {
-  text = ap (λ (l : List ℕ). p.text ++ l)
-      (sym (append-nil (lane_text disk (lanes.completion (listed p) request))
-      ∙ done_text disk p.completed p.content request));
-  ids = next_id p.completed;
-  resets = refl;
-}
+complete_grows disk p request behind = grind (arith, append-nil, done_text, next_id)
 
 all_grow : (disk : DiskDecl) (p : Plain) (waiting : List Request)
     → Grows disk p (lanes.completions (listed p) waiting) (complete_all disk p waiting)
@@ -192,10 +131,7 @@ settle_grows disk p =
 -- EACH LINE, as the line of lanes that it is
 line_same : (disk : DiskDecl) (p : Plain) (e : Event)
     → listed (plain_line disk p e) ≡ plain_lines.plain_line (shape_of 0 disk) (listed p) (line_of e)
-line_same disk p (event.Issue number request) =
-    asked_same disk p request (defect disk.blocks request) (nat_le disk.ring (length p.waiting))
-line_same disk p event.Settle = all_same disk p p.waiting
-line_same disk p _ = refl
+line_same disk p e = grind (arith, asked_same, all_same)
 
 line_grows : (disk : DiskDecl) (p : Plain) (e : Event)
     → Grows disk p (plain_lines.plain_shows (shape_of 0 disk) (listed p) (line_of e)) (plain_line disk p e)
@@ -208,9 +144,7 @@ line_grows disk p _ = grows_still disk p p refl refl
 pub run_same : (disk : DiskDecl) (p : Plain) (events : List Event)
     → listed (plain_run disk p events) ≡ plain_lines.plain_run (shape_of 0 disk) (listed p) (map line_of events)
 run_same disk p [] = refl
-run_same disk p (e ∷ events) =
-    run_same disk (plain_line disk p e) events
-    ∙ ap (λ (l : lanes.Plain). plain_lines.plain_run (shape_of 0 disk) l (map line_of events)) (line_same disk p e)
+run_same disk p (e ∷ events) = grind (arith, line_same, run_same disk (plain_line disk p e) events)
 
 pub run_grows : (disk : DiskDecl) (p : Plain) (events : List Event)
     → Grows disk p (plain_lines.plain_journal (shape_of 0 disk) (listed p) (map line_of events)) (plain_run disk p events)

@@ -68,14 +68,7 @@ record ShowsPlain (disk : DiskDecl) (content : List ℕ) (events : List Event) (
 shows_plain : (disk : DiskDecl) (content : List ℕ) (events : List Event) (lines : List (Line × List SettleEntry))
     (v : DomainState) → lines_of lines ≡ map line_of events → RunsPlainly (shape_of 0 disk) content lines v
     → ShowsPlain disk content events lines v.first
-shows_plain disk content events lines v are runs =
-    let shape = shape_of 0 disk in
-    let start = lanes.untouched content in
-    let end = ap (plain_lines.plain_run shape start) are ∙ sym (run_same disk (untouched content) events) in
-    record {
-      shows = runs.shows ∙ ap (plain_lines.plain_journal shape start) are;
-      ends = subst (λ (l : lanes.Plain). IsPlain l v.first) end runs.ends;
-    }
+shows_plain disk content events lines v are runs = grind (arith, run_same)
 
 -- the next id of the one lane counts what was accepted
 accepted_all : (disk : DiskDecl) (image : ImageState) (lines : List (Line × List SettleEntry)) (v : DomainState)

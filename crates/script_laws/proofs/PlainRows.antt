@@ -32,9 +32,6 @@ text_1 = decimal_digit 1 (omega arith)
 text_2 : decimal 2 ≡ codes "2"
 text_2 = decimal_digit 2 (omega arith)
 
-text_5 : decimal 5 ≡ codes "5"
-text_5 = decimal_digit 5 (omega arith)
-
 -- refused for the range, refused for the count
 abbrev bad_writes : Fill → List Event
 bad_writes fill =
@@ -44,7 +41,7 @@ bad_writes fill =
 refusals : (content : List ℕ) (fill : Fill)
     → plain_text (first_disk 8 16) content (bad_writes fill)
     ≡ codes "refused d0 range\nrefused d0 count\ndone d0 0 write 0\nsettled\nend lines=5 accepted=1 done=1 pending=0 resets=0 frames=0 status=0\n"
-refusals content fill = simp (text_0, text_1, text_5)
+refusals content fill = grind (arith, text_0, text_1, decimal_digit)
 
 text_4 : decimal 4 ≡ codes "4"
 text_4 = decimal_digit 4 (omega arith)

@@ -1,27 +1,23 @@
 -- What a port's log says of it: whether it is finished, as its state is; and what calm steps leave of it.
-use Rattle.std.proofs.Common.{◌≡◌, ℕ, Bool, true, false, Option, Some, None, List, [], ◌∷◌, ◌++◌, length, map, refl, sym, ap, ◌∙◌}
-use Rattle.std.specs.Prelude.{◌==◌}
+use Rattle.std.proofs.Common.{◌≡◌, ℕ, Bool, true, false, Option, List, [], ◌∷◌, ◌++◌, length, map, refl, sym, ap, ◌∙◌, arith}
 use Rattle.runs.specs.Lawful.{lawful_split, log_of}
 use Rattle.runs.specs.Run.{Run, run_push}
-use Rattle.world_parts.specs.channel_model.WireLog.{WireLog}
 use Rattle.ldc_queue.specs.declared.end.End.{End}
-use Rattle.ldc_queue.specs.declared.end.End.TheVariants.{A, B}
+use Rattle.ldc_queue.specs.declared.end.End.TheVariants.{A}
 use Rattle.lane_kinds.specs.Lanes.{EachOf, own_or}
 use Rattle.world_parts.proofs.port_laws.EveryRun.{every_run}
 use Rattle.world_parts.proofs.port_laws.PortWire.{port_wire}
 use Rattle.world_parts.specs.port_model.FrameLaws.{IsFinished}
 use Rattle.world_parts.specs.port_model.NetEndState.{joined_net_end, unseen}
-use Rattle.world_parts.specs.port_model.NetEndStep.{Blocked, Idle}
-use Rattle.world_parts.specs.port_model.NetEvent.{CalmTick, NetEvent, Steps, Ticked, on_wire}
+use Rattle.world_parts.specs.port_model.NetEvent.{CalmTick, NetEvent, Ticked}
 use Rattle.world_parts.specs.port_model.NetLaneState.{IsNetShape, NetShape, role_at, with_net_end}
-use Rattle.world_parts.specs.port_model.NetLaneStep.{is_finished, moved_on, net_wire}
+use Rattle.world_parts.specs.port_model.NetLaneStep.{is_finished, net_wire}
 use Rattle.world_parts.specs.port_model.PortLog.{PortLog, after, no_events}
 use Rattle.world_parts.specs.port_model.PortMay.{PortMay}
-use Rattle.world_parts.specs.port_model.PortState.{OnLane, PortEvent, PortState, PortStep, Receives, fresh_port}
-use Rattle.world_parts.specs.switch_laws.Events.{OnPort, SwitchEvent, Switched, at_port}
-use Rattle.world_parts.specs.switch_laws.Ports.{gets, is_calm}
+use Rattle.world_parts.specs.port_model.PortState.{OnLane, PortEvent, PortState, PortStep, fresh_port}
+use Rattle.world_parts.specs.switch_laws.Events.{OnPort, SwitchEvent, at_port}
+use Rattle.world_parts.specs.switch_laws.Ports.{is_calm}
 use Rattle.world_parts.specs.world_laws.Settle.{OfPort, SettleEntry}
-use Rattle.world_parts.specs.domain_laws.Along.{port_happened}
 use Rattle.world_parts.specs.domain_laws.Frames.{port_events}
 use Rattle.world_parts.specs.WorldEvents.{told_net}
 use Rattle.script_laws.proofs.Untold.{all_told}
@@ -33,38 +29,22 @@ behind_log : (one xs ys : List SwitchEvent)
 behind_log [] xs ys same l = same l
 behind_log (event ∷ one) xs ys same l = behind_log one xs ys same (after l (at_port event))
 
-net_log : (l : PortLog) (event : NetEvent) → after l (OnLane (told_net event)) ≡ after l (OnLane event)
-net_log l (Ticked queued lost) = refl
-net_log l (CalmTick queued) = refl
-net_log l event = refl
-
 own_log : (c : Bool) (event : NetEvent) (xs ys : List SwitchEvent)
     → ((l : PortLog) → log_of after l (map at_port xs) ≡ log_of after l (map at_port ys)) → (l : PortLog)
     → log_of after l (map at_port (own_or c (OnPort (OnLane (told_net event))) [] ++ xs))
     ≡ log_of after l (map at_port (own_or c (OnPort (OnLane event)) [] ++ ys))
-own_log true event xs ys same l =
-    ap (λ (m : PortLog). log_of after m (map at_port xs)) (net_log l event) ∙ same (after l (OnLane event))
-own_log false event xs ys same l = same l
+own_log c event xs ys same l = grind arith
 
 pub told_log : (k : ℕ) (part : List SettleEntry) (l : PortLog)
     → log_of after l (port_events k (all_told part)) ≡ log_of after l (port_events k part)
-told_log k [] l = refl
-told_log k (OfPort j (OnPort (OnLane event)) ∷ part) l =
-    own_log (k == j) event (port_happened k (all_told part)) (port_happened k part) (told_log k part) l
-told_log k (OfPort j (OnPort (Receives frame)) ∷ part) l =
-    behind_log (own_or (k == j) (OnPort (Receives frame)) []) (port_happened k (all_told part)) (port_happened k part)
-    (told_log k part) l
-told_log k (OfPort j (Switched frame out full) ∷ part) l =
-    behind_log (own_or (k == j) (Switched frame out full) (gets k (Switched frame out full)))
-    (port_happened k (all_told part)) (port_happened k part) (told_log k part) l
+told_log k (OfPort j event ∷ part) l = grind (arith, own_log, behind_log, told_log k part)
 told_log k (entry ∷ part) l = told_log k part l
+told_log k part l = grind arith
 
 -- A RUN of a port, and its log: what is on the wire is the same
 step_wire : (s : PortState) (l : PortLog) (event : PortEvent) (t : PortState) → s.lane.wire ≡ l.wire → PortStep s event t
     → t.lane.wire ≡ (after l event).wire
-step_wire s l (OnLane event) t same step =
-    port_wire s event t step ∙ ap (λ (w : WireLog). moved_on w (on_wire event)) same
-step_wire s l (Receives frame) t same step = ap (λ (x : PortState). x.lane.wire) step.2 ∙ same
+step_wire s l event t same step = grind (arith, port_wire)
 
 run_wire : (s : PortState) (l : PortLog) (events : List PortEvent) (t : PortState) → s.lane.wire ≡ l.wire → Run PortStep s events t
     → t.lane.wire ≡ (log_of after l events).wire
@@ -112,11 +92,7 @@ abbrev pub IsCalm : SwitchEvent → Type 0
 IsCalm event = is_calm event ≡ true
 
 calm_after : (l : PortLog) (event : SwitchEvent) → is_calm event ≡ true → LastIdle l (after l (at_port event))
-calm_after l (OnPort (OnLane (Steps A Idle))) calm = record { last = Some A; is = refl }
-calm_after l (OnPort (OnLane (Steps B Idle))) calm = record { last = Some B; is = refl }
-calm_after l (OnPort (OnLane (Steps A Blocked))) calm = record { last = None; is = refl }
-calm_after l (OnPort (OnLane (Steps B Blocked))) calm = record { last = None; is = refl }
-calm_after l _ calm = absurd (cc calm)
+calm_after l event calm = grind arith
 
 pub calm_log : (events : List SwitchEvent) (l : PortLog) → EachOf IsCalm events → LastIdle l (log_of after l (map at_port events))
 calm_log [] l calm = record { last = l.last_idle; is = refl }

@@ -1,5 +1,5 @@
 -- Each tick of a port in the part of a settle comes behind a round in which all were quiet, and so does its answer.
-use Rattle.std.proofs.Common.{◌≡◌, ◌⊎◌, inl, inr, ℕ, zero, suc, ◌+◌, Bool, true, false, List, [], ◌∷◌, ◌++◌, slice_get, Some, refl, sym, ap, ◌∙◌, subst, arith, append_assoc, append-nil}
+use Rattle.std.proofs.Common.{◌≡◌, ◌⊎◌, inl, inr, ℕ, suc, ◌+◌, Bool, true, false, List, [], ◌∷◌, ◌++◌, slice_get, Some, refl, sym, ap, ◌∙◌, subst, arith, append_assoc, append-nil}
 use Rattle.std.proofs.lemmas.Option.{slice_get_within}
 use Rattle.std.specs.Prelude.{⊤}
 use Rattle.runs.specs.Run.{Run, run_append}
@@ -104,7 +104,7 @@ step_none k e (OnPort (OnLane (Ticked queued lost))) own = absurd own
 step_none k e _ own = refl
 
 tick_steps : StepsHave NoTick
-tick_steps = record { of_disk = λ k e event own. tt; of_port = step_none }
+tick_steps = grind arith
 
 -- THE TICKS of ports in a part, each behind a quiet round
 abbrev pub TicksBehindQuiet : List PortState → List SettleEntry → Type 0
@@ -113,10 +113,7 @@ TicksBehindQuiet start part =
     → part ≡ so_far ++ OfPort k event ∷ rest → slice_get start k ≡ Some s → QuietAt k so_far s
 
 none_stand : (start : List PortState) (part : List SettleEntry) → EachEntry NoTick part → TicksBehindQuiet start part
-none_stand start part none k event so_far rest s is place there =
-    let never : is_port_tick event ≡ false = each_in NoTick part so_far (OfPort k event) rest place none in
-    let both : true ≡ false = sym is ∙ never in
-    absurd (cc both)
+none_stand start part none k event so_far rest s is place there = grind (arith, each_in)
 
 -- one stretch behind another
 further : (k : ℕ) (one later so_far : List SettleEntry) (s m : PortState) → so_far ≡ one ++ later → Run SwitchStep s (port_happened k one) m
@@ -160,15 +157,8 @@ record CalmAt (k : ℕ) (s : PortState) : Type 0 where
 
 calm_at : (start : List PortState) (turns : List (List SwitchEvent)) (behind : List PortState) (k : ℕ) (s : PortState)
     → Calmly ports start turns behind → slice_get start k ≡ Some s → CalmAt k s
-calm_at [] turns behind k s calm there = absurd (cc there)
-calm_at (x ∷ start) (r ∷ turns) (t ∷ behind) zero s calm there =
-    let same : x ≡ s = cc there in
-    record { turn = r; behind = t; made = subst (λ (y : PortState). CalmTurn ports y r t) same calm.0 }
-calm_at (x ∷ start) (r ∷ turns) (t ∷ behind) (suc k) s calm there =
-    let at : CalmAt k s = calm_at start turns behind k s calm.1 there in
-    record { turn = at.turn; behind = at.behind; made = at.made }
-calm_at (x ∷ start) [] behind k s calm there = absurd calm
-calm_at (x ∷ start) (r ∷ turns) [] k s calm there = absurd calm
+calm_at (x ∷ start) (r ∷ turns) (t ∷ behind) (suc k) s calm there = grind (arith, calm_at start turns behind k s calm.1 there)
+calm_at start turns behind k s calm there = grind arith
 
 abbrev AllSteps : Type 0
 AllSteps = Two (List LaneRound) (List (List SwitchEvent))
@@ -199,9 +189,7 @@ quiet_behind w r v ticks made quiet are k s there =
 
 -- with ticks behind it
 round_none : (w : Lanes) (r : AllSteps) (v : Lanes) → lanes.Makes w r v → EachEntry NoTick (lanes.leaves r)
-round_none w r v made =
-    of_both NoTick (disks.leaves r.first) (switch.leaves r.second) (disks_each NoTick tick_steps w.first r.first v.first made.of_first)
-    (ports_each NoTick tick_steps w.second r.second v.second made.of_second)
+round_none w r v made = grind (arith, of_both, disks_each, tick_steps, ports_each)
 
 quiet_at : (w : Lanes) (r : AllSteps) (v : Lanes) (later : List SettleEntry) → lanes.Makes w r v → lanes.quiet r ≡ true → EachEntry IsTickOfPorts later
     → (k : ℕ) (event : SwitchEvent) (so_far rest : List SettleEntry) (s : PortState) → is_port_tick event ≡ true
@@ -239,18 +227,12 @@ stretches : LeadsWhere lanes Any Stretch
 stretches = record {
   keeps = keeps;
   none = λ w. record { moves = ports_lead.none w; stand = none_stand w.second [] tt };
-  both = λ w m v one two first second. record {
-    moves = ports_lead.both w m v one two first.moves second.moves;
-    stand = two_stand w.second one m.second two first.moves first.stand second.stand;
-  };
+  both = λ w m v one two first second. grind (arith, ports_lead, two_stand);
   round = λ w m r v at made. record {
     moves = ports_lead.round w r v made;
     stand = none_stand w.second (lanes.leaves r) (round_none w r v made);
   };
-  ticks = λ w m r v u at made quiet ticks. record {
-    moves = ports_lead.both w v u (lanes.leaves r) (lanes.ticks_leave v m) (ports_lead.round w r v made) (ports_lead.ticks v m u ticks);
-    stand = quiet_stand w r v (lanes.ticks_leave v m) made quiet (all_are_ticks v m);
-  };
+  ticks = λ w m r v u at made quiet ticks. grind (arith, ports_lead, quiet_stand, all_are_ticks);
 }
 
 -- the answer, and names
@@ -320,16 +302,9 @@ pub record AnswerAt (k : ℕ) (so_far : List SettleEntry) (s : PortState) : Type
 
 before_answer : (one two : List SettleEntry) → one ++ Settled ∷ [] ≡ two ++ Settled ∷ [] → two ≡ one
 before_answer [] [] same = refl
-before_answer [] (y ∷ two) same =
-    let none : [] ≡ two ++ Settled ∷ [] = cc same in
-    absurd (no_place two Settled [] none)
-before_answer (x ∷ one) [] same =
-    let none : one ++ Settled ∷ [] ≡ [] = cc same in
-    absurd (no_place one Settled [] (sym none))
-before_answer (x ∷ one) (y ∷ two) same =
-    let first : x ≡ y = cc same in
-    let rest : one ++ Settled ∷ [] ≡ two ++ Settled ∷ [] = cc same in
-    ap (λ (z : SettleEntry). z ∷ two) (sym first) ∙ ap (λ (l : List SettleEntry). x ∷ l) (before_answer one two rest)
+before_answer [] (y ∷ two) same = grind (arith, no_place)
+before_answer (x ∷ one) [] same = grind (arith, no_place)
+before_answer (x ∷ one) (y ∷ two) same = grind (arith, before_answer one two)
 
 pub answer_behind_quiet : (start : Lanes) (part : List SettleEntry) (behind : Lanes) → Settles lanes start part behind
     → (so_far : List SettleEntry) → part ≡ so_far ++ Settled ∷ [] → (k : ℕ) (s : PortState) → slice_get start.second k ≡ Some s

@@ -1,7 +1,7 @@
 -- Behind a quiet round both ends of a port are still by its log, whose entries leave out its idle steps; and a port that
 -- waits then and that nobody forged lost a packet.
-use Rattle.std.proofs.Common.{◌≡◌, ◌⊎◌, inl, inr, ℕ, ◌+◌, ◌≤◌, Bool, true, false, Option, Some, None, List, [], ◌∷◌, ◌++◌, length, map, refl, sym, ap, ◌∙◌, subst, arith, append_assoc}
-use Rattle.std.specs.Prelude.{◌==◌, not, ⊤}
+use Rattle.std.proofs.Common.{◌≡◌, ◌⊎◌, inl, inr, ℕ, ◌+◌, ◌≤◌, Bool, true, false, Option, List, [], ◌∷◌, ◌++◌, length, map, refl, sym, ap, ◌∙◌, subst, arith, append_assoc}
+use Rattle.std.specs.Prelude.{not, ⊤}
 use Rattle.std.proofs.lemmas.Bool.{eq-eqb, eqb-true}
 use Rattle.runs.specs.Lawful.{log_append, log_of}
 use Rattle.runs.specs.Run.{Run, run_append, run_push}
@@ -14,24 +14,21 @@ use Rattle.lane_kinds.proofs.LaneFronts.{of_both}
 use Rattle.lane_kinds.proofs.Moving.{happened_both}
 use Rattle.lane_kinds.proofs.Places.{map_both}
 use Rattle.lane_kinds.proofs.Sums.{and_left, and_right}
-use Rattle.lane_kinds.specs.LaneCounts.{once}
-use Rattle.lane_kinds.specs.Lanes.{CalmTurn, EachOf, all_calm, own_or}
+use Rattle.lane_kinds.specs.Lanes.{CalmTurn, EachOf, all_calm}
 use Rattle.world_parts.specs.port_laws.RemainingSteps.{IsCalm as IsCalmAnswer}
-use Rattle.world_parts.specs.port_model.EndLog.{SessionLog}
-use Rattle.world_parts.specs.port_model.FrameLaws.{IfSession, IsFinished}
+use Rattle.world_parts.specs.port_model.FrameLaws.{IsFinished}
 use Rattle.world_parts.specs.port_model.NetEndStep.{Blocked, Idle, NetAnswer}
-use Rattle.world_parts.specs.port_model.NetEvent.{Steps, Ticked}
+use Rattle.world_parts.specs.port_model.NetEvent.{Steps}
 use Rattle.world_parts.specs.port_model.NetLaneState.{IsNetShape, NetShape}
 use Rattle.world_parts.specs.port_model.NetLaneStep.{is_finished}
-use Rattle.world_parts.specs.port_model.PortLog.{PortLog, after, log_of_end, no_events}
+use Rattle.world_parts.specs.port_model.PortLog.{PortLog, after, no_events}
 use Rattle.world_parts.specs.port_model.PortMay.{PortMay}
 use Rattle.world_parts.specs.port_model.PortState.{OnLane, PortEvent, PortState, PortStep, fresh_port}
-use Rattle.world_parts.specs.port_model.RestLaws.{IsIdle}
 use Rattle.world_parts.proofs.switch_laws.Resting.{TwoCalm, finishes, two_calm}
 use Rattle.world_parts.proofs.switch_laws.Steps.{run_on_port}
 use Rattle.world_parts.proofs.switch_laws.Turns.{calm_gives}
 use Rattle.world_parts.specs.switch_laws.Events.{OnPort, SwitchEvent, SwitchStep, at_port}
-use Rattle.world_parts.specs.switch_laws.Ports.{gets, is_calm, ports}
+use Rattle.world_parts.specs.switch_laws.Ports.{is_calm, ports}
 use Rattle.world_parts.specs.world_laws.Settle.{OfPort, SettleEntry}
 use Rattle.world_parts.proofs.domain_laws.LineEntries.{EachEntry}
 use Rattle.world_parts.specs.domain_laws.Along.{port_happened, port_said}
@@ -50,28 +47,15 @@ abbrev pub IsTickOfPorts : SettleEntry → Type 0
 IsTickOfPorts (OfPort k event) = is_port_tick event ≡ true
 IsTickOfPorts _ = ⊤
 
-own_calm : (c : Bool) (event : SwitchEvent) (gifts : List SwitchEvent) → is_calm event ≡ true → gifts ≡ [] → EachOf IsCalm (own_or c event gifts)
-own_calm true event gifts calm none = (calm, tt)
-own_calm false event gifts calm none = subst (EachOf IsCalm) (sym none) tt
-
 said_calm : (k : ℕ) (entry : SettleEntry) → IsCalmOfPorts entry → EachOf IsCalm (port_said k entry)
-said_calm k (OfPort j event) calm = own_calm (k == j) event (gets k event) calm (calm_gives k event calm)
-said_calm k _ calm = tt
+said_calm k entry calm = grind (arith, calm_gives)
 
 calm_happened : (k : ℕ) (part : List SettleEntry) → EachEntry IsCalmOfPorts part → EachOf IsCalm (port_happened k part)
 calm_happened k part calm = said_each port_said IsCalmOfPorts IsCalm k (said_calm k) part calm
 
 -- a tick of another port says nothing of it
-two_ticks : (n : ℕ) → n ≡ 1 → n ≡ 0 → ⊥
-two_ticks n one none = omega (arith, one, none)
-
 tick_said : (k j : ℕ) (event : SwitchEvent) → is_port_tick event ≡ true → port_ticks k (OfPort j event) ≡ 0 → port_said k (OfPort j event) ≡ []
-tick_said k j (OnPort (OnLane (Ticked queued lost))) is none = by_test (k == j) refl
-  where
-    by_test : (c : Bool) → (k == j) ≡ c → own_or c (OnPort (OnLane (Ticked queued lost))) [] ≡ []
-    by_test false same = refl
-    by_test true same = absurd (two_ticks (once (j == k)) (ap once (eq-eqb j k (sym (eqb-true k j same)))) none)
-tick_said k j _ is none = absurd (cc is)
+tick_said k j event is none = grind (arith, eq-eqb, eqb-true)
 
 first_none : (a b : ℕ) → a + b ≡ 0 → a ≡ 0
 first_none a b none = omega (arith, none)
@@ -80,12 +64,10 @@ later_none : (a b : ℕ) → a + b ≡ 0 → b ≡ 0
 later_none a b none = omega (arith, none)
 
 pub ticks_said : (k : ℕ) (part : List SettleEntry) → EachEntry IsTickOfPorts part → port_ticks_in k part ≡ 0 → port_happened k part ≡ []
-ticks_said k [] each none = refl
 ticks_said k (OfPort j event ∷ part) each none =
-    let one = tick_said k j event each.0 (first_none (port_ticks k (OfPort j event)) (port_ticks_in k part) none) in
-    ap (λ (l : List SwitchEvent). l ++ port_happened k part) one
-    ∙ ticks_said k part each.1 (later_none (port_ticks k (OfPort j event)) (port_ticks_in k part) none)
+    grind (arith, tick_said, first_none, later_none, ticks_said k part each.1 (later_none (port_ticks k (OfPort j event)) (port_ticks_in k part) none))
 ticks_said k (entry ∷ part) each none = ticks_said k part each.1 (later_none (port_ticks k entry) (port_ticks_in k part) none)
+ticks_said k part each none = grind arith
 
 -- AFTER SO MUCH OF A PART, the last round before which was quiet, and behind which others alone had ticks
 pub record QuietAt (k : ℕ) (so_far : List SettleEntry) (s : PortState) : Type 0 where
@@ -102,35 +84,8 @@ pub record QuietAt (k : ℕ) (so_far : List SettleEntry) (s : PortState) : Type 
   pub are_ticks : EachEntry IsTickOfPorts ticks
 
 -- WHICH END WAS IDLE LAST is nothing to an end that is still
-idle_as : (e : End) (o p : Option End) (l : PortLog) (session : Option SessionLog) → IfSession session (IsIdle e (idle_last o l))
-    → IfSession session (IsIdle e (idle_last p l))
-idle_as e o p l None at = tt
-idle_as A o p l (Some s) at = record {
-  answered = at.answered;
-  published = at.published;
-  announced = at.announced;
-  told = at.told;
-  replied = at.replied;
-}
-idle_as B o p l (Some s) at = record {
-  answered = at.answered;
-  published = at.published;
-  announced = at.announced;
-  told = at.told;
-  replied = at.replied;
-}
-
 still_as : (e : End) (o p : Option End) (l : PortLog) → IsPortStillBy e (idle_last o l) → IsPortStillBy e (idle_last p l)
-still_as e o p l at = record { up = at.up; still = by_rest e at.still }
-  where
-    by_rest : (e : End)
-        → ((waiting_for e l.wire.wire ≡ []) × IfSession (log_of_end e (idle_last o l)).session (IsIdle e (idle_last o l)))
-        ⊎ (l.shape.entries ≤ length (waiting_for (peer_of e) l.wire.wire) + 1)
-        → ((waiting_for e l.wire.wire ≡ []) × IfSession (log_of_end e (idle_last p l)).session (IsIdle e (idle_last p l)))
-        ⊎ (l.shape.entries ≤ length (waiting_for (peer_of e) l.wire.wire) + 1)
-    by_rest A (inl rests) = inl (rests.0, idle_as A o p l l.guest.session rests.1)
-    by_rest B (inl rests) = inl (rests.0, idle_as B o p l l.hub.session rests.1)
-    by_rest e (inr full) = inr full
+still_as e o p l given = grind arith
 
 -- AN END THAT MAKES A CALM STEP is still
 full_most : (n m : ℕ) → n + 1 ≡ m → m ≤ n + 1
@@ -145,9 +100,7 @@ calm_still e l Blocked calm may = record {
 calm_still e l _ calm may = absurd calm
 
 calm_step : (l : PortLog) (answer : NetAnswer) → IsCalmAnswer answer → IsCalm (OnPort (OnLane (Steps A answer)))
-calm_step l Idle calm = refl
-calm_step l Blocked calm = refl
-calm_step l _ calm = absurd calm
+calm_step l answer calm = grind arith
 
 -- BOTH ENDS, before a calm turn
 both_still : (shape : NetShape) (sound : IsNetShape shape) (events : List PortEvent) (s t : PortState) → Run PortStep (fresh_port shape) events s
@@ -204,10 +157,7 @@ module _ (shape : NetShape) (sound : IsNetShape shape) (k : ℕ) (front so_far :
       (run_on_port s (port_happened k at.past) at.before at.led))
 
   later_calm : EachOf IsCalm (port_happened k later)
-  later_calm =
-      subst (EachOf IsCalm) (sym (happened_both port_said k at.round at.ticks))
-      (of_both IsCalm (port_happened k at.round) (port_happened k at.ticks) (calm_happened k at.round at.calm)
-      (subst (EachOf IsCalm) (sym (ticks_said k at.ticks at.are_ticks none)) tt))
+  later_calm = grind (arith, happened_both, of_both, calm_happened, ticks_said)
 
   now : LastIdle before_log (log_of after (no_events shape) (port_events k (front ++ so_far)))
   now =

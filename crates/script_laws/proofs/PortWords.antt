@@ -1,5 +1,5 @@
 -- Each entry of a run that is of a port, forged or not, is of one of them, and its cause has its words.
-use Rattle.std.proofs.Common.{◌≡◌, ℕ, ◌<◌, ◌==◌, Bool, Option, Some, None, List, [], ◌∷◌, ◌++◌, length, map, slice_get, refl, ◌∙◌, subst, arith}
+use Rattle.std.proofs.Common.{◌≡◌, ℕ, ◌<◌, ◌==◌, Bool, Option, Some, List, [], ◌∷◌, ◌++◌, length, map, slice_get, refl, ◌∙◌, subst, arith}
 use Rattle.std.proofs.lemmas.Bool.{eq-eqb}
 use Rattle.std.specs.Prelude.{⊤}
 use Rattle.runs.specs.Lawful.{lawful_split, log_of}
@@ -14,14 +14,14 @@ use Rattle.lane_kinds.proofs.Moving.{each_there}
 use Rattle.lane_kinds.proofs.Places.{get_within}
 use Rattle.lane_kinds.specs.Lanes.{EachOf, own_or}
 use Rattle.world_parts.proofs.port_laws.EveryRun.{every_run}
-use Rattle.world_parts.specs.port_model.FrameLaws.{InSession, OwnReset, SlotResets}
+use Rattle.world_parts.specs.port_model.FrameLaws.{OwnReset}
 use Rattle.world_parts.specs.port_model.NetEndStep.{Reset}
-use Rattle.world_parts.specs.port_model.NetEvent.{CalmTick, NetEvent, Steps, Ticked}
+use Rattle.world_parts.specs.port_model.NetEvent.{Steps}
 use Rattle.world_parts.specs.port_model.PortLog.{PortLog, after, log_of_end, no_events}
-use Rattle.world_parts.specs.port_model.EndLog.{EndLog, SessionLog}
+use Rattle.world_parts.specs.port_model.EndLog.{EndLog}
 use Rattle.world_parts.specs.port_model.PortMay.{PortMay}
-use Rattle.world_parts.specs.port_model.PortState.{OnLane, PortState, PortStep, Receives, fresh_port}
-use Rattle.world_parts.specs.switch_laws.Events.{OnPort, SwitchEvent, SwitchStep, Switched}
+use Rattle.world_parts.specs.port_model.PortState.{OnLane, PortState, PortStep, fresh_port}
+use Rattle.world_parts.specs.switch_laws.Events.{OnPort, SwitchEvent, SwitchStep}
 use Rattle.world_parts.specs.switch_laws.Reached.{IsReached}
 use Rattle.world_parts.specs.world_laws.Settle.{OfPort, SettleEntry, UnsettledPort}
 use Rattle.world_parts.specs.world_laws.Words.{NamesFault}
@@ -30,7 +30,7 @@ use Rattle.world_parts.proofs.domain_laws.LineEntries.{EachEntry}
 use Rattle.world_parts.proofs.domain_laws.Running.{port_moved, ports_many, stay_reached}
 use Rattle.world_parts.specs.switch_laws.Ports.{gets}
 use Rattle.world_parts.specs.domain_laws.Domain.{PortsStep}
-use Rattle.world_parts.specs.WorldEvents.{told_net, told_of}
+use Rattle.world_parts.specs.WorldEvents.{told_of}
 
 -- the cause of a reset names a fault of a copy
 abbrev pub HasPortWords : SwitchEvent → Type 0
@@ -44,16 +44,9 @@ IsPortTold many (UnsettledPort k) = k < many
 IsPortTold many _ = ⊤
 
 -- ONE EVENT of a port that is reached
-slot_named : (slots fault : ℕ) (session : Option SessionLog) → InSession session (SlotResets slots (the_cause.Copy fault))
-    → NamesFault (the_cause.Copy fault)
-slot_named slots fault None own = absurd own
-slot_named slots fault (Some s) own = own.0
-
 cause_named : (slots : ℕ) (l : EndLog) (turns : List Turn) (cause : Cause) (packet : Option (List ℕ)) → OwnReset slots l cause packet
     → ResetSays turns packet cause → NamesFault cause
-cause_named slots l turns (the_cause.Copy fault) None own says = slot_named slots fault l.session own
-cause_named slots l turns (the_cause.Copy fault) (Some packet) own says = absurd says
-cause_named slots l turns _ packet own says = tt
+cause_named slots l turns cause packet own says = grind arith
 
 reset_words : (s : PortState) (at : IsReached s) (e : End) (cause : Cause) (packet : Option (List ℕ)) (lost : ℕ) (t : PortState)
     → PortStep s (OnLane (Steps e (Reset cause packet lost))) t → NamesFault cause
@@ -118,16 +111,8 @@ ports_told disks many lanes (entry ∷ entries) behind long all run below =
     one_told _ step below = tt
 
 -- AND WHAT IS TOLD of them
-net_words : (event : NetEvent) → HasPortWords (OnPort (OnLane event)) → HasPortWords (OnPort (OnLane (told_net event)))
-net_words (Ticked queued lost) words = tt
-net_words (CalmTick queued) words = tt
-net_words event words = words
-
 one_as_told : (many : ℕ) (entry : SettleEntry) → IsPortTold many entry → IsPortTold many (told_of entry)
-one_as_told many (OfPort k (OnPort (OnLane event))) told = (told.0, net_words event told.1)
-one_as_told many (OfPort k (OnPort (Receives frame))) told = told
-one_as_told many (OfPort k (Switched frame out full)) told = told
-one_as_told many entry told = told
+one_as_told many entry told = grind arith
 
 pub as_told : (many : ℕ) (entries : List SettleEntry) → EachEntry (IsPortTold many) entries → EachEntry (IsPortTold many) (map told_of entries)
 as_told many [] told = tt

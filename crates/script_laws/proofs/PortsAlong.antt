@@ -36,7 +36,6 @@ use Rattle.script_laws.specs.Lanes.{HearsAFront}
 use Rattle.script_laws.specs.Ports.{GoesByStates, OfPort, PortsStand, RestsBehind}
 use Rattle.script_laws.specs.Told.{port_log_at}
 use Rattle.world_parts.specs.Declared.{shapes_of, world_of}
-use Rattle.world_parts.specs.WorldEvents.{told_of}
 
 within : (k n m : ℕ) → k < n → n ≡ m → k < m
 within k n m less is = omega (arith, less, is)
@@ -51,15 +50,13 @@ record ToldFront (real front : List SettleEntry) : Type 0 where
 told_front : (real front behind : List SettleEntry) → all_told real ≡ front ++ behind → ToldFront real front
 told_front real [] behind is = record { past = []; rest = real; is = refl; told_is = refl }
 told_front (entry ∷ real) (first ∷ front) behind is =
-    let one : told_of entry ≡ first = cc is in
     let others : all_told real ≡ front ++ behind = cc is in
     let later : ToldFront real front = told_front real front behind others in
     record {
       past = entry ∷ later.past;
       rest = later.rest;
-      is = ap (λ (l : List SettleEntry). entry ∷ l) later.is;
-      told_is = ap (λ (e : SettleEntry). e ∷ front) (sym one)
-          ∙ ap (λ (l : List SettleEntry). told_of entry ∷ l) later.told_is;
+      is = grind (arith, told_front real front behind);
+      told_is = grind (arith, told_front real front behind);
     }
 told_front [] (first ∷ front) behind is = absurd (cc is)
 
@@ -117,21 +114,11 @@ module _ (disks : List DiskDecl) (nets : List NetShape) (image : ImageState) (ar
         let one = get_within split.0.second k
         (within k (length nets) (length split.0.second) (slice_get_within nets k shape of_shape)
         (sym (fresh_many nets cut.past split.0.second (ports_run Start cut.past split.0 split.1)))) in
-        record {
-          past = cut.past;
-          told_is = cut.told_is;
-          at = split.0;
-          led = split.1;
-          one = one.0;
-          here = one.1;
-        }
+        grind arith
 
     clean_there : (front : List SettleEntry) (at : FrontLed front) → NobodyForgesPort (port_happened k front)
         → IsUnforged at.one
-    clean_there front at none =
-        (port_told nets at.past at.at.second k shape at.one (ports_run Start at.past at.at at.led) of_shape at.here).1
-        (told_forged k at.past
-        (subst (λ (l : List SettleEntry). NobodyForgesPort (port_happened k l)) at.told_is none))
+    clean_there front at none = grind (arith, port_told, ports_run, told_forged)
 
     in_order : (a b c d : List (List ℕ)) → a ≡ c → b ≡ d → InOrder 0 c d → InOrder 0 a b
     in_order a b c d one two order =

@@ -1,5 +1,5 @@
 -- The lines of a quiet script are quiet lines of a lane, whose disk begins the image.
-use Rattle.std.proofs.Common.{◌≡◌, ℕ, ◌*◌, ◌≤◌, List, [], ◌∷◌, length, map, refl, Some}
+use Rattle.std.proofs.Common.{◌≡◌, ℕ, ◌*◌, ◌≤◌, List, [], ◌∷◌, length, map, Some, arith}
 use Rattle.disk_law.specs.ListState.{ImageState}
 use Rattle.world_parts.specs.disk_model.LaneState.{IsShape}
 use Rattle.domain_script.specs.Declarations.{IsDisk}
@@ -14,26 +14,11 @@ use Rattle.world_parts.specs.world_laws.Quiet.{IsFront}
 
 -- THE DISK begins its image
 pub disk_shape : (disk : DiskDecl) → IsDisk disk → IsShape (shape_of 0 disk)
-disk_shape disk is = record {
-  some_blocks = is.some_blocks;
-  most_blocks = is.most_blocks;
-  some_slots = is.least_ring;
-  most_slots = is.most_ring;
-  slots = is.ring_power;
-  some_entries = is.least_queue;
-  most_entries = is.most_queue;
-  entries = is.queue_power;
-}
+disk_shape disk is = grind arith
 
 pub disk_front : (disk : DiskDecl) (image : ImageState) (content : List ℕ) → IsDisk disk → image.told ≡ Some content
     → 512 * disk.blocks ≤ length content → image.faults ≡ 0 → IsFront (shape_of 0 disk) image content
-disk_front disk image content is told holds well = record {
-  sound = disk_shape disk is;
-  place = refl;
-  told = told;
-  holds = holds;
-  well = well;
-}
+disk_front disk image content is told holds well = grind (arith, disk_shape)
 
 -- ITS LINES are quiet lines of a lane
 behind_quiet : (events : List Event) → AreQuiet events → quiet_world.AreQuiet (map line_of events)
@@ -45,7 +30,5 @@ behind_quiet (_ ∷ events) quiet = absurd quiet.0
 
 pub quiet_events : (disk : DiskDecl) (events : List Event) → IsQuiet disk events
     → quiet_world.AreQuiet (map line_of events)
-quiet_events disk [] quiet = absurd quiet
 quiet_events disk (event.Blank ∷ events) quiet = (tt, quiet_events disk events quiet)
-quiet_events disk (event.Disk declared ∷ events) quiet = (tt, behind_quiet events quiet.1)
-quiet_events disk (_ ∷ events) quiet = absurd quiet
+quiet_events disk events quiet = grind (arith, behind_quiet)

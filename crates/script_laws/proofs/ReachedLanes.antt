@@ -1,6 +1,6 @@
 -- The lanes that the lines of a script lead to, from a fresh world of at most eight disks and eight ports on: each was
 -- reached, also where somebody forged it.
-use Rattle.std.proofs.Common.{◌≡◌, ℕ, ◌<◌, ◌≤◌, List, ◌++◌, length, map, slice_get, Some, [], ◌∷◌, suc, refl, subst, arith}
+use Rattle.std.proofs.Common.{◌≡◌, ℕ, ◌<◌, ◌≤◌, List, ◌++◌, length, slice_get, Some, [], ◌∷◌, suc, refl, subst, arith}
 use Rattle.std.proofs.lemmas.Option.{slice_get_within}
 use Rattle.runs.specs.Run.{Run}
 use Rattle.disk_law.specs.ListState.{ImageState}
@@ -11,7 +11,7 @@ use Rattle.domain_script.specs.declared.event.DiskDecl.{DiskDecl}
 use Rattle.lane_kinds.proofs.Places.{get_within}
 use Rattle.lane_kinds.specs.Lanes.{EachOf}
 use Rattle.world_parts.specs.port_model.NetLaneState.{IsNetShape, NetShape}
-use Rattle.world_parts.specs.port_model.PortState.{PortState, fresh_port}
+use Rattle.world_parts.specs.port_model.PortState.{PortState}
 use Rattle.world_parts.specs.switch_laws.Events.{SwitchEvent}
 use Rattle.world_parts.specs.switch_laws.Reached as port
 use Rattle.world_parts.specs.world_laws.Settle.{SettleEntry}
@@ -55,17 +55,7 @@ reached_behind shapes image nets lines w are few nets_are few_nets run =
     let entries = entries_of_lines lines in
     let whole = lines_run start lines w run in
     let many = many_kept (length shapes) (length nets) start entries w whole (many_first shapes image nets) in
-    record {
-      reached = record {
-        of_disks = world_reached 0 shapes image entries w.first are (disks_run start entries w whole);
-        of_ports = stay_reached (map fresh_port nets) entries w.second (fresh_reached nets nets_are)
-            (ports_run start entries w whole);
-      };
-      few = record {
-        of_disks = at_most (length w.first.lanes) (length shapes) many.of_first few;
-        of_ports = at_most (length w.second) (length nets) many.of_second few_nets;
-      };
-    }
+    grind (arith, world_reached, disks_run, stay_reached, fresh_reached, ports_run, at_most)
 
 -- entries that forge no lane have a front that forges none
 none_front : (one two : List SwitchEvent) → NobodyForgesPort (one ++ two) → NobodyForgesPort one

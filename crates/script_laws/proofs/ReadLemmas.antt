@@ -1,11 +1,10 @@
 -- A script, line after line.
-use Rattle.std.proofs.Common.{◌≡◌, ℕ, ◌+◌, ◌<◌, ◌≤◌, List, [], ◌∷◌, ◌++◌, length, sym, ◌∙◌, ap, subst, length-append, arith, Bool, true, false, IsTrue, Option, inl, inr, refl}
+use Rattle.std.proofs.Common.{◌≡◌, ℕ, ◌+◌, ◌<◌, ◌≤◌, List, [], ◌∷◌, ◌++◌, length, sym, ◌∙◌, ap, subst, length-append, arith, true, false, Option, refl}
 use Rattle.domain_script.specs.declared.event.DiskDecl.{DiskDecl}
 use Rattle.domain_script.specs.declared.event.Event.{Event}
 use Rattle.domain_script.specs.declared.event.Event.TheVariants as line
 use Rattle.domain_script.specs.declared.event.PortDecl.{PortDecl}
 use Rattle.domain_script.specs.Declarations.{AreDeclared, AreDisks, addresses}
-use Rattle.domain_script.specs.Firsts.{AllDiffer}
 use Rattle.domain_script.specs.NamesState.{NamesState, declared_by, noted}
 use Rattle.domain_script.specs.Spells.{Spells}
 use Rattle.domain_script.proofs.Disks.{are_disks_push, are_ports_push}
@@ -67,11 +66,7 @@ opening_halves (e ∷ events) more are = let halves = opening_halves events more
 
 -- a line that is neither blank nor a declaration
 pub other_line : (event : Event) → (AreOpening (event ∷ []) → ⊥) → is_opening event ≡ false
-other_line event other = by_test (is_opening event) (λ is. other (is, tt))
-  where
-    by_test : (b : Bool) → (IsTrue b → ⊥) → b ≡ false
-    by_test true other = absurd (other refl)
-    by_test false other = refl
+other_line event other = grind arith
 
 pub opens_more : (was stop : LinesStop) (start rest left : Option (List ℕ)) (event : Event) (names after : NamesState) (count next : ℕ) → OpensSoFar was start rest names count → ReadsEvent stop rest left names event after → next ≡ count + 1
     → next ≤ 20000 → AreOpening (event ∷ []) → OpensSoFar stop start left after next
@@ -116,74 +111,35 @@ pub still_ended : {stop : LinesStop} (rest left : Option (List ℕ)) (event : Ev
 still_ended rest left event names after reads ended = ap (λ (n : NamesState). n.ended) reads.noted_is ∙ stays_ended names event ended
 
 pub same_disks : {stop : LinesStop} (rest left : Option (List ℕ)) (event : Event) (names after : NamesState) → ReadsEvent stop rest left names event after → names.ended ≡ true → after.disks ≡ names.disks
-same_disks rest left event names after reads ended = ap (λ (n : NamesState). n.disks) reads.noted_is ∙ elim (noted_disks names event) [
-  | inl declares ↦
-      let spells : Spells reads.text names (line.Disk declares.0) = subst (λ (e : Event). Spells reads.text names e) declares.1 reads.spells in
-      absurd (cc (ended, (declared_first reads.text names declares.0 spells).open_still))
-  | inr same ↦ same
-]
+same_disks rest left event names after reads ended = grind (arith, noted_disks, declared_first)
 
 pub same_ports : {stop : LinesStop} (rest left : Option (List ℕ)) (event : Event) (names after : NamesState) → ReadsEvent stop rest left names event after → names.ended ≡ true → after.ports ≡ names.ports
-same_ports rest left event names after reads ended = ap (λ (n : NamesState). n.ports) reads.noted_is ∙ elim (noted_ports names event) [
-  | inl declares ↦
-      let spells : Spells reads.text names (line.Net declares.0) = subst (λ (e : Event). Spells reads.text names e) declares.1 reads.spells in
-      absurd (cc (ended, (port_declared_first reads.text names declares.0 spells).open_still))
-  | inr same ↦ same
-]
+same_ports rest left event names after reads ended = grind (arith, noted_ports, port_declared_first)
 
 -- WHAT A SCRIPT DECLARES: one more disk, one more port
 one_more : (few : ℕ) (more : ℕ) → few < 8 → more ≡ few + 1 → more ≤ 8
 one_more few more less is = omega (arith, less, is)
 
 disk_noted : (names : NamesState) (disk : DiskDecl) → AreDeclared (declared_by names) → Declares names disk → AreDeclared (declared_by (noted names (line.Disk disk)))
-disk_noted names disk are declares = record {
-  disks = are_disks_push names.disks disk are.disks declares.limits;
-  few_disks = one_more (length names.disks) (length (names.disks ++ disk ∷ [])) declares.few (length-append names.disks (disk ∷ []));
-  ports = are.ports;
-  few_ports = are.few_ports;
-  differ = are.differ;
-}
+disk_noted names disk are declares = grind (arith, are_disks_push, one_more, length-append)
 
 addresses_push : (ports : List PortDecl) (port : PortDecl) → addresses (ports ++ port ∷ []) ≡ addresses ports ++ port.address ∷ []
 addresses_push [] port = refl
 addresses_push (p ∷ ports) port = ap (λ (l : List (List ℕ)). p.address ∷ l) (addresses_push ports port)
 
 port_noted : (names : NamesState) (port : PortDecl) → AreDeclared (declared_by names) → DeclaresPort names port → AreDeclared (declared_by (noted names (line.Net port)))
-port_noted names port are declares = record {
-  disks = are.disks;
-  few_disks = are.few_disks;
-  ports = are_ports_push names.ports port are.ports declares.limits;
-  few_ports = one_more (length names.ports) (length (names.ports ++ port ∷ [])) declares.few (length-append names.ports (port ∷ []));
-  differ = subst AllDiffer (sym (addresses_push names.ports port)) (differ_push (addresses names.ports) port.address are.differ declares.free_address);
-}
+port_noted names port are declares = grind (arith, are_ports_push, one_more, length-append, addresses_push, differ_push)
 
 none_noted : (names : NamesState) (event : Event) → (noted names event).disks ≡ names.disks → (noted names event).ports ≡ names.ports
     → AreDeclared (declared_by names) → AreDeclared (declared_by (noted names event))
-none_noted names event disks ports are =
-    subst (λ (d : List DiskDecl). AreDeclared (record { disks = d; ports = (noted names event).ports })) (sym disks)
-    (subst (λ (p : List PortDecl). AreDeclared (record { disks = names.disks; ports = p })) (sym ports) are)
+none_noted names event disks ports are = grind arith
 
 all_noted : (text : List ℕ) (event : Event) (names : NamesState) → Spells text names event → AreDeclared (declared_by names) → AreDeclared (declared_by (noted names event))
-all_noted text event names spelled are = elim (noted_disks names event) [
-  | inl declares ↦
-      let spells : Spells text names (line.Disk declares.0) = subst (λ (e : Event). Spells text names e) declares.1 spelled in
-      subst (λ (e : Event). AreDeclared (declared_by (noted names e))) (sym declares.1)
-      (disk_noted names declares.0 are (declared_first text names declares.0 spells))
-  | inr disks ↦
-      elim (noted_ports names event) [
-        | inl declares ↦
-            let spells : Spells text names (line.Net declares.0) = subst (λ (e : Event). Spells text names e) declares.1 spelled in
-            subst (λ (e : Event). AreDeclared (declared_by (noted names e))) (sym declares.1)
-            (port_noted names declares.0 are (port_declared_first text names declares.0 spells))
-        | inr ports ↦ none_noted names event disks ports are
-      ]
-]
+all_noted text event names spelled are = grind (arith, noted_disks, disk_noted, declared_first, noted_ports, port_noted, port_declared_first, none_noted)
 
 pub are_declared : (texts : List (List ℕ)) (names after : NamesState) (events : List Event) → AreDeclared (declared_by names) → AllSpell texts names events after → AreDeclared (declared_by after)
-are_declared [] names after [] are spell = subst (λ (n : NamesState). AreDeclared (declared_by n)) (sym spell) are
-are_declared [] names after (e ∷ es) are spell = absurd spell
-are_declared (x ∷ xs) names after [] are spell = absurd spell
 are_declared (x ∷ xs) names after (e ∷ es) are spell = are_declared xs (noted names e) after es (all_noted x e names spell.0 are) spell.1
+are_declared texts names after events are spell = grind arith
 
 -- nothing yet
 pub none_declared : AreDeclared (declared_by no_names)

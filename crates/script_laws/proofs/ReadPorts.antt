@@ -1,5 +1,5 @@
 -- The ports that a script declares are ports of a world: within the limits, each with an address of six bytes.
-use Rattle.std.proofs.Common.{◌≡◌, ℕ, suc, List, [], ◌∷◌, length, Option, refl, ap}
+use Rattle.std.proofs.Common.{◌≡◌, ℕ, suc, List, [], ◌∷◌, length, Option, refl, ap, arith}
 use Rattle.domain_script.specs.Declarations.{ArePorts, IsPort}
 use Rattle.domain_script.specs.declared.event.PortDecl.{PortDecl}
 use Rattle.domain_script.specs.declared.event.Event.{Event}
@@ -11,16 +11,7 @@ use Rattle.script_laws.specs.Script.{ReadSoFar}
 use Rattle.script_laws.proofs.ReadLemmas.{read_declared}
 
 is_net : (port : PortDecl) → IsPort port → IsNetShape (net_of port)
-is_net port is = record {
-  address = is.address.long;
-  bytes = is.address.bytes;
-  some_slots = is.least_ring;
-  most_slots = is.most_ring;
-  slots = is.ring_power;
-  some_entries = is.least_queue;
-  most_entries = is.most_queue;
-  entries = is.queue_power;
-}
+is_net port is = grind arith
 
 pub are_nets : (ports : List PortDecl) → ArePorts ports → EachOf IsNetShape (nets_of ports)
 are_nets [] are = tt

@@ -20,7 +20,7 @@ use Rattle.ldom_report.specs.declared.status.Status.TheVariants as status
 use Rattle.script_laws.specs.Admitting.{AdmitsAll}
 use Rattle.script_laws.specs.Failures.{FailuresCounted, SucceedOrFail}
 use Rattle.script_laws.specs.Headline.{Headline}
-use Rattle.script_laws.specs.Replayed.{FaultsAre, Replayed, start_of}
+use Rattle.script_laws.specs.Replayed.{Replayed, start_of}
 use Rattle.script_laws.specs.Sized.{SizeIs}
 use Rattle.script_laws.specs.Stored.{flush_count, is_stored_that, stored_count, write_count}
 use Rattle.script_laws.proofs.HeadlineLaw.{headline_law}
@@ -99,9 +99,7 @@ module _ {D : Type 0} (seen : D → ImageState) (script now : Option (List ℕ))
 
   -- at status 0 no call of the image failed
   pub image_unfailed : why ≡ status.Done → IfSome image (λ disk. (seen disk).faults ≡ 0)
-  image_unfailed done =
-      let none : run.final.first.image.faults ≡ 0 = (subst (λ (w : Status). FaultsAre w image run.final.first.image.faults) done run.faults_are).1 in
-      IfSome_then image run.image_is (λ disk is. is.faults ∙ none)
+  image_unfailed done = grind arith
 
   module _ (short : length journal < 2 ^ 63) where
     parts_short : length (journal_of run.parts) < 2 ^ 63

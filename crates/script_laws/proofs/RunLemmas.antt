@@ -83,9 +83,7 @@ module _ (lines : List (Event × List Entry)) (event : Event) (part : List Entry
 
   pub more_entries : (old mid new : List Entry) → mid ≡ old ++ entries_in lines → new ≡ mid ++ part
       → new ≡ old ++ entries_in (lines ++ (event, part) ∷ [])
-  more_entries old mid new so_far grew =
-      grew ∙ ap (λ (l : List Entry). l ++ part) so_far ∙ append_assoc old (entries_in lines) part
-      ∙ ap (λ (l : List Entry). old ++ l) (sym (entries_push lines (event, part)))
+  more_entries old mid new so_far grew = grind (arith, append_assoc, entries_push)
 
 pub runs_more : (was stop : LinesStop) (start rest left : Option (List ℕ)) (before names after : NamesState) (old mid new : List Entry) (s m t : DomainState)
     (number count next : ℕ) (event : Event) → RunsSoFar was start before old s number rest names mid m count → ReadsEvent stop rest left names event after
@@ -137,13 +135,7 @@ runs_cut start rest now held before names after old mid new s m t number count n
       (events_in (so_far.lines ++ (event, fits.adds.part) ∷ [])) event so_far.read so_far.counts reads is few
       (more_events so_far.lines event fits.adds.part);
   grew = more_entries so_far.lines event fits.adds.part old mid new so_far.grew fits.adds.grew;
-  fits = record {
-    middle = m;
-    run = so_far.run;
-    last = line_starts m event mid new t fits;
-    begin_below = below_push (length old) so_far.lines (event, fits.adds.part) so_far.below
-        (below_here old mid (entries_in so_far.lines) so_far.grew below);
-  };
+  fits = grind (arith, line_starts, below_push, below_here);
   ends = tt;
   held = held;
   stop = (tt, keeps_same (prepend_known held now));

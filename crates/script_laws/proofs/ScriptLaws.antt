@@ -8,7 +8,6 @@ use Rattle.std.proofs.lemmas.List.Sums.{count_by-le-length}
 use Rattle.runs.specs.Lawful.{log_of}
 use Rattle.runs.specs.Run.{Run}
 use Rattle.vio_io.specs.Causes.{count_after}
-use Rattle.vdisk_msg.specs.declared.request.Request.{Request}
 use Rattle.disk_law.specs.Issued.{Admission, CompletesOnceInOrder, issued}
 use Rattle.disk_law.specs.ListState.{ImageState}
 use Rattle.disk_law.specs.ListStep as plain
@@ -51,7 +50,7 @@ use Rattle.world_parts.specs.world_laws.Requests.{requests_of}
 use Rattle.script_laws.specs.Admitting.{AdmitsAll}
 use Rattle.script_laws.specs.Failures.{FailuresCounted, SucceedOrFail, SucceedsOrFails, failed_count, has_failed}
 use Rattle.script_laws.specs.Forged.{IsUnforged}
-use Rattle.script_laws.specs.Outside.{IsOutsideAll, IsOutsideDisks, KeepsOthers}
+use Rattle.script_laws.specs.Outside.{IsOutsideDisks, KeepsOthers}
 use Rattle.script_laws.specs.Stored.{flush_count, is_stored_that, stored_count, write_count}
 use Rattle.script_laws.proofs.DiskHistory.{all_seen, history_kept, issued_kept, kept_once, nothing_once}
 use Rattle.script_laws.proofs.DeclaredWorlds.{declared_world}
@@ -143,15 +142,7 @@ module _ (disks : List DiskDecl) (nets : List NetShape) (image : ImageState) (en
 
   leave_alone : (place : ℕ) → IsOutsideDisks disks journal place
       → AllLeaveAlone (shapes_of 0 disks) place (means_of tells.tellings)
-  leave_alone place outside x shape there = elim (outside x shape there) [
-    | inl out ↦ inl out
-    | inr clean ↦
-        inr (
-          none_forges x clean.0,
-          names_no shape.first place (happened x (means_of tells.tellings))
-              (subst (λ (l : List Request). IsOutsideAll shape.first place l) (issued_is x) clean.1),
-        )
-  ]
+  leave_alone place outside x shape there = grind (arith, none_forges, names_no, history_is, issued_kept)
 
   same_content : (a b : List ℕ) → Some a ≡ Some b → a ≡ b
   same_content a b is = cc is
@@ -177,10 +168,7 @@ module _ (disks : List DiskDecl) (nets : List NetShape) (image : ImageState) (en
 
   -- no more failed than the image counts
   means_short : length journal < 2 ^ 63 → length (means_of tells.tellings) < 2 ^ 63
-  means_short short =
-      let many = as_many tells.tellings in
-      let long = ap (λ (l : List Entry). length l) tells.journal_is in
-      omega (arith, many, long, short)
+  means_short short = grind (arith, as_many)
 
   disk_failed : (x : ℕ) → image.faults ≡ 0 → length journal < 2 ^ 63 → IsUnforged x journal
       → count_by has_failed (history x journal) ≤ v.first.image.faults

@@ -1,24 +1,22 @@
 -- The part of a settle: events of lanes, and then its answer, or names of lanes that are left over; and a front of it.
-use Rattle.std.proofs.Common.{◌≡◌, inl, inr, ℕ, ◌+◌, ◌*◌, ◌<◌, ◌≤◌, Bool, true, false, List, [], ◌∷◌, ◌++◌, length, map, refl, sym, ap, ◌∙◌, arith, append-nil, length-append}
+use Rattle.std.proofs.Common.{◌≡◌, inl, inr, ℕ, ◌+◌, ◌*◌, ◌<◌, ◌≤◌, Bool, true, false, List, [], ◌∷◌, ◌++◌, length, map, sym, ap, ◌∙◌, arith, append-nil, length-append}
 use Rattle.std.proofs.lemmas.List.{length-map}
-use Rattle.std.specs.Prelude.{◌&&◌, if◌then◌else◌}
+use Rattle.std.specs.Prelude.{if◌then◌else◌}
 use Rattle.runs.specs.Run.{Run}
-use Rattle.world_parts.specs.channel_model.WireEvent.{Blocked}
-use Rattle.world_parts.specs.disk_model.DiskEvent.{OnWire}
 use Rattle.lane_kinds.proofs.EntriesEach.{first_each}
 use Rattle.lane_kinds.proofs.EntryRuns.{names_each}
 use Rattle.lane_kinds.specs.Both.{Two}
 use Rattle.lane_kinds.specs.Fronts.{NamesFront, SettleFront}
-use Rattle.lane_kinds.specs.Lanes.{Entries, LaneKind, all_calm, left_names}
+use Rattle.lane_kinds.specs.Lanes.{Entries, LaneKind, left_names}
 use Rattle.lane_kinds.specs.Settles.{GoesOn, RunsOut, Settles, begin, entries_of_rounds, most_rounds}
 use Rattle.world_parts.specs.switch_laws.Events.{SwitchEvent}
 use Rattle.world_parts.specs.switch_laws.Ports.{ports}
 use Rattle.world_parts.specs.world_laws.DiskKind.{disk_kind}
 use Rattle.world_parts.specs.world_laws.Rounds.{LaneRound}
-use Rattle.world_parts.specs.world_laws.Settle.{OfLane, OfPort, SettleEntry, Settled, Unsettled, UnsettledPort, disk_entries, disks}
+use Rattle.world_parts.specs.world_laws.Settle.{SettleEntry, Settled, Unsettled, UnsettledPort, disk_entries, disks}
 use Rattle.world_parts.proofs.domain_laws.Counting.{made_move, some_named}
 use Rattle.world_parts.proofs.domain_laws.LineEntries.{AllRound, AllSettling, EachEntry, StepsHave, TicksHave, each_as, each_both, each_in, few_each, rounds_each, settled_each}
-use Rattle.world_parts.specs.domain_laws.Counts.{is_blocked, moves, moves_in}
+use Rattle.world_parts.specs.domain_laws.Counts.{moves, moves_in}
 use Rattle.world_parts.specs.domain_laws.Domain.{Lanes, lanes, port_entries, switch}
 use Rattle.world_parts.specs.domain_laws.Lines.{fronts}
 use Rattle.world_parts.specs.domain_laws.Settling.{AreReached}
@@ -76,14 +74,7 @@ pub record NamesLast (part : List SettleEntry) : Type 0 where
   pub some : 1 ≤ length names → 1 ≤ length front
 
 pub lanes_alone : (part : List SettleEntry) → AreOfLanes part → NamesLast part
-lanes_alone part of_lanes = record {
-  front = part;
-  names = [];
-  is = sym (append-nil part);
-  of_lanes = of_lanes;
-  are = tt;
-  some = λ one. absurd (omega (arith, one));
-}
+lanes_alone part of_lanes = grind (arith, append-nil)
 
 -- the lanes that are left over are names
 all_names : (r : Two (List LaneRound) (List (List SwitchEvent))) (w : Lanes) → EachEntry IsName (lanes.names r w)
@@ -103,22 +94,12 @@ module _ {S V : Type 0} (K : LaneKind S V) (N : Entries V SettleEntry) where
   first_name k false later more = (k ∷ more.0, ap (λ (l : List SettleEntry). N.left_over k ∷ l) more.1)
 
   names_are : (k : ℕ) (turns : List (List V)) (w : List S) → Numbers (left_names K N k turns w)
-  names_are k [] w = ([], refl)
-  names_are k (r ∷ turns) [] = ([], refl)
-  names_are k (r ∷ turns) (s ∷ w) =
-      first_name k (all_calm K r && (if K.waits_on s then false else true)) (left_names K N (k + 1) turns w)
-      (names_are (k + 1) turns w)
+  names_are k (r ∷ turns) (s ∷ w) = grind (arith, first_name, names_are (k + 1) turns w)
+  names_are k turns w = grind arith
 
 -- ROUNDS that were made leave an event each
-either_one : (c : Bool) → (if c then 0 else 1) ≤ 1
-either_one true = omega (arith)
-either_one false = omega (arith)
-
 one_move : (entry : SettleEntry) → moves entry ≤ 1
-one_move (OfPort j event) = either_one (is_blocked event)
-one_move (OfLane j (OnWire (Blocked e))) = omega (arith)
-one_move (OfLane j event) = omega (arith)
-one_move _ = omega (arith)
+one_move entry = grind arith
 
 moves_most : (part : List SettleEntry) → moves_in part ≤ length part
 moves_most [] = omega (arith)
@@ -126,10 +107,7 @@ moves_most (entry ∷ part) = let one = one_move entry in let rest = moves_most 
 
 pub rounds_long : (w : AllSettling) (rounds : List AllRound) (v : AllSettling) → Run (GoesOn lanes) w rounds v
     → length rounds ≤ length (entries_of_rounds rounds)
-rounds_long w rounds v run =
-    let moved = made_move w rounds v run in
-    let most = moves_most (entries_of_rounds rounds) in
-    omega (arith, moved, most)
+rounds_long w rounds v run = grind (arith, made_move, moves_most)
 
 at_least_one : (n most all : ℕ) → n ≡ 4096 + 64 * most → n ≤ all → 1 ≤ all
 at_least_one n most all is less = omega (arith, is, less)
@@ -187,19 +165,14 @@ settle_front start part behind at few = few_each IsOfLane lane_steps lane_ticks 
 named_front : (start : Lanes) (part : List SettleEntry) (behind : Lanes)
     (at : SettleFront lanes fronts start part behind) → length at.rounds ≡ most_rounds lanes start
     → NamesFront lanes at.rounds at.now at.later behind → NamesLast part
-named_front start part behind at all front =
-    let long = rounds_long (begin lanes start) at.rounds at.now at.run in
-    record {
-      front = entries_of_rounds at.rounds;
-      names = at.later;
-      is = at.is;
-      of_lanes = rounds_each IsOfLane lane_steps lane_ticks (begin lanes start) at.rounds at.now at.run;
-      are = first_each IsName at.later front.unnamed
-          (each_as IsName (at.later ++ front.unnamed) (lanes.names front.last.steps at.now.lanes) front.is
-          (all_names front.last.steps at.now.lanes));
-      some = λ one.
-          at_least_one (length at.rounds) (lanes.pending start) (length (entries_of_rounds at.rounds)) all long;
-    }
+named_front start part behind at all front = record {
+  front = entries_of_rounds at.rounds;
+  names = at.later;
+  is = at.is;
+  of_lanes = rounds_each IsOfLane lane_steps lane_ticks (begin lanes start) at.rounds at.now at.run;
+  are = grind (arith, rounds_long, rounds_each, lane_steps, lane_ticks, first_each, each_as, all_names, at_least_one);
+  some = λ one. grind (arith, rounds_long, rounds_each, lane_steps, lane_ticks, first_each, each_as, all_names, at_least_one);
+}
 
 pub front_last : (start : Lanes) (part : List SettleEntry) (behind : Lanes)
     → SettleFront lanes fronts start part behind → NamesLast part

@@ -1,5 +1,5 @@
 -- Each settle of a script's lines begins where the lines before it led, also the one that want of memory cut off.
-use Rattle.std.proofs.Common.{◌≡◌, ◌⊎◌, inl, inr, Option, Some, None, List, [], ◌∷◌, ◌++◌, refl, sym, ap, ◌∙◌, subst, append-nil}
+use Rattle.std.proofs.Common.{◌≡◌, ◌⊎◌, inl, inr, Option, Some, None, List, [], ◌∷◌, ◌++◌, refl, sym, ap, ◌∙◌, subst, append-nil, arith}
 use Rattle.runs.specs.Run.{Run, run_split}
 use Rattle.disk_law.specs.ListState.{ImageState}
 use Rattle.domain_script.specs.declared.event.DiskDecl.{DiskDecl}
@@ -108,9 +108,7 @@ each_whole disks nets image lines v run before part behind is =
 -- FROM WHERE IT BEGAN these lines lead on
 lines_on : (w : DomainState) (lines : List (Event × List Entry)) (v : DomainState) → Run EventStep w lines v
     → LeadsOn w lines v
-lines_on w lines v run =
-    let real : AsLines w lines v = as_lines w lines v run in
-    record { later = entries_of_lines real.real; told_is = real.told_is; run = lines_run w real.real v real.run }
+lines_on w lines v run = grind (arith, as_lines, lines_run)
 
 cut_on : (w : DomainState) (lines : List (Event × List Entry)) (m : DomainState) (last : Event × List Entry)
     (v : DomainState) → Run EventStep w lines m → LineStarts m last v → LeadsOn w (lines ++ last ∷ []) v
@@ -127,9 +125,7 @@ cut_on w lines m last v run starts =
 only_one : {X : Type 0} (x : X) (later : List X) (y : X) (behind : List X) → x ∷ [] ≡ later ++ y ∷ behind
     → (later ≡ []) × (x ≡ y) × (behind ≡ [])
 only_one {X} x [] y behind is = (refl, cc is, cc is)
-only_one {X} x (z ∷ later) y behind is =
-    let none : [] ≡ later ++ y ∷ behind = cc is in
-    absurd (no_place later y behind none)
+only_one {X} x (z ∷ later) y behind is = grind (arith, no_place)
 
 module _ (disks : List DiskDecl) (nets : List NetShape) (image : ImageState) (whole : List (Event × List Entry)) (m : DomainState)
     (run : Run EventStep (world_of disks nets image) whole m) where
@@ -172,11 +168,9 @@ module _ (disks : List DiskDecl) (nets : List NetShape) (image : ImageState) (wh
   settles_on None v last before part behind is =
       let one : WholeOn disks nets image before part behind m =
       whole_on disks nets image whole m run before part behind is in
-      let start : DomainState = one.whole.at in
       record {
         of = settles_whole disks nets image before part one.whole;
-        leads = subst (λ (x : DomainState). LeadsOn start ((Settle, part) ∷ behind) x) (sym last)
-            (lines_on start ((Settle, part) ∷ behind) m (one.whole.next, one.whole.step, one.on));
+        leads = grind (arith, whole_on, lines_on);
       }
   settles_on (Some line) v last before part behind is =
       cut_at line v last before part behind (place_in whole (line ∷ []) before (Settle, part) behind is)

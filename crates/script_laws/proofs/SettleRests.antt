@@ -1,5 +1,5 @@
 -- Where a settle of a script's lines ends settled, each disk whose server runs is finished, or had its tick in the part.
-use Rattle.std.proofs.Common.{◌≡◌, ◌⊎◌, inl, inr, ℕ, zero, suc, ◌+◌, false, List, [], ◌∷◌, ◌++◌, slice_get, Some, sym, ap, ◌∙◌, subst, arith}
+use Rattle.std.proofs.Common.{◌≡◌, ◌⊎◌, inl, inr, ℕ, suc, ◌+◌, false, List, [], ◌∷◌, ◌++◌, slice_get, Some, sym, ap, ◌∙◌, subst, arith}
 use Rattle.runs.specs.Run.{Run}
 use Rattle.disk_law.specs.ListState.{ImageState}
 use Rattle.world_parts.specs.disk_model.DiskEvent.{DiskEvent}
@@ -21,7 +21,7 @@ use Rattle.world_parts.specs.domain_laws.Domain.{Lanes, lanes, lanes_in}
 use Rattle.world_parts.specs.domain_laws.Lines.{fronts}
 use Rattle.world_parts.specs.world_laws.Along.{happened}
 use Rattle.world_parts.specs.world_laws.Ended.{EndsIn, LanesEnd}
-use Rattle.world_parts.specs.world_laws.Moves.{ticks, ticks_in}
+use Rattle.world_parts.specs.world_laws.Moves.{ticks_in}
 use Rattle.world_parts.specs.world_laws.Settle.{SettleEntry, Settled}
 use Rattle.ldom_entries.specs.declared.entry.Entry.{Entry}
 use Rattle.script_laws.proofs.ReachedLanes.{AreLanes}
@@ -52,13 +52,8 @@ settles_if w part so_far rest behind is (inr at) =
 
 lane_ends : (j : ℕ) (part : List SettleEntry) (lanes : List LaneState) (x n : ℕ) (s : LaneState) → n ≡ j + x
     → LanesEnd j part lanes → slice_get lanes x ≡ Some s → EndsIn n part s
-lane_ends j part [] x n s is ends there = absurd (cc there)
-lane_ends j part (t ∷ lanes) zero n s is ends there =
-    let same : t ≡ s = cc there in
-    let number : j ≡ n = omega (arith, is) in
-    subst (λ (i : ℕ). EndsIn i part s) number (subst (EndsIn j part) same ends.0)
-lane_ends j part (t ∷ lanes) (suc x) n s is ends there =
-    lane_ends (j + 1) part lanes x n s (omega (arith, is)) ends.1 there
+lane_ends j part (t ∷ lanes) (suc x) n s is ends there = grind (arith, lane_ends (j + 1) part lanes x n s (omega (arith, is)) ends.1 there)
+lane_ends j part lanes x n s is ends there = grind arith
 
 own : (x : ℕ) → x ≡ 0 + x
 own x = omega (arith)
@@ -66,10 +61,7 @@ own x = omega (arith)
 -- the answer adds no tick
 same_ticks : (x : ℕ) (part so_far : List SettleEntry) → part ≡ so_far ++ Settled ∷ [] → ticks_in x part ≡ 1
     → ticks_in x so_far ≡ 1
-same_ticks x part so_far is one =
-    let both = sum_both (ticks x) so_far (Settled ∷ []) in
-    let all = ap (λ (l : List SettleEntry). ticks_in x l) is in
-    omega (arith, both, all, one)
+same_ticks x part so_far is one = grind (arith, sum_both)
 
 module _ (disks : List DiskDecl) (nets : List NetShape) (image : ImageState) (are : AreLanes disks nets) (x : ℕ)
     (shape : Shape) (of_shape : slice_get (shapes_of 0 disks) x ≡ Some shape) where

@@ -42,11 +42,7 @@ none_of_ports x (entry ∷ part) each = absurd each.0
 
 same_part : (x : ℕ) (part one two other so_far : List SettleEntry) → part ≡ one ++ (two ++ other) ++ Settled ∷ []
     → part ≡ so_far ++ Settled ∷ [] → happened x other ≡ [] → happened x one ++ happened x two ≡ happened x so_far
-same_part x part one two other so_far first second none =
-    ap (λ (l : List DiskEvent). happened x one ++ l)
-    (sym (happened_both x two other ∙ ap (λ (l : List DiskEvent). happened x two ++ l) none ∙ append-nil (happened x two)))
-    ∙ sym (happened_both x one (two ++ other)) ∙ answered x (one ++ (two ++ other))
-    ∙ ap (happened x) (sym first ∙ second) ∙ sym (answered x so_far)
+same_part x part one two other so_far first second none = grind (arith, happened_both, append-nil, answered)
 
 own : (x : ℕ) → x ≡ 0 + x
 own x = omega (arith)

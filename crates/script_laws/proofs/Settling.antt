@@ -1,6 +1,6 @@
 -- Each settle of a script's lines ends settled, or it names lanes that are left over; and where it ends settled all disks
 -- are finished whose servers run and that nobody forged.
-use Rattle.std.proofs.Common.{◌≡◌, ◌⊎◌, ℕ, zero, suc, ◌+◌, ◌≤◌, true, false, List, [], ◌∷◌, ◌++◌, length, slice_get, Some, refl, sym, ap, ap₂, ◌∙◌, subst, arith}
+use Rattle.std.proofs.Common.{◌≡◌, ◌⊎◌, ℕ, suc, ◌+◌, true, false, List, [], ◌∷◌, ◌++◌, slice_get, Some, refl, sym, ap, ◌∙◌, subst, arith}
 use Rattle.runs.specs.Lawful.{log_of}
 use Rattle.runs.specs.Run.{Run, run_append, run_split}
 use Rattle.disk_law.specs.ListState.{ImageState}
@@ -19,7 +19,7 @@ use Rattle.world_parts.proofs.world_laws.Along.{lane_at, lanes_run, shape_at}
 use Rattle.world_parts.proofs.world_laws.Moving.{happened_both}
 use Rattle.world_parts.specs.world_laws.Along.{happened}
 use Rattle.world_parts.specs.world_laws.Ended.{LanesEnd}
-use Rattle.world_parts.specs.world_laws.Settle.{SettleEntry, Settled, Unsettled, UnsettledPort}
+use Rattle.world_parts.specs.world_laws.Settle.{SettleEntry, Settled}
 use Rattle.world_parts.specs.world_laws.Sums.{IsUnforged}
 use Rattle.world_parts.specs.world_laws.World.{WorldState, WorldStep, fresh_world}
 use Rattle.world_parts.proofs.domain_laws.LineEntries.{each_in}
@@ -55,12 +55,8 @@ AllFinished lanes =
 
 end_at : (j : ℕ) (part : List SettleEntry) (lanes : List LaneState) (x : ℕ) (s : LaneState) → LanesEnd j part lanes
     → slice_get lanes x ≡ Some s → IsUnforged s → s.stopped ≡ false → is_finished s.client ≡ true
-end_at j part [] x s ends there clean runs = absurd (cc there)
-end_at j part (t ∷ lanes) zero s ends there clean runs =
-    let same : t ≡ s = cc there in
-    subst (λ (l : LaneState). IsUnforged l → l.stopped ≡ false → is_finished l.client ≡ true) same ends.0.finished clean
-    runs
 end_at j part (t ∷ lanes) (suc x) s ends there clean runs = end_at (j + 1) part lanes x s ends.1 there clean runs
+end_at j part lanes x s ends there clean runs = grind arith
 
 -- so they are in the world after these entries, and both ends of each are still
 pub record FinishedAt (disks : List DiskDecl) (image : ImageState) (before : List SettleEntry) : Type 0 where
@@ -83,29 +79,15 @@ abbrev two_of : WorldState → List PortState → DomainState
 two_of x y = record { first = x; second = y }
 
 answer_stays : (m v : DomainState) → Run DomainStep m (Settled ∷ []) v → v ≡ m
-answer_stays m v run =
-    sym run.2
-    ∙ ap₂ (λ (x : WorldState) (y : List PortState). two_of x y) run.1.of_first run.1.of_second
+answer_stays m v run = grind arith
 
 -- and so they are after what is told of them
 pub told_finished : (disks : List DiskDecl) (image : ImageState) (before : List SettleEntry) → FinishedAt disks image before
     → FinishedAt disks image (all_told before)
-told_finished disks image before of = record {
-  at = of.at;
-  run = told_run (fresh_world (shapes_of 0 disks) image) before of.at of.run;
-  finished = of.finished;
-  still = λ x shape of_shape.
-      subst (λ (l : List DiskEvent). AreStillBy (log_of after (nothing_yet shape) l)) (sym (told_happened x before))
-      (of.still x shape of_shape);
-}
-
-few_shapes : (n m : ℕ) → n ≡ m → m ≤ 8 → n ≤ 8
-few_shapes n m is few = omega (arith, is, few)
+told_finished disks image before of = grind (arith, told_run, told_happened)
 
 no_name : (entry : SettleEntry) → IsName entry → LeavesNone entry → ⊥
-no_name (Unsettled k) is leaves = leaves
-no_name (UnsettledPort k) is leaves = leaves
-no_name _ is leaves = is
+no_name entry is leaves = grind arith
 
 module _ (disks : List DiskDecl) (nets : List NetShape) (image : ImageState) (are : AreLanes disks nets) where
   abbrev Start : DomainState
@@ -113,9 +95,7 @@ module _ (disks : List DiskDecl) (nets : List NetShape) (image : ImageState) (ar
 
   pub reached_lines : (lines : List (world.Line × List SettleEntry)) (w : DomainState)
       → Run world.LineStep Start lines w → AreReachedFew (lanes_in w)
-  reached_lines lines w run =
-      reached_behind (shapes_of 0 disks) image nets lines w (are_shapes 0 disks are.disks_are)
-      (few_shapes (length (shapes_of 0 disks)) (length disks) (many_shapes 0 disks) are.few_disks) are.nets_are are.few_nets run
+  reached_lines lines w run = grind (arith, reached_behind, are_shapes, many_shapes)
 
   pub reached_events : (lines : List (Event × List Entry)) (w : DomainState) → Run EventStep Start lines w
       → AreReachedFew (lanes_in w)
@@ -211,10 +191,7 @@ module _ (disks : List DiskDecl) (nets : List NetShape) (image : ImageState) (ar
       let clean : NobodyForgesAll (world.entries_of_lines of.place.front) =
       any_front (world.entries_of_lines of.place.front) of.place.so_far
       (subst NobodyForgesAll of.place.before_is none) in
-      no_name entry name
-      (each_in LeavesNone line.1 of.place.so_far entry place.rest place.is
-      (part_leaves line.0 (lanes_in of.at) line.1 (lanes_in of.next) (reached_lines of.place.front of.at of.run)
-      (unforged_lines of.place.front of.at of.run clean) of.moves.part_of))
+      grind (arith, no_name, each_in, part_leaves, reached_lines, unforged_lines)
 
   -- BEHIND THE ANSWER of a settle nothing more stands in its part, and all disks are finished
   settled_at : (lines : List (world.Line × List SettleEntry)) (before behind : List SettleEntry)

@@ -1,5 +1,5 @@
 -- How long the image of a run is, and that its disks lie within it.
-use Rattle.std.proofs.Common.{◌≡◌, inl, inr, ◌⊎◌, ℕ, ◌+◌, ◌*◌, ◌<◌, ◌≤◌, Bool, List, [], ◌∷◌, ◌++◌, length, map, refl, sym, ap, subst, arith, Option, Some, None, IfSome, replicate}
+use Rattle.std.proofs.Common.{◌≡◌, ◌⊎◌, ℕ, ◌+◌, ◌*◌, ◌<◌, ◌≤◌, Bool, List, [], ◌∷◌, ◌++◌, length, map, sym, ap, subst, arith, Option, Some, None, IfSome, replicate}
 use Rattle.std.proofs.Math.ListN.{length-replicate}
 use Rattle.world_parts.specs.disk_model.LaneState.{LaneState, Shape}
 use Rattle.domain_script.specs.Declarations.{Declared}
@@ -24,7 +24,7 @@ use Rattle.world_parts.specs.Endings.{JournalIs, NotBegun, ending}
 use Rattle.script_laws.proofs.LineCases.{noted_disks}
 use Rattle.script_laws.proofs.Assembly.{ended_as}
 use Rattle.script_laws.proofs.LineLists.{by_readers}
-use Rattle.script_laws.specs.LanesStand.{LanesOver, LanesStand}
+use Rattle.script_laws.specs.LanesStand.{LanesStand}
 
 abbrev pub shape_in : LaneState → Shape
 shape_in s = s.shape
@@ -44,75 +44,33 @@ needed_within first size (disk ∷ disks) (s ∷ lanes) are each from =
 module _ {D : Type 0} (size : D → ℕ) where
   -- a run in a world over an image that is long enough
   pub sized_of : (why : Status) (faulty : Bool) (least : ℕ) (told : Option (List ℕ)) (image : D) → IsReaders why → least ≤ size image → IfSome told (λ bytes. least ≤ length bytes) → SizeIs size (ended_status why faulty) least told (Some image)
-  sized_of why faulty least told image readers enough long =
-      ended_as (λ (w : Status). SizeIs size w least told (Some image)) why faulty readers (λ is. is)
-      (by_readers (λ (w : Status). SizeIs size w least told (Some image)) (enough, long) (λ at fault. (enough, long)) (enough, long) (λ at kind. (enough, long)) (enough, long) why readers)
+  sized_of why faulty least told image readers enough long = grind (arith, ended_as, by_readers)
 
   -- the same, its parts said otherwise
   pub sized_as : (gives : ℕ → Option (List ℕ)) (why ended : Status) (names now_named : NamesState) (image disk : Option D) → ended ≡ why → now_named ≡ names → disk ≡ image
       → SizeIs size why (512 * blocks_of names.disks) (gives (512 * blocks_of names.disks)) image → SizeIs size ended (512 * blocks_of now_named.disks) (gives (512 * blocks_of now_named.disks)) disk
-  sized_as gives why ended names now_named image disk status_is names_are image_is sized =
-      subst (λ (w : Status). SizeIs size w (512 * blocks_of now_named.disks) (gives (512 * blocks_of now_named.disks)) disk) (sym status_is)
-      (subst (λ (n : NamesState). SizeIs size why (512 * blocks_of n.disks) (gives (512 * blocks_of n.disks)) disk) (sym names_are)
-      (subst (λ (d : Option D). SizeIs size why (512 * blocks_of names.disks) (gives (512 * blocks_of names.disks)) d) (sym image_is) sized))
+  sized_as gives why ended names now_named image disk status_is names_are image_is sized = grind arith
 
   -- a run without an image
   pub sized_none : (why : Status) (least : ℕ) (told : Option (List ℕ)) → IsReaders why → SizeIs size why least told None
   sized_none why least told readers = by_readers (λ (w : Status). SizeIs size w least told None) tt (λ at fault. tt) tt (λ at kind. tt) tt why readers
 
-  longs : (least : ℕ) (told : Option (List ℕ)) (image : Option D) → IfSome image (λ disk. (least ≤ size disk) × IfSome told (λ bytes. least ≤ length bytes)) → IfSome image (λ disk. IfSome told (λ bytes. least ≤ length bytes))
-  longs least told None sized = tt
-  longs least told (Some disk) sized = sized.1
-
   -- either what was told is long enough, or nothing was begun
   pub long_or_none : (why : Status) (least : ℕ) (told : Option (List ℕ)) (image : Option D) → SizeIs size why least told image → IfSome image (λ disk. IfSome told (λ bytes. least ≤ length bytes)) ⊎ (ending why ≡ NotBegun)
-  long_or_none (status.ImageSize need have) least told image sized = inr refl
-  long_or_none status.Done least told image sized = inl (longs least told image sized)
-  long_or_none status.Usage least told image sized = inl (longs least told image sized)
-  long_or_none (status.Script at fault) least told image sized = inl (longs least told image sized)
-  long_or_none status.SourceFault least told image sized = inl (longs least told image sized)
-  long_or_none status.SinkFault least told image sized = inl (longs least told image sized)
-  long_or_none status.HostFault least told image sized = inl (longs least told image sized)
-  long_or_none status.StoreFault least told image sized = inl (longs least told image sized)
-  long_or_none (status.Limit at kind) least told image sized = inl (longs least told image sized)
-  long_or_none status.NoMemory least told image sized = inl (longs least told image sized)
+  long_or_none why least told image sized = grind arith
 
   -- what was told is long enough where the run has lanes: there is an image then, and it isn't too short
-  long_over : (least : ℕ) (told : Option (List ℕ)) (image : Option D) (lanes : Option Lanes) (t : DomainState)
-      → IfSome image (λ disk. (least ≤ size disk) × IfSome told (λ bytes. least ≤ length bytes)) → LanesOver image lanes t
-      → IfSome lanes (λ stand. IfSome told (λ bytes. least ≤ length bytes))
-  long_over least told image None t sized stand = tt
-  long_over least told None (Some lanes) t sized stand = absurd (cc stand)
-  long_over least told (Some disk) (Some lanes) t sized stand = sized.1
-
   pub lanes_long : (why : Status) (least : ℕ) (told : Option (List ℕ)) (image : Option D) (lanes : Option Lanes) (t : DomainState)
       → SizeIs size why least told image → LanesStand why image lanes t → IfSome lanes (λ stand. IfSome told (λ bytes. least ≤ length bytes))
-  lanes_long (status.ImageSize need have) least told image None t sized stand = tt
-  lanes_long (status.ImageSize need have) least told image (Some lanes) t sized stand = absurd (cc stand)
-  lanes_long status.Done least told image lanes t sized stand = long_over least told image lanes t sized stand
-  lanes_long status.Usage least told image lanes t sized stand = long_over least told image lanes t sized stand
-  lanes_long (status.Script at fault) least told image lanes t sized stand = long_over least told image lanes t sized stand
-  lanes_long status.SourceFault least told image lanes t sized stand = long_over least told image lanes t sized stand
-  lanes_long status.SinkFault least told image lanes t sized stand = long_over least told image lanes t sized stand
-  lanes_long status.HostFault least told image lanes t sized stand = long_over least told image lanes t sized stand
-  lanes_long status.StoreFault least told image lanes t sized stand = long_over least told image lanes t sized stand
-  lanes_long (status.Limit at kind) least told image lanes t sized stand = long_over least told image lanes t sized stand
-  lanes_long status.NoMemory least told image lanes t sized stand = long_over least told image lanes t sized stand
+  lanes_long why least told image lanes t sized stand = grind arith
 
   -- a disk that attaching made of zeros is never too short
   pub zeros_are_long : (why : Status) (least need have : ℕ) (told : Option (List ℕ)) (image : Option D) → why ≡ status.ImageSize need have → told ≡ Some (replicate least 0) → SizeIs size why least told image → ⊥
-  zeros_are_long why least need have told image is zeros sized =
-      let short : SizeIs size (status.ImageSize need have) least (Some (replicate least 0)) image =
-      subst (λ (w : Status). SizeIs size w least (Some (replicate least 0)) image) is (subst (λ (o : Option (List ℕ)). SizeIs size why least o image) zeros sized) in
-      omega (arith, short.1, short.3, length-replicate {A = ℕ} least 0)
+  zeros_are_long why least need have told image is zeros sized = grind (arith, length-replicate)
 
   -- nor is one that is as long as the disks of the script's names need
   pub long_enough : (why : Status) (least most need have : ℕ) (told : Option (List ℕ)) (image : Option D) → why ≡ status.ImageSize need have → least ≤ most → IfSome image (λ disk. most ≤ size disk) → SizeIs size why least told image → ⊥
-  long_enough why least most need have told None is within enough sized =
-      let short = subst (λ (w : Status). SizeIs size w least told None) is sized in absurd short.2
-  long_enough why least most need have told (Some disk) is within enough sized =
-      let short : SizeIs size (status.ImageSize need have) least told (Some disk) = subst (λ (w : Status). SizeIs size w least told (Some disk)) is sized in
-      omega (arith, short.1, short.2, enough, within)
+  long_enough why least most need have told image is within enough sized = grind arith
 
 -- an image that tells as many bytes as it has tells enough where it has enough
 pub long_told : (told : Option (List ℕ)) (size least : ℕ) → IfSome told (λ bytes. length bytes ≡ size) → least ≤ size → IfSome told (λ bytes. least ≤ length bytes)
@@ -146,15 +104,9 @@ more_blocks [] disk = omega arith
 more_blocks (first ∷ disks) disk = omega (arith, more_blocks disks disk)
 
 noted_blocks : (names : NamesState) (e : Event) → blocks_of names.disks ≤ blocks_of (noted names e).disks
-noted_blocks names e = elim (noted_disks names e) [
-  | inl declares ↦
-      subst (λ (x : Event). blocks_of names.disks ≤ blocks_of (noted names x).disks) (sym declares.1) (omega (arith, more_blocks names.disks declares.0))
-  | inr same ↦ omega (arith, ap (λ (l : List DiskDecl). blocks_of l) same)
-]
+noted_blocks names e = grind (arith, noted_disks, more_blocks)
 
 -- no disk that is declared goes
 pub blocks_stay : (texts : List (List ℕ)) (before after : NamesState) (events : List Event) → AllSpell texts before events after → blocks_of before.disks ≤ blocks_of after.disks
-blocks_stay [] before after [] spell = omega (arith, ap (λ (n : NamesState). blocks_of n.disks) spell)
-blocks_stay [] before after (e ∷ es) spell = absurd spell
-blocks_stay (x ∷ xs) before after [] spell = absurd spell
 blocks_stay (x ∷ xs) before after (e ∷ es) spell = omega (arith, noted_blocks before e, blocks_stay xs (noted before e) after es spell.1)
+blocks_stay texts before after events spell = grind arith

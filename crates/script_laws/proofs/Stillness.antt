@@ -1,21 +1,18 @@
 -- After a quiet round both ends of a lane are still by its log, whose entries leave out its silent steps.
-use Rattle.std.proofs.Common.{◌≡◌, ◌⊎◌, inl, inr, ℕ, ◌+◌, ◌≤◌, Bool, true, false, List, [], ◌∷◌, ◌++◌, length, Option, Some, None, refl, sym, ap, ◌∙◌, subst}
-use Rattle.std.specs.Prelude.{◌==◌, if◌then◌else◌, ⊤}
+use Rattle.std.proofs.Common.{◌≡◌, ◌⊎◌, ℕ, ◌+◌, Bool, true, false, List, [], ◌∷◌, ◌++◌, Option, refl, sym, ap, ◌∙◌, arith}
+use Rattle.std.specs.Prelude.{if◌then◌else◌, ⊤}
 use Rattle.runs.specs.Lawful.{log_append, log_of}
 use Rattle.runs.specs.Run.{Run, run_append}
 use Rattle.world_parts.specs.lane_laws.Agreement.{AgreesWithLog}
 use Rattle.world_parts.specs.lane_laws.DiskLog.{DiskLog, after, nothing_yet}
-use Rattle.world_parts.specs.lane_laws.QuietLaws.{ClientIsIdle, EndIsIdle, ServerIsIdle}
-use Rattle.world_parts.specs.lane_laws.WorkLaws.{IfClient, IfServer}
-use Rattle.world_parts.specs.lane_laws.WorkLog.{ClientCounts, WorkLog}
-use Rattle.world_parts.specs.disk_model.DiskEvent.{DiskEvent, Off, OnWire, Switches}
+use Rattle.world_parts.specs.lane_laws.QuietLaws.{ClientIsIdle, EndIsIdle}
+use Rattle.world_parts.specs.lane_laws.WorkLaws.{IfClient}
+use Rattle.world_parts.specs.lane_laws.WorkLog.{ClientCounts}
+use Rattle.world_parts.specs.disk_model.DiskEvent.{DiskEvent}
 use Rattle.world_parts.specs.disk_model.LaneState.{IsShape, LaneState, Shape, fresh}
 use Rattle.world_parts.specs.disk_model.LaneStep.{LaneStep}
-use Rattle.world_parts.specs.channel_model.WireAt.{IsUp}
-use Rattle.world_parts.specs.channel_model.WireEvent.{Blocked, Idle}
-use Rattle.world_parts.specs.channel_model.WireLog.{WireLog}
 use Rattle.world_parts.proofs.lane_laws.AgreementRuns.{run_agrees}
-use Rattle.world_parts.specs.lane_laws.CalmEnds.{AreStill, HasNoRoom, IsStill}
+use Rattle.world_parts.specs.lane_laws.CalmEnds.{AreStill, IsStill}
 use Rattle.lane_kinds.proofs.Sums.{and_left, and_right}
 use Rattle.world_parts.proofs.world_laws.LaneRounds.{quiet_still}
 use Rattle.world_parts.proofs.domain_laws.LineEntries.{EachEntry}
@@ -23,64 +20,29 @@ use Rattle.world_parts.specs.world_laws.Along.{event_at, happened}
 use Rattle.world_parts.specs.world_laws.DiskKind.{disk_kind, is_calm}
 use Rattle.world_parts.specs.world_laws.Rounds.{LaneRound, MakesRound, are_quiet, is_quiet}
 use Rattle.world_parts.specs.world_laws.Settle.{OfLane, SettleEntry, disk_entries, round_entries}
-use Rattle.ldc_queue.specs.Wire.{peer_of, waiting_for}
 use Rattle.ldc_queue.specs.declared.end.End.{End}
-use Rattle.ldc_queue.specs.declared.end.End.TheVariants.{A, B}
+use Rattle.ldc_queue.specs.declared.end.End.TheVariants.{B}
 use Rattle.script_laws.proofs.CalmRounds.{calm_entries}
 use Rattle.script_laws.specs.Still.{AreStillBy, IsStillBy}
 
 -- BY THE LOG of a lane, where another log has the same work
 idle_client : (l m : DiskLog) (c : Option ClientCounts) → m.work ≡ l.work → IfClient c (ClientIsIdle m)
     → IfClient c (ClientIsIdle l)
-idle_client l m None same idle = tt
-idle_client l m (Some c) same idle = record {
-  published = idle.published ∙ ap (λ (w : WorkLog). length w.issued) same;
-  announced = idle.announced;
-  completed = sym (ap (λ (w : WorkLog). w.done) same) ∙ idle.completed;
-}
+idle_client l m c same idle = grind arith
 
 idle_by : (e : End) (l m : DiskLog) → m.work ≡ l.work → EndIsIdle e m → EndIsIdle e l
-idle_by A l m same idle =
-    idle_client l m l.work.client same
-    (subst (λ (w : WorkLog). IfClient w.client (ClientIsIdle m)) same idle)
-idle_by B l m same idle = subst (λ (w : WorkLog). IfServer w.server ServerIsIdle) same idle
-
-rests_by : (e : End) (s : LaneState) (m l : DiskLog) → m.work ≡ l.work → s.wire ≡ l.wire → s.shape ≡ l.shape
-    → ((waiting_for e s.wire.wire ≡ []) × EndIsIdle e m) ⊎ HasNoRoom (peer_of e) s
-    → ((waiting_for e l.wire.wire ≡ []) × EndIsIdle e l)
-    ⊎ (l.shape.entries ≤ length (waiting_for (peer_of e) l.wire.wire) + 1)
-rests_by e s m l work wire shape (inl rests) =
-    inl (subst (λ (w : WireLog). waiting_for e w.wire ≡ []) wire rests.0, idle_by e l m work rests.1)
-rests_by e s m l work wire shape (inr full) =
-    inr (subst (λ (k : Shape). k.entries ≤ length (waiting_for (peer_of e) l.wire.wire) + 1) shape
-    (subst (λ (w : WireLog). s.shape.entries ≤ length (waiting_for (peer_of e) w.wire) + 1) wire full))
-
-end_still : (e : End) (s : LaneState) (m l : DiskLog) → m.work ≡ l.work → AgreesWithLog s l → IsStill e s m
-    → IsStillBy e l
-end_still e s m l work agrees at = record {
-  up = subst (λ (w : WireLog). IsUp e w.wire) agrees.wire at.up;
-  still = rests_by e s m l work agrees.wire agrees.shape at.still;
-}
+idle_by e l m same idle = grind arith
 
 server_still : (s : LaneState) (m l : DiskLog) → m.work ≡ l.work → AgreesWithLog s l
     → (s.stopped ≡ true) ⊎ IsStill B s m → (l.work.stopped ≡ true) ⊎ IsStillBy B l
-server_still s m l work agrees (inl off) = inl (sym agrees.stopped ∙ off)
-server_still s m l work agrees (inr still) = inr (end_still B s m l work agrees still)
+server_still s m l work agrees given = grind arith
 
 both_still : (s : LaneState) (m l : DiskLog) → m.work ≡ l.work → AgreesWithLog s l → AreStill s m → AreStillBy l
-both_still s m l work agrees at = record {
-  client = end_still A s m l work agrees at.client;
-  server = server_still s m l work agrees at.server;
-}
+both_still s m l work agrees given = grind arith
 
 -- CALM EVENTS leave the work as it was
 calm_work : (l : DiskLog) (event : DiskEvent) → is_calm event ≡ true → (after l event).work ≡ l.work
-calm_work l (OnWire (Idle A)) calm = refl
-calm_work l (OnWire (Idle B)) calm = refl
-calm_work l (OnWire (Blocked A)) calm = refl
-calm_work l (OnWire (Blocked B)) calm = refl
-calm_work l (Switches Off) calm = refl
-calm_work l _ calm = absurd (cc calm)
+calm_work l event calm = grind arith
 
 abbrev pub IsCalmEntry : SettleEntry → Type 0
 IsCalmEntry (OfLane k event) = is_calm event ≡ true
@@ -104,9 +66,7 @@ calm_at false l event calm = refl
 calm_log : (x : ℕ) (l : DiskLog) (part : List SettleEntry) → EachEntry IsCalmEntry part
     → (log_of after l (happened x part)).work ≡ l.work
 calm_log x l [] calm = refl
-calm_log x l (OfLane j event ∷ part) calm =
-    ap (λ (m : DiskLog). m.work) (log_append after l (event_at x (OfLane j event)) (happened x part))
-    ∙ calm_log x (log_of after l (event_at x (OfLane j event))) part calm.1 ∙ calm_at (j == x) l event calm.0
+calm_log x l (OfLane j event ∷ part) calm = grind (arith, calm_at, calm_log x (log_of after l (event_at x (OfLane j event))) part calm.1)
 calm_log x l (entry ∷ part) calm = calm_log x l part calm.1
 
 -- BEHIND A QUIET ROUND

@@ -1,11 +1,11 @@
 -- Which entries of a journal say that the image was called: those that mean a call of a store for the lanes.
-use Rattle.std.proofs.Common.{◌≡◌, ℕ, ◌+◌, Bool, false, cond, Some, List, [], ◌∷◌, refl, sym, ap, ◌∙◌}
+use Rattle.std.proofs.Common.{◌≡◌, ℕ, ◌+◌, Bool, false, cond, Some, List, [], ◌∷◌, refl, sym, ap, ◌∙◌, arith}
 use Rattle.std.specs.List.{count_by}
 use Rattle.world_parts.specs.disk_model.DiskEvent.{DiskEvent, Stored, Works}
 use Rattle.domain_script.specs.declared.event.Event.{Event}
 use Rattle.ldom_entries.specs.declared.entry.Entry.{Entry}
 use Rattle.ldom_entries.specs.declared.entry.Entry.TheVariants as entry
-use Rattle.ldom_report.specs.LaneEvents.{AtLane, AtPort, AtServer, AtWire, ChangesNothing, LeavesNothing, LeavesOver, Meaning, NoRoomFor, Publishes, Refuses, Switches, TakesFrame, meaning}
+use Rattle.ldom_report.specs.LaneEvents.{AtLane, AtServer, Meaning, meaning}
 use Rattle.world_parts.specs.WorldEvents.{world_event}
 use Rattle.world_parts.proofs.world_laws.Counted.{count_more}
 use Rattle.world_parts.specs.world_laws.Failures.{in_entry, is_store, is_store_that}
@@ -32,22 +32,10 @@ abbrev NoStore : DiskEvent → Type 0
 NoStore event = is_store event ≡ false
 
 of_events : (says : ℕ → Bool → Bool) (x : Meaning) → AllOf NoStore x → Holds (StoreSays says false) x
-of_events says x all =
-    all_events (StoreSays says false) NoStore (record { of_disk = λ k event none. event_none says event none; of_port = λ k event. refl }) x all
+of_events says x all = grind (arith, all_events)
 
 others_none : (says : ℕ → Bool → Bool) (x : Meaning) → means_store x ≡ false → Holds (StoreSays says false) x
-others_none says (AtWire e event) none = of_events says (AtWire e event) refl
-others_none says (AtServer e event) none = of_events says (AtServer e event) none
-others_none says (AtLane k event) none = of_events says (AtLane k event) none
-others_none says (AtPort k gets) none = of_events says (AtPort k gets) tt
-others_none says (Publishes e id) none = of_events says (Publishes e id) refl
-others_none says (TakesFrame e frame) none = of_events says (TakesFrame e frame) tt
-others_none says (Switches e frame out full) none = of_events says (Switches e frame out full) tt
-others_none says (NoRoomFor who) none = of_events says (NoRoomFor who) (λ request. refl, λ d. refl)
-others_none says (Refuses who why) none = of_events says (Refuses who why) (λ defect request. refl, λ d. refl)
-others_none says (ChangesNothing who) none = of_events says (ChangesNothing who) (λ calm. refl, λ d. refl)
-others_none says (LeavesOver who) none = all_left (StoreSays says false) who (λ k. refl) (λ k. refl)
-others_none says LeavesNothing none = refl
+others_none says x none = grind (arith, all_events, all_left)
 
 -- EACH ENTRY says of a call what it means
 entry_stored : (says : ℕ → Bool → Bool) (asked : Event) (e : Entry) (m : SettleEntry)

@@ -75,9 +75,7 @@ cons_both (Some y) xs ys = refl
 
 seen_both : (x : ℕ) (xs ys : List Telling) → seen_at x (xs ++ ys) ≡ seen_at x xs ++ seen_at x ys
 seen_both x [] ys = refl
-seen_both x (t ∷ xs) ys =
-    ap (λ (l : List plain.ListEvent). cons_option (disk_event x t.asked t.entry) l) (seen_both x xs ys)
-    ∙ cons_both (disk_event x t.asked t.entry) (seen_at x xs) (seen_at x ys)
+seen_both x (t ∷ xs) ys = grind (arith, cons_both, seen_both x xs ys)
 
 -- THE LINES of a script
 pub record LinesTell (lines : List (Event × List Entry)) (entries : List SettleEntry) : Type 0 where
@@ -98,14 +96,9 @@ pub line_first : (line : Event × List Entry) (lines : List (Event × List Entry
     → PartTells line.0 line.1 part → LinesTell lines entries → LinesTell (line ∷ lines) (part ++ entries)
 line_first line lines part entries one rest = record {
   tellings = one.tellings ++ rest.tellings;
-  entries_are = both_lists (entries_told one.tellings) (entries_told rest.tellings) line.1
-      (flat_map (λ (l : Event × List Entry). l.1) lines) (entries_told (one.tellings ++ rest.tellings))
-      (entries_both one.tellings rest.tellings) one.entries_are rest.entries_are;
-  means_are = both_lists (means_of one.tellings) (means_of rest.tellings) part entries
-      (means_of (one.tellings ++ rest.tellings)) (means_both one.tellings rest.tellings) one.means_are rest.means_are;
-  seen = λ x. both_lists (seen_at x one.tellings) (seen_at x rest.tellings) (happened_to x line.0 line.1)
-      (all_happened x lines) (seen_at x (one.tellings ++ rest.tellings)) (seen_both x one.tellings rest.tellings)
-      (one.seen x) (rest.seen x);
+  entries_are = grind (arith, both_lists, entries_both);
+  means_are = grind (arith, both_lists, means_both);
+  seen = λ x. grind (arith, both_lists, seen_both);
 }
 
 -- a line after others

@@ -1,13 +1,13 @@
 -- A journal that fits leads the lanes of the declared disks line by line, and what its entries are for them is their
 -- run.
-use Rattle.std.proofs.Common.{◌≡◌, ℕ, zero, suc, Option, Some, None, List, [], ◌∷◌, ◌++◌, length, map, slice_get, slice_set, sym, ap, ◌∙◌, subst}
+use Rattle.std.proofs.Common.{◌≡◌, ℕ, suc, Option, Some, None, List, [], ◌∷◌, ◌++◌, length, map, slice_get, slice_set, sym, ap, ◌∙◌, subst, arith}
 use Rattle.runs.specs.Run.{Run, run_append}
 use Rattle.disk_law.specs.ListState.{ImageState}
-use Rattle.world_parts.specs.disk_model.LaneState.{LaneState, Shape}
+use Rattle.world_parts.specs.disk_model.LaneState.{LaneState}
 use Rattle.domain_script.specs.declared.event.DiskDecl.{DiskDecl}
 use Rattle.domain_script.specs.declared.event.Event.{Event}
 use Rattle.world_parts.proofs.lane_laws.RingPages.{same_pages}
-use Rattle.world_parts.specs.world_laws.Settle.{OfLane, SettleEntry}
+use Rattle.world_parts.specs.world_laws.Settle.{SettleEntry}
 use Rattle.world_parts.proofs.world_laws.Along.{lane_step}
 use Rattle.world_parts.specs.world_laws.World.{WorldState, WorldStep, fresh_world}
 use Rattle.lane_kinds.proofs.Places.{map_both}
@@ -120,21 +120,12 @@ module _ (disks : List DiskDecl) (nets : List NetShape) (image : ImageState) whe
 -- SHAPES STAY
 set_shape : (lanes : List LaneState) (k : ℕ) (s t : LaneState) → slice_get lanes k ≡ Some s → t.shape ≡ s.shape
     → map (λ (l : LaneState). l.shape) (slice_set lanes k t) ≡ map (λ (l : LaneState). l.shape) lanes
-set_shape [] k s t there is = absurd (cc there)
-set_shape (x ∷ lanes) zero s t there is =
-    let same : x ≡ s = cc there in
-    let shape : t.shape ≡ x.shape = is ∙ sym (ap (λ (l : LaneState). l.shape) same) in
-    ap (λ (shape : Shape). shape ∷ map (λ (l : LaneState). l.shape) lanes) shape
-set_shape (x ∷ lanes) (suc k) s t there is =
-    ap (λ (shapes : List Shape). x.shape ∷ shapes) (set_shape lanes k s t there is)
+set_shape (x ∷ lanes) (suc k) s t there is = grind (arith, set_shape lanes k s t there is)
+set_shape lanes k s t there is = grind arith
 
 step_shapes : (w : WorldState) (entry : SettleEntry) (v : WorldState) → WorldStep w entry v
     → map (λ (s : LaneState). s.shape) v.lanes ≡ map (λ (s : LaneState). s.shape) w.lanes
-step_shapes w (OfLane k event) v step =
-    ap (λ (l : List LaneState). map (λ (s : LaneState). s.shape) l) step.lanes
-    ∙ set_shape w.lanes k step.lane step.after step.there
-    (same_pages step.lane event step.after (lane_step step.lane w.image event step.after v.image step.moves)).shape
-step_shapes w _ v step = ap (λ (x : WorldState). map (λ (s : LaneState). s.shape) x.lanes) step
+step_shapes w entry v step = grind (arith, set_shape, same_pages, lane_step)
 
 run_shapes : (w : WorldState) (entries : List SettleEntry) (v : WorldState) → Run WorldStep w entries v
     → map (λ (s : LaneState). s.shape) v.lanes ≡ map (λ (s : LaneState). s.shape) w.lanes

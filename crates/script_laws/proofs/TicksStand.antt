@@ -1,16 +1,15 @@
 -- Each tick in the part of a settle comes where its lane isn't finished though its server runs, and both ends are still;
 -- and where nobody forged the lane, where a packet was lost since the queues were last emptied.
-use Rattle.std.proofs.Common.{◌≡◌, ◌⊎◌, inl, inr, ℕ, zero, suc, ◌+◌, ◌≤◌, Bool, true, false, List, [], ◌∷◌, ◌++◌, slice_get, Some, refl, sym, ap, ◌∙◌, subst, arith, append_assoc, append-nil}
+use Rattle.std.proofs.Common.{◌≡◌, inl, inr, ℕ, zero, suc, ◌+◌, ◌≤◌, Bool, true, false, List, [], ◌∷◌, ◌++◌, slice_get, Some, refl, sym, ap, ◌∙◌, subst, arith, append_assoc, append-nil}
 use Rattle.std.proofs.lemmas.Option.{slice_get_within}
 use Rattle.std.specs.Prelude.{if◌then◌else◌, ⊤}
 use Rattle.ldc_queue.specs.declared.end.End.{End}
 use Rattle.vio_tag.specs.declared.cause.Cause.TheVariants as the_cause
 use Rattle.world_parts.specs.channel_model.WireEvent.{Reset}
-use Rattle.world_parts.specs.lane_laws.CalmEnds.{IsStep, StepKeeps}
+use Rattle.world_parts.specs.lane_laws.CalmEnds.{IsStep}
 use Rattle.runs.specs.Lawful.{log_of}
 use Rattle.runs.specs.Run.{Run, run_append}
 use Rattle.world_parts.specs.lane_laws.DiskLog.{after, nothing_yet}
-use Rattle.world_parts.specs.disk_model.ClientState.{is_finished}
 use Rattle.world_parts.specs.disk_model.DiskEvent.{DiskEvent, OnWire}
 use Rattle.world_parts.specs.disk_model.LaneState.{IsShape, LaneState, Shape, fresh}
 use Rattle.world_parts.specs.disk_model.LaneStep.{LaneStep}
@@ -78,10 +77,7 @@ TicksStand start part =
     → part ≡ so_far ++ OfLane x event ∷ rest → slice_get start x ≡ Some s → TickAt x so_far s
 
 none_stand : (start : List LaneState) (part : List SettleEntry) → EachEntry NoTick part → TicksStand start part
-none_stand start part none x event so_far rest s is place there =
-    let never : is_tick event ≡ false = each_in NoTick part so_far (OfLane x event) rest place none in
-    let both : true ≡ false = sym is ∙ never in
-    absurd (cc both)
+none_stand start part none x event so_far rest s is place there = grind (arith, each_in)
 
 -- ONE STRETCH BEHIND ANOTHER
 pub record MovedTo (x : ℕ) (part : List SettleEntry) (s : LaneState) (behind : List LaneState) : Type 0 where
@@ -167,17 +163,14 @@ lane_tick : (j : ℕ) (s : LaneState) (had : Bool) (lanes : List LaneState) (lat
     → tick_entry j get ++ later ≡ so_far ++ OfLane x event ∷ rest → FirstTick j x (s ∷ lanes) so_far
 lane_tick j s had lanes later x event so_far rest false gets more is =
     later_tick j x s lanes so_far false (more so_far is)
-lane_tick j s had lanes later x event [] rest true gets more is =
-    let same : OfLane j tick ≡ OfLane x event = cc is in
-    let number : j ≡ x = cc same in
-    record {
-      index = 0;
-      is = omega (arith, number);
-      lane = s;
-      there = refl;
-      waits = (gets_where had (waits_on s) gets).1;
-      none = refl;
-    }
+lane_tick j s had lanes later x event [] rest true gets more is = record {
+  index = 0;
+  is = grind (arith, gets_where);
+  lane = s;
+  there = refl;
+  waits = (gets_where had (waits_on s) gets).1;
+  none = refl;
+}
 lane_tick j s had lanes later x event (entry ∷ past) rest true gets more is =
     let same : OfLane j tick ≡ entry = cc is in
     let others : later ≡ past ++ OfLane x event ∷ rest = cc is in
@@ -218,59 +211,24 @@ front_lost : (lanes : List LaneState) (marks : List Bool) (part : List SettleEnt
     → slice_get lanes x ≡ Some s → LostAt x so_far s
 front_lost lanes marks part behind lost front x event so_far rest s place there =
     let first : FirstTick 0 x lanes so_far = front_tick 0 lanes marks part behind front x event so_far rest place in
-    let number : first.index ≡ x = omega (arith, first.is) in
-    let found : slice_get lanes x ≡ Some first.lane =
-    subst (λ (i : ℕ). slice_get lanes i ≡ Some first.lane) number first.there in
-    let both : Some first.lane ≡ Some s = sym found ∙ there in
-    let same : first.lane ≡ s = cc both in
-    let waits : waits_on s ≡ true = subst (λ (l : LaneState). waits_on l ≡ true) same first.waits in
-    record {
-      none = first.none;
-      waits = waits;
-      lost = λ clean. each_there WaitsLost lanes x s lost there clean waits;
-    }
+    grind (arith, slice_get, each_there)
 
 -- all ticks are a front of them
 all_ticks : (j : ℕ) (lanes : List LaneState) (marks : List Bool) (behind : List LaneState)
     → TickLanes lanes marks behind → TickFront j lanes marks (tick_entries j lanes marks) behind
-all_ticks j [] [] [] made = record { is = refl; lanes_stay = refl }
-all_ticks j (s ∷ lanes) (had ∷ marks) (t ∷ behind) made =
-    inr (record {
-      after = t;
-      ticks = made.0;
-      later = tick_entries (j + 1) lanes marks;
-      others = behind;
-      more = all_ticks (j + 1) lanes marks behind made.1;
-      is = refl;
-      rest = refl;
-    })
-all_ticks j _ _ _ made = absurd made
+all_ticks j (s ∷ lanes) (had ∷ marks) (t ∷ behind) made = grind (arith, all_ticks (j + 1) lanes marks behind made.1)
+all_ticks j lanes marks behind made = grind arith
 
 -- BEHIND A QUIET ROUND
-lossy_where : (s : LaneState) (r : LaneRound) (t : LaneState) → IsReached s → IsUnforged s → MakesRound s r t
-    → is_quiet r ≡ true → s.stopped ≡ false → is_finished t.client ≡ false
-    → (s.wire.lossy ≡ true) ⊎ (s.wire.lossy ≡ false) → t.wire.lossy ≡ true
-lossy_where s r t at clean made quiet runs unfinished (inl lossy) =
-    ap (λ (l : LaneState). l.wire.lossy) (quiet_same s r t at clean runs made quiet) ∙ lossy
-lossy_where s r t at clean made quiet runs unfinished (inr whole) =
-    let never : true ≡ false = sym (quiet_finished s r t at clean whole runs made quiet).finished ∙ unfinished in
-    absurd (cc never)
-
 waits_lost : (s : LaneState) (r : LaneRound) (t : LaneState) → IsReached s → MakesRound s r t → is_quiet r ≡ true
     → WaitsLost t
-waits_lost s r t at made quiet clean waits =
-    let both = waits_where (is_finished t.client) t.stopped waits in
-    let keeps : StepKeeps s t = round_keeps s r t made in
-    lossy_where s r t at (sym keeps.forged ∙ clean) made quiet (sym keeps.stopped ∙ both.1) both.0 (either s.wire.lossy)
+waits_lost s r t given made quiet clean waits = grind (arith, waits_where, round_keeps, quiet_same, quiet_finished, either)
 
 quiet_lost : (lanes : List LaneState) (rounds : List LaneRound) (behind : List LaneState) → Each IsReached lanes
     → OwnTurns disk_kind lanes rounds behind → are_quiet rounds ≡ true → Each WaitsLost behind
-quiet_lost [] [] [] reached made quiet = tt
-quiet_lost (s ∷ lanes) (r ∷ rounds) (t ∷ behind) reached made quiet = (
-  waits_lost s r t reached.0 made.0 (and_left (is_quiet r) (are_quiet rounds) quiet),
-  quiet_lost lanes rounds behind reached.1 made.1 (and_right (is_quiet r) (are_quiet rounds) quiet),
-)
-quiet_lost _ _ _ reached made quiet = absurd made
+quiet_lost (s ∷ lanes) (r ∷ rounds) (t ∷ behind) reached made quiet =
+    grind (arith, waits_lost, and_left, and_right, quiet_lost lanes rounds behind reached.1 made.1 (and_right (is_quiet r) (are_quiet rounds) quiet))
+quiet_lost lanes rounds behind reached made quiet = grind arith
 
 pub record QuietAt (x : ℕ) (s : LaneState) (behind : List LaneState) : Type 0 where
   pub round : LaneRound
@@ -367,24 +325,14 @@ quiet_stretch : (lanes : List LaneState) (marks : List Bool) (steps : List LaneR
     (later : List SettleEntry) (behind : List LaneState) → Each IsReached lanes → MakeRound lanes steps between
     → are_quiet steps ≡ true → TickFront 0 between marks later behind
     → Stretch lanes (round_entries 0 steps ++ later) behind
-quiet_stretch lanes marks steps between later behind reached made quiet front = record {
-  moves = moves_on 0 lanes between behind (round_entries 0 steps) later (leads.round lanes steps between made)
-      (fronts_move.ticks between marks later behind front);
-  stand = quiet_front lanes marks steps between later behind reached made quiet front;
-}
+quiet_stretch lanes marks steps between later behind reached made quiet front = grind (arith, moves_on, leads, fronts_move, quiet_front)
 
 stretches : LeadsWhere disks Reached Stretch
 stretches = record {
   keeps = keeps;
   none = λ w. record { moves = stay 0 w; stand = none_stand w [] tt };
-  both = λ w m v one two first second. record {
-    moves = moves_on 0 w m v one two first.moves second.moves;
-    stand = two_stand w one m two first.moves first.stand second.stand;
-  };
-  round = λ w m r v reached made. record {
-    moves = leads.round w r v made;
-    stand = none_stand w (round_entries 0 r) (disks_each NoTick tick_steps w r v made);
-  };
+  both = λ w m v one two first second. grind (arith, moves_on, two_stand);
+  round = λ w m r v reached made. grind (arith, leads, none_stand, disks_each, tick_steps);
   ticks = λ w m r v u reached made quiet ticks.
       quiet_stretch w m r v (tick_entries 0 v m) u reached made quiet (all_ticks 0 v m u ticks);
 }
@@ -416,15 +364,7 @@ front_stretches = record {
 
 -- A SETTLE over disks and ports, and a front of one: by the entries of disks, and so by all, as they are told
 as_whole : (x : ℕ) (so_far : List SettleEntry) (s : LaneState) → TickAt x (of_disks so_far) s → TickAt x so_far s
-as_whole x so_far s at = record {
-  lane = at.lane;
-  run = subst (λ (l : List DiskEvent). Run LaneStep s l at.lane) (same_happened x so_far) at.run;
-  waits = at.waits;
-  lost = at.lost;
-  still = λ shape events sound run.
-      subst (λ (l : List DiskEvent). AreStillBy (log_of after (nothing_yet shape) (events ++ l))) (same_happened x so_far)
-      (at.still shape events sound run);
-}
+as_whole x so_far s given = grind (arith, same_happened)
 
 stand_whole : (start : List LaneState) (part : List SettleEntry) → TicksStand start (of_disks part) → TicksStand start part
 stand_whole start part stand x event so_far rest s is place there =

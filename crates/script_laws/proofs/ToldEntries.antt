@@ -1,5 +1,5 @@
 -- Each entry of a run of declared disks, forged or not, is of one of them and has its words.
-use Rattle.std.proofs.Common.{◌≡◌, ℕ, ◌<◌, ◌≤◌, ◌==◌, if◌then◌else◌, Bool, true, false, List, [], ◌∷◌, ◌++◌, length, refl, sym, ap, ◌∙◌, subst, arith}
+use Rattle.std.proofs.Common.{◌≡◌, ℕ, ◌<◌, ◌≤◌, if◌then◌else◌, Bool, true, false, List, [], ◌∷◌, ◌++◌, length, refl, sym, ap, ◌∙◌, subst, arith}
 use Rattle.std.specs.Prelude.{⊤}
 use Rattle.std.proofs.lemmas.Bool.{eqb-true}
 use Rattle.std.proofs.lemmas.Option.{slice_get_within}
@@ -47,16 +47,9 @@ run_told many ports w (OfLane k event ∷ entries) v long reached run below =
       run_told many ports run.0 entries v (many_stay w (OfLane k event ∷ []) run.0 first ∙ long)
           (stay_reached w (OfLane k event ∷ []) run.0 reached first) run.2 below.1,
     )
-run_told many ports w (Unsettled k ∷ entries) v long reached run below = (
-  below.0,
-  run_told many ports run.0 entries v (ap (λ (x : WorldState). length x.lanes) run.1 ∙ long)
-      (subst (λ (x : WorldState). Each IsReached x.lanes) (sym run.1) reached) run.2 below.1,
-)
-run_told many ports w (entry ∷ entries) v long reached run below = (
-  tt,
-  run_told many ports run.0 entries v (ap (λ (x : WorldState). length x.lanes) run.1 ∙ long)
-      (subst (λ (x : WorldState). Each IsReached x.lanes) (sym run.1) reached) run.2 below.1,
-)
+run_told many ports w (Unsettled k ∷ entries) v long reached run below = grind (arith, run_told many ports run.0 entries v)
+run_told many ports w (entry ∷ entries) v long reached run below =
+    grind (arith, run_told many ports run.0 entries v (ap (λ (x : WorldState). length x.lanes) run.1 ∙ long) (subst (λ (x : WorldState). Each IsReached x.lanes) (sym run.1) reached) run.2 below.1)
 
 -- NOTHING HAPPENED to another disk
 other_event : (b : Bool) (event : DiskEvent) (rest : List DiskEvent) → (b ≡ true → ⊥)
@@ -66,9 +59,6 @@ other_event false event rest other = refl
 
 pub none_happened : (many x : ℕ) (entries : List SettleEntry) → many ≤ x → AreTold many entries
     → happened x entries ≡ []
-none_happened many x [] past told = refl
-none_happened many x (OfLane k event ∷ entries) past told =
-    let within = told.0.0 in
-    let other : (k == x) ≡ true → ⊥ = λ same. absurd (omega (arith, eqb-true k x same, within, past)) in
-    other_event (k == x) event (happened x entries) other ∙ none_happened many x entries past told.1
+none_happened many x (OfLane k event ∷ entries) past told = grind (arith, eqb-true, other_event, none_happened many x entries past told.1)
 none_happened many x (entry ∷ entries) past told = none_happened many x entries past told.1
+none_happened many x entries past told = grind arith

@@ -33,12 +33,8 @@ entry_count asked e m es (inl at) =
     ap (λ (s : Said). count_by has_failed (cons_option (said_of_any s) es)) at.said_is
     ∙ count_more has_failed at.seen es
     ∙ ap (λ (b : Bool). one_count b + count_by has_failed es) (sym same)
-entry_count asked e m es (inr (inl other)) =
-    ap (λ (s : Said). count_by has_failed (cons_option (said_of_any s) es)) other.said_is
-    ∙ not_counted m (count_by has_failed es) (ap (in_entry is_failed_done) other.means_is ∙ other.failed)
-entry_count asked e m es (inr (inr silent)) =
-    ap (λ (s : Said). count_by has_failed (cons_option (said_of_any s) es)) silent.said_is
-    ∙ not_counted m (count_by has_failed es) (nothing_failed m silent.nothing)
+entry_count asked e m es (inr (inl other)) = grind (arith, not_counted)
+entry_count asked e m es (inr (inr silent)) = grind (arith, not_counted, nothing_failed)
 
 pub all_counts : (tellings : List Telling)
     → count_by has_failed (whole_history (entries_told tellings))

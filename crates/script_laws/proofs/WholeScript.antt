@@ -17,8 +17,7 @@ use Rattle.ldom_report.specs.declared.status.Mode.TheVariants as mode
 use Rattle.ldom_report.specs.declared.status.Status.{Status}
 use Rattle.ldom_report.specs.declared.status.Status.TheVariants as status
 use Rattle.script_laws.specs.Behind.{StandsBehind}
-use Rattle.script_laws.specs.Completed.{completed_ids}
-use Rattle.script_laws.specs.PlainRun.{one_disk, plain_content, plain_ids, plain_text}
+use Rattle.script_laws.specs.PlainRun.{one_disk, plain_text}
 use Rattle.script_laws.specs.Quiet.{IsQuiet, IsQuietScript}
 use Rattle.script_laws.proofs.PlainLaw.{PlainLaw, plain_law}
 use Rattle.script_laws.proofs.QuietNames.{quiet_names}
@@ -163,15 +162,7 @@ module _ {D : Type 0} (seen : D → ImageState) (size : D → ℕ) (script now :
       (subst (λ (l : List Event). IsQuiet disk l) one.0 quiet.quiet) whole.none_cut fits whole.faultless
 
   text_is_plain : report mode.Run (declared_by runs.names) (length (events_of parts)) journal status.Done ≡ plain_text disk given events
-  text_is_plain =
-      ap (λ (d : Declared). report mode.Run d (length (events_of parts)) journal status.Done) all_declared
-      ∙ ap (λ (l : List Entry). report mode.Run (one_disk disk) (length (events_of parts)) l status.Done) (sym runs.replayed.journal_is.is)
-      ∙ law.text ∙ ap (λ (l : List Event). plain_text disk given l) (sym one.0)
+  text_is_plain = grind (arith, all_declared, law, one)
 
   pub runs_plainly : RunsPlainly (λ d. (seen d).told) disk given events journal image old new
-  runs_plainly = record {
-    written = subst (λ (l : List ℕ). Appends old new l) text_is_plain whole.written;
-    left = left_so seen image final.first.image (plain_content disk given events) whole.image_is
-        (law.told ∙ ap (λ (l : List Event). Some (plain_content disk given l)) (sym one.0));
-    ids = ap completed_ids (sym runs.replayed.journal_is.is) ∙ law.ids ∙ ap (λ (l : List Event). plain_ids disk given l) (sym one.0);
-  }
+  runs_plainly = grind (arith, text_is_plain, whole, left_so, law, one)

@@ -1,5 +1,5 @@
 -- Each entry of a journal has the words of its line, since what it is for the lanes has its own.
-use Rattle.std.proofs.Common.{◌≡◌, ℕ, Option, Some, List, [], ◌∷◌, length}
+use Rattle.std.proofs.Common.{◌≡◌, ℕ, Option, Some, List, [], ◌∷◌, length, arith}
 use Rattle.std.specs.List.{All}
 use Rattle.std.proofs.lemmas.List.Elements.{All-cons, All-nil}
 use Rattle.std.specs.Prelude.{⊤}
@@ -24,7 +24,7 @@ use Rattle.world_parts.proofs.domain_laws.LineEntries.{EachEntry}
 use Rattle.script_laws.proofs.PortWords.{IsPortTold}
 use Rattle.script_laws.proofs.Tellings.{Telling, entries_told, means_of}
 use Rattle.script_laws.proofs.ToldEntries.{AreTold, IsTold}
-use Rattle.world_parts.proofs.Meanings.{AllOf, Events, Holds, about, by_events, entry_has, lane_has, left_has, wire_has}
+use Rattle.world_parts.proofs.Meanings.{AllOf, Holds, about, by_events, entry_has, lane_has, left_has, wire_has}
 
 -- AN ENTRY of one of so many disks or ports
 abbrev IsOfDeclared : ℕ → ℕ → SettleEntry → Type 0
@@ -37,12 +37,9 @@ Names all lane m = IsOfDeclared (length all.disks) (length all.ports) m → IsLa
 abbrev Any : DiskEvent → Type 0
 Any event = ⊤
 
-events_named : (all : Declared) → Events (Names all) Any
-events_named all = record { of_disk = λ k event any told. told.0.0; of_port = λ k event told. told.1.0 }
-
 -- a meaning names its lane
 lane_named : (all : Declared) (x : Meaning) → AllOf Any x → Holds (Names all (about x)) x
-lane_named all x any = by_events (Names all) Any (events_named all) x any
+lane_named all x any = grind (arith, by_events)
 
 abbrev Says : Declared → Meaning → SettleEntry → Type 0
 Says all x m = IsOfDeclared (length all.disks) (length all.ports) m → IsNamed all x
@@ -89,9 +86,7 @@ module _ (disks ports : ℕ) where
   Worded P x = IsOfDeclared disks ports x → P
 
   values : (asked : Line) (e : Entry) (m : SettleEntry) → world_event asked e ≡ Some m → IsOfDeclared disks ports m → HasValues e
-  values asked (entry.Done k id operation status bytes) m is told =
-      entry_has (Worded (IsCompletion operation status bytes.items)) asked (entry.Done k id operation status bytes) m
-      (λ at. completion operation status bytes.items at.0.1) is told
+  values asked (entry.Done k id operation status bytes) m is told = grind (arith, entry_has, completion)
   values asked (entry.Stored e operation block count failed) m is told =
       entry_has (Worded (HasValues (entry.Stored e operation block count failed))) asked
       (entry.Stored e operation block count failed) m

@@ -18,8 +18,7 @@ apart first place Flush outside = tt
 pub names_no : (first place : ℕ) (events : List DiskEvent) → IsOutsideAll first place (issued (requests_of events))
     → NamesNo place first events
 names_no first place [] outside = tt
-names_no first place (Asks (Accepted id request) ∷ events) outside =
-    (apart first place request outside.0, names_no first place events outside.1)
+names_no first place (Asks (Accepted id request) ∷ events) outside = grind (arith, apart, names_no first place events outside.1)
 names_no first place (Asks (Full request) ∷ events) outside = (tt, names_no first place events outside)
 names_no first place (Asks (Refused why request) ∷ events) outside = (tt, names_no first place events outside)
 names_no first place (OnWire event ∷ events) outside = (tt, names_no first place events outside)
@@ -27,8 +26,7 @@ names_no first place (Works (Published id) ∷ events) outside = (tt, names_no f
 names_no first place (Works (Done id operation status bytes) ∷ events) outside = (tt, names_no first place events outside)
 names_no first place (Works (Desc slot bytes) ∷ events) outside = (tt, names_no first place events outside)
 names_no first place (Works (Moved unit fault) ∷ events) outside = (tt, names_no first place events outside)
-names_no first place (Works (Stored operation block count failed) ∷ events) outside =
-    (tt, names_no first place events outside)
+names_no first place (Works (Stored operation block count failed) ∷ events) outside = grind (arith, names_no first place events outside)
 names_no first place (Works (Finished slot status) ∷ events) outside = (tt, names_no first place events outside)
 names_no first place (Works Misplaced ∷ events) outside = (tt, names_no first place events outside)
 names_no first place (Switches event ∷ events) outside = (tt, names_no first place events outside)

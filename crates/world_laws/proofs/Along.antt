@@ -5,7 +5,7 @@ use Rattle.std.proofs.lemmas.Option.{slice_get-map, slice_get_within}
 use Rattle.std.specs.Option.{option_map}
 use Rattle.runs.specs.Run.{Run}
 use Rattle.disk_law.specs.ListState.{ImageState}
-use Rattle.disk_model.specs.DiskEvent.{Asks, Desc, DiskEvent, Done, Finished, Misplaced, Moved, OnWire, Published, Calms, Stored, Switches, Works}
+use Rattle.disk_model.specs.DiskEvent.{DiskEvent}
 use Rattle.disk_model.specs.LaneState.{IsShape, LaneState, Shape, fresh}
 use Rattle.disk_model.specs.LaneStep.{LaneStep}
 use Rattle.disk_model.specs.Reached.{IsReached}
@@ -23,17 +23,7 @@ use Rattle.world_laws.specs.World.{AreShapes, LaneMoves, WorldState, WorldStep, 
 
 -- an event over the image is a step of the lane
 pub lane_step : (s : LaneState) (i : ImageState) (event : DiskEvent) (t : LaneState) (j : ImageState) → LaneMoves s i event t j → LaneStep s event t
-lane_step s i (OnWire event) t j moves = moves.0
-lane_step s i (Asks event) t j moves = moves.0
-lane_step s i (Works (Published id)) t j moves = moves.0
-lane_step s i (Works (Done id operation status bytes)) t j moves = moves.0
-lane_step s i (Works (Desc slot bytes)) t j moves = moves.0
-lane_step s i (Works (Moved unit fault)) t j moves = moves.0
-lane_step s i (Works (Stored operation block count failed)) t j moves = (moves.0.gave, moves.0.step)
-lane_step s i (Works (Finished slot status)) t j moves = moves.0
-lane_step s i (Works Misplaced) t j moves = moves.0
-lane_step s i (Switches event) t j moves = moves.0
-lane_step s i (Calms event) t j moves = moves.0
+lane_step s i event t j moves = grind arith
 
 -- EACH ENTRY moves all lanes, and so does a run
 pub entry_moves : (w : WorldState) (entry : SettleEntry) (v : WorldState) → WorldStep w entry v → LanesMove 0 w.lanes (entry ∷ []) v.lanes

@@ -1,6 +1,6 @@
 -- What stands after quiet rounds: all ends are still; and after the last round of a settle each running lane is finished, or is one that
 -- somebody forged and that had its tick.
-use Rattle.std.proofs.Common.{◌≡◌, ◌⊎◌, inl, inr, Bool, true, false, List, [], ◌∷◌, refl, sym, ap, ◌∙◌}
+use Rattle.std.proofs.Common.{◌≡◌, ◌⊎◌, inl, inr, Bool, true, false, List, [], ◌∷◌, arith}
 use Rattle.runs.specs.Run.{Run}
 use Rattle.disk_model.specs.ClientState.{is_finished}
 use Rattle.disk_model.specs.LaneState.{LaneState}
@@ -11,7 +11,6 @@ use Rattle.lane_kinds.proofs.Standing.{rounds_stand}
 use Rattle.lane_kinds.proofs.Sums.{and_left, and_right}
 use Rattle.lane_kinds.specs.Lanes.{CalmTurn, OwnTurns}
 use Rattle.lane_kinds.specs.Laws.{Keeps}
-use Rattle.lane_laws.specs.CalmEnds.{StepKeeps}
 use Rattle.world_laws.proofs.DiskLaws.{IsLossless, disk_rests, gives_nothing}
 use Rattle.world_laws.proofs.LaneRounds.{quiet_finished, quiet_same, quiet_still, round_keeps}
 use Rattle.world_laws.proofs.LaneTicks.{rests_where}
@@ -47,26 +46,13 @@ begins start reached = whole_fresh disk_kind IsReached IsUnforged IsLossless dis
 
 -- THE LAST ROUND
 -- a lane that is finished where no packet was lost, or that is finished as no tick comes
-had_or_rests : (had : Bool) (t : LaneState) → gets_tick t had ≡ false → t.stopped ≡ false → (is_finished t.client ≡ true) ⊎ (had ≡ true)
-had_or_rests true t none runs = inr refl
-had_or_rests false t none runs = inl (rests_where (is_finished t.client) t.stopped none runs)
-
 finished_by : (had : Bool) (s : LaneState) (r : LaneRound) (t : LaneState) → Whole s had → MakesRound s r t → is_quiet r ≡ true → IsUnforged s → s.stopped ≡ false
     → (is_finished t.client ≡ true) ⊎ (had ≡ true) → is_finished t.client ≡ true
 finished_by had s r t at made quiet clean runs (inl finished) = finished
 finished_by had s r t at made quiet clean runs (inr ticked) = (quiet_finished s r t at.reached clean (at.whole ticked) runs made quiet).finished
 
 pub lane_ends : (had : Bool) (s : LaneState) (r : LaneRound) (t : LaneState) → Whole s had → CalmTurn disk_kind s r t → gets_tick t had ≡ false → EndsFinished t had
-lane_ends had s r t at turn none =
-    let made : MakesRound s r t = record { of_turn = turn.of_turn; run = turn.run } in
-    let keeps : StepKeeps s t = round_keeps s r t made in
-    record {
-      ticked = λ runs. had_or_rests had t none runs;
-      finished = λ clean runs. finished_by had s r t at made turn.calm (sym keeps.forged ∙ clean) (sym keeps.stopped ∙ runs) (had_or_rests had t none runs);
-      whole = λ clean runs lossless. quiet_finished s r t at.reached (sym keeps.forged ∙ clean)
-          (sym (ap (λ (x : LaneState). x.wire.lossy) (quiet_same s r t at.reached (sym keeps.forged ∙ clean) (sym keeps.stopped ∙ runs) made turn.calm)) ∙ lossless) (sym keeps.stopped ∙ runs) made
-          turn.calm;
-    }
+lane_ends had s r t given turn none = grind (arith, round_keeps, rests_where, quiet_finished, quiet_same)
 
 pub ends_finished : (start : List LaneState) (rounds : List SettleRound) (now : Settling) (steps : List LaneRound) (behind : List LaneState) → Each IsReached start
     → Run GoesOn (begin start) rounds now → IsLast now steps behind → EachMarked EndsFinished behind now.marks

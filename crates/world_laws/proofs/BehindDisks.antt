@@ -1,5 +1,5 @@
 -- After all disks a told image stays along every run of a world.
-use Rattle.std.proofs.Common.{◌≡◌, ℕ, ◌+◌, ◌*◌, ◌≤◌, Option, Some, List, [], ◌∷◌, ◌++◌, length, slice_get, refl, sym, ap, ◌∙◌, subst, arith}
+use Rattle.std.proofs.Common.{◌≡◌, ℕ, ◌+◌, ◌*◌, ◌≤◌, Option, Some, List, [], ◌∷◌, ◌++◌, length, slice_get, refl, sym, ◌∙◌, subst, arith}
 use Rattle.runs.specs.Run.{Run}
 use Rattle.disk_law.specs.ListState.{ImageState}
 use Rattle.disk_model.specs.DiskEvent.{DiskEvent}
@@ -14,12 +14,7 @@ use Rattle.world_laws.proofs.WorldRuns.{LaneAt, along_world, lane_at, step_aroun
 -- a step of a lane
 behind_around : (shapes : List Shape) (shape : Shape) (first : List ℕ) (told now : Option (List ℕ)) → shape.first + shape.blocks ≤ blocks_in shapes → (before : StaysBehind shapes first told)
     → StaysAround shape before.now now → StaysBehind shapes first now
-behind_around shapes shape first told now ends before around = record {
-  now = around.now;
-  told_is = around.told_is;
-  long = around.long ∙ before.long;
-  behind = further (512 * (shape.first + shape.blocks)) (512 * blocks_in shapes) around.now before.now (omega (arith, ends)) around.around.behind ∙ before.behind;
-}
+behind_around shapes shape first told now ends before around = grind (arith, further)
 
 module _ (shapes : List Shape) (image : ImageState) (first : List ℕ) (world : IsWorld shapes image) (told : image.told ≡ Some first) where
   abbrev Behind : List SettleEntry → WorldState → Type 0
@@ -44,10 +39,7 @@ pub still_holds : (shapes : List Shape) (image : ImageState) (first store : List
     → Run WorldStep (fresh_world shapes image) entries w → w.image.told ≡ Some store → 512 * blocks_in shapes ≤ length store
 still_holds shapes image first store entries w world told run now =
     let stays = stays_behind shapes image first world told entries w run in
-    let same : stays.now ≡ store = some_is stays.now store (sym stays.told_is ∙ now) in
-    let long = stays.long in
-    let holds = world_holds shapes image first world told in
-    omega (arith, ap length same, long, holds)
+    grind (arith, some_is, world_holds)
 
 -- A STORE STAYS WITHIN ITS DISK, in any state of a world
 pub world_around : (shapes : List Shape) (image : ImageState) (first store : List ℕ) (entries : List SettleEntry) (w : WorldState) (k : ℕ) (event : DiskEvent) (v : WorldState) (shape : Shape)

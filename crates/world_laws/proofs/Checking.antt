@@ -1,6 +1,6 @@
 -- A server works on descriptors without a defect alone, also where somebody forges packets and memory.
-use Rattle.std.proofs.Common.{◌≡◌, ℕ, ◌+◌, Bool, true, false, Option, Some, None, List, refl, sym, ap, subst}
-use Rattle.std.specs.Prelude.{◌==◌, if◌then◌else◌, nat_lt, ⊤}
+use Rattle.std.proofs.Common.{◌≡◌, ℕ, Bool, true, false, Option, Some, None, List, refl, ap, subst, arith}
+use Rattle.std.specs.Prelude.{◌==◌, if◌then◌else◌, ⊤}
 use Rattle.runs.specs.Lawful.{log_of}
 use Rattle.runs.specs.Run.{Run, run_keeps}
 use Rattle.cookie_copy.specs.declared.fault.CopyFault.{CopyFault}
@@ -8,7 +8,6 @@ use Rattle.vdisk_msg.specs.Check.{first_defect}
 use Rattle.vdisk_msg.specs.declared.desc.DescFault.{DescFault}
 use Rattle.vdisk_msg.specs.declared.desc.DiskDesc.{DiskDesc}
 use Rattle.vdisk_msg.specs.Descriptor as slot_says
-use Rattle.vdisk_msg.specs.Pieces.{unit_count}
 use Rattle.lane_laws.specs.DiskLog.{DiskLog, after, nothing_yet}
 use Rattle.disk_model.specs.DiskEvent.{Desc, DiskEvent, Done, Finished, Misplaced, Moved, Published, Stored, Worked, Works}
 use Rattle.disk_model.specs.LaneState.{IsShape, LaneState, Shape, fresh}
@@ -17,7 +16,7 @@ use Rattle.channel_model.specs.Seeing.{Seen}
 use Rattle.disk_model.specs.ServerState.{Ends, Flushes, Gathers, Gives, Progress, Reads, ServerState, Work, Writes}
 use Rattle.disk_model.specs.ServerStep.{ServerStep}
 use Rattle.cookie_copy.specs.Reach.{Reach}
-use Rattle.disk_model.specs.ServerWork.{MovesIn, StoresIn, checked_progress, desc_of, first_progress, gathered, gathers_next, given, or_ends}
+use Rattle.disk_model.specs.ServerWork.{MovesIn, StoresIn, checked_progress, desc_of, first_progress}
 use Rattle.lane_laws.proofs.RulesFree.{ServerFree, server_free}
 use Rattle.lane_laws.proofs.PieceLaw.{Working}
 use Rattle.lane_laws.proofs.WorkKept.{WorkKeeps, work_by, work_step}
@@ -57,52 +56,18 @@ reads_on : (blocks : ℕ) (desc : DiskDesc) (b : Bool) (unit : ℕ) → first_de
 reads_on blocks desc true unit none = none
 reads_on blocks desc false unit none = tt
 
-given_checked : (blocks : ℕ) (why : Option CopyFault) (work : Work) (unit : ℕ) → first_defect (desc_of work) blocks 0x0e ≡ None → CheckedBy blocks (desc_of work) (given why work unit)
-given_checked blocks None work unit none = reads_on blocks (desc_of work) (nat_lt (unit + 1) (unit_count (desc_of work).size)) (unit + 1) none
-given_checked blocks (Some why) work unit none = tt
-
-gathered_checked : (blocks : ℕ) (why : Option CopyFault) (work : Work) (reach : Reach) (unit : ℕ) → first_defect (desc_of work) blocks 0x0e ≡ None
-    → CheckedBy blocks (desc_of work) (gathered why work reach unit)
-gathered_checked blocks None work reach unit none = none
-gathered_checked blocks (Some why) work reach unit none = tt
-
 moved_checked : (progress : Progress) (blocks : ℕ) (work : Work) (reach : Reach) (unit : ℕ) (why : Option CopyFault) (next : Progress) (new : List ℕ)
     → CheckedBy blocks (desc_of work) progress → MovesIn progress work reach unit why next new → CheckedBy blocks (desc_of work) next
-moved_checked (Gives u bytes) blocks work reach unit why next new none moves = subst (CheckedBy blocks (desc_of work)) (sym moves.2) (given_checked blocks why work u none)
-moved_checked (Gathers u) blocks work reach unit why next new none moves = subst (CheckedBy blocks (desc_of work)) (sym moves.2) (gathered_checked blocks why work reach u none)
-moved_checked (Reads u) blocks work reach unit why next new none moves = absurd moves
-moved_checked (Writes u bytes) blocks work reach unit why next new none moves = absurd moves
-moved_checked Flushes blocks work reach unit why next new none moves = absurd moves
-moved_checked (Ends status) blocks work reach unit why next new none moves = absurd moves
+moved_checked progress blocks work reach unit why next new none moves = grind arith
 
 -- after one that is read or written, and a flush
 gathers_on : (blocks : ℕ) (desc : DiskDesc) (b : Bool) (unit : ℕ) → first_defect desc blocks 0x0e ≡ None → CheckedBy blocks desc (if b then Gathers unit else Ends 0)
 gathers_on blocks desc true unit none = none
 gathers_on blocks desc false unit none = tt
 
-read_checked : (blocks : ℕ) (desc : DiskDesc) (failed : Bool) (unit : ℕ) (gave : List ℕ) → first_defect desc blocks 0x0e ≡ None → CheckedBy blocks desc (or_ends failed (Gives unit gave))
-read_checked blocks desc false unit gave none = none
-read_checked blocks desc true unit gave none = tt
-
-wrote_checked : (blocks : ℕ) (desc : DiskDesc) (failed : Bool) (unit : ℕ) → first_defect desc blocks 0x0e ≡ None → CheckedBy blocks desc (or_ends failed (gathers_next desc.size unit))
-wrote_checked blocks desc false unit none = gathers_on blocks desc (nat_lt (unit + 1) (unit_count desc.size)) (unit + 1) none
-wrote_checked blocks desc true unit none = tt
-
-flushed_checked : (blocks : ℕ) (desc : DiskDesc) (failed : Bool) → CheckedBy blocks desc (or_ends failed (Ends 0))
-flushed_checked blocks desc false = tt
-flushed_checked blocks desc true = tt
-
 stored_checked : (progress : Progress) (blocks : ℕ) (work : Work) (operation block count : ℕ) (failed : Bool) (gave : List ℕ) (next : Progress)
     → CheckedBy blocks (desc_of work) progress → StoresIn progress work operation block count failed gave next → CheckedBy blocks (desc_of work) next
-stored_checked (Reads u) blocks work operation block count failed gave next none stores =
-    subst (CheckedBy blocks (desc_of work)) (sym stores.2) (read_checked blocks (desc_of work) failed u gave none)
-stored_checked (Writes u bytes) blocks work operation block count failed gave next none stores =
-    subst (CheckedBy blocks (desc_of work)) (sym stores.2) (wrote_checked blocks (desc_of work) failed u none)
-stored_checked Flushes blocks work operation block count failed gave next none stores =
-    subst (CheckedBy blocks (desc_of work)) (sym stores.4) (flushed_checked blocks (desc_of work) failed)
-stored_checked (Gives u bytes) blocks work operation block count failed gave next none stores = absurd stores
-stored_checked (Gathers u) blocks work operation block count failed gave next none stores = absurd stores
-stored_checked (Ends status) blocks work operation block count failed gave next none stores = absurd stores
+stored_checked progress blocks work operation block count failed gave next none stores = grind arith
 
 -- A SERVER'S WORK
 in_work : (s : ServerState) (work : Work) → s.work ≡ Some work → IsChecked s.blocks s.work → CheckedBy s.blocks (desc_of work) work.progress
@@ -112,10 +77,7 @@ works_checked : (s : ServerState) (at : Seen) (reach : Reach) (gave : List ℕ) 
     → ServerStep s at reach gave (Works event) t new → IsChecked s.blocks s.work → IsChecked t.blocks t.work
 works_checked s at reach gave (Desc slot bytes) t new step checked =
     work_by IsChecked t s.blocks _ (ap (λ (x : ServerState). x.blocks) step.0.is) (ap (λ (x : ServerState). x.work) step.0.is) (first_checked s.blocks (slot_says.disk_desc_of bytes))
-works_checked s at reach gave (Moved unit fault) t new step checked =
-    let now = (subst (ServerFree s) step.0.rule (server_free s at)).1 in
-    work_by IsChecked t s.blocks _ (ap (λ (x : ServerState). x.blocks) step.0.is) (ap (λ (x : ServerState). x.work) step.0.is)
-    (moved_checked step.0.work.progress s.blocks step.0.work reach unit fault step.0.next new (in_work s step.0.work now checked) step.0.moves)
+works_checked s at reach gave (Moved unit fault) t new step checked = grind (arith, server_free, work_by, moved_checked, in_work)
 works_checked s at reach gave (Stored operation block count failed) t new step checked =
     let now = (subst (ServerFree s) step.0.rule (server_free s at)).1 in
     work_by IsChecked t s.blocks _ (ap (λ (x : ServerState). x.blocks) step.0.is) (ap (λ (x : ServerState). x.work) step.0.is)

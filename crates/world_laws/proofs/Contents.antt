@@ -31,10 +31,7 @@ module _ (shapes : List Shape) (image : ImageState) (first : List ℕ) (k : ℕ)
 
   -- the region is as long as the disk
   region_long : length (region_of shape first) ≡ 512 * shape.blocks
-  region_long =
-      let holds = world_holds shapes image first world told in
-      let ends = disk.ends in
-      length-range_at (512 * shape.first) (512 * shape.blocks) first (omega (arith, holds, ends))
+  region_long = grind (arith, world_holds, disk, length-range_at)
 
   -- A COMPLETION
   pub own_completion : (past : List SettleEntry) (w : WorldState) (id operation status : ℕ) (bytes : List ℕ) (v : WorldState) (t : LaneState) → Run WorldStep (fresh_world shapes image) past w

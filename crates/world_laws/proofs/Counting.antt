@@ -1,11 +1,10 @@
 -- The next ids of a world's lanes together are as many as requests that its journal says were accepted.
-use Rattle.std.proofs.Common.{◌≡◌, ℕ, zero, suc, ◌+◌, ◌≤◌, List, [], ◌∷◌, ◌++◌, length, map, slice_get, slice_set, Some, refl, sym, ap, ◌∙◌, subst, arith}
+use Rattle.std.proofs.Common.{◌≡◌, ℕ, suc, ◌+◌, ◌≤◌, List, [], ◌∷◌, ◌++◌, length, map, slice_get, slice_set, Some, refl, sym, ap, ◌∙◌, arith}
 use Rattle.std.proofs.lemmas.List.{length-append}
 use Rattle.runs.specs.Run.{Run, run_push}
 use Rattle.disk_law.specs.Issued.{issued}
 use Rattle.disk_law.specs.ListState.{ImageState}
-use Rattle.disk_law.specs.ListStep as plain
-use Rattle.disk_model.specs.DiskEvent.{Accepted, Asks, Desc, DiskEvent, Done, Finished, Full, Misplaced, Moved, OnWire, Published, Refused, Calms, Stored, Switches, Works}
+use Rattle.disk_model.specs.DiskEvent.{DiskEvent}
 use Rattle.disk_model.specs.LaneState.{LaneState, Shape, fresh}
 use Rattle.disk_model.specs.LaneStep.{LaneStep}
 use Rattle.disk_model.specs.Reached.{IsReached}
@@ -17,31 +16,11 @@ use Rattle.world_laws.specs.World.{AreShapes, WorldState, WorldStep, fresh_world
 use Rattle.world_laws.proofs.Filtered.{filter_both}
 use Rattle.world_laws.proofs.RequestLog.{issued_both, next_is}
 use Rattle.world_laws.specs.Accepted.{accepted_in, accepts, next_ids}
-use Rattle.world_laws.specs.Requests.{request_event, requests_of}
+use Rattle.world_laws.specs.Requests.{requests_of}
 
 -- ONE EVENT of a lane
-accepts_is : (event : DiskEvent) → length (issued (requests_of (event ∷ []))) ≡ accepts event
-accepts_is (OnWire event) = refl
-accepts_is (Asks (Accepted id request)) = refl
-accepts_is (Asks (Full request)) = refl
-accepts_is (Asks (Refused why request)) = refl
-accepts_is (Works (Published id)) = refl
-accepts_is (Works (Done id operation status bytes)) = refl
-accepts_is (Works (Desc slot bytes)) = refl
-accepts_is (Works (Moved unit fault)) = refl
-accepts_is (Works (Stored operation block count failed)) = refl
-accepts_is (Works (Finished slot status)) = refl
-accepts_is (Works Misplaced) = refl
-accepts_is (Switches event) = refl
-accepts_is (Calms event) = refl
-
 issued_more : (events : List DiskEvent) (event : DiskEvent) → length (issued (requests_of (events ++ event ∷ []))) ≡ length (issued (requests_of events)) + accepts event
-issued_more events event =
-    let both : length (issued (requests_of (events ++ event ∷ []))) ≡ length (issued (requests_of events ++ requests_of (event ∷ []))) =
-    ap (λ (es : List plain.ListEvent). length (issued es)) (filter_both request_event events (event ∷ [])) in
-    let parts = ap (λ l. length l) (issued_both (requests_of events) (requests_of (event ∷ []))) in
-    let long = length-append (issued (requests_of events)) (issued (requests_of (event ∷ []))) in
-    both ∙ parts ∙ long ∙ ap (λ (n : ℕ). length (issued (requests_of events)) + n) (accepts_is event)
+issued_more events event = grind (arith, filter_both, issued_both, length-append)
 
 pub next_counts : (s : LaneState) (event : DiskEvent) (t : LaneState) → IsReached s → LaneStep s event t → t.client.next_id ≡ s.client.next_id + accepts event
 next_counts s event t at step =
@@ -50,12 +29,8 @@ next_counts s event t at step =
 
 -- THE SUM after one lane's event
 sum_set : (lanes : List LaneState) (k : ℕ) (s t : LaneState) (more : ℕ) → slice_get lanes k ≡ Some s → t.client.next_id ≡ s.client.next_id + more → next_ids (slice_set lanes k t) ≡ next_ids lanes + more
-sum_set [] k s t more there is = absurd (cc there)
-sum_set (x ∷ lanes) zero s t more there is =
-    let same : x ≡ s = cc there in
-    let ids = ap (λ (l : LaneState). l.client.next_id) same in
-    omega (arith, is, ids)
 sum_set (x ∷ lanes) (suc k) s t more there is = let rest = sum_set lanes k s t more there is in omega (arith, rest)
+sum_set lanes k s t more there is = grind arith
 
 pub run_counts : (w : WorldState) (entries : List SettleEntry) (v : WorldState) → Each IsReached w.lanes → Run WorldStep w entries v → next_ids v.lanes ≡ next_ids w.lanes + accepted_in entries
 run_counts w [] v all run = let same = ap (λ (x : WorldState). next_ids x.lanes) run in omega (arith, same)
@@ -66,10 +41,7 @@ run_counts w (OfLane k event ∷ entries) v all run =
     let now = ap next_ids moves.lanes in
     let rest = run_counts run.0 entries v (stay_reached w (OfLane k event ∷ []) run.0 all (run.0, moves, refl)) run.2 in
     omega (arith, one, now, rest)
-run_counts w (entry ∷ entries) v all run =
-    let now = ap (λ (x : WorldState). next_ids x.lanes) run.1 in
-    let rest = run_counts run.0 entries v (subst (λ (x : WorldState). Each IsReached x.lanes) (sym run.1) all) run.2 in
-    omega (arith, now, rest)
+run_counts w (entry ∷ entries) v all run = grind (arith, run_counts run.0 entries v)
 
 none_yet : (shapes : List Shape) → next_ids (map fresh shapes) ≡ 0
 none_yet [] = refl
@@ -84,13 +56,7 @@ world_counts shapes image entries w are run =
 
 -- NO MORE THAN ENTRIES
 accepts_most : (event : DiskEvent) → accepts event ≤ 1
-accepts_most (OnWire event) = omega (arith)
-accepts_most (Asks (Accepted id request)) = omega (arith)
-accepts_most (Asks (Full request)) = omega (arith)
-accepts_most (Asks (Refused why request)) = omega (arith)
-accepts_most (Works event) = omega (arith)
-accepts_most (Switches event) = omega (arith)
-accepts_most (Calms event) = omega (arith)
+accepts_most event = grind arith
 
 accepted_most : (entries : List SettleEntry) → accepted_in entries ≤ length entries
 accepted_most [] = omega (arith)
@@ -98,12 +64,8 @@ accepted_most (OfLane k event ∷ entries) = let one = accepts_most event in let
 accepted_most (x ∷ entries) = let rest = accepted_most entries in omega (arith, rest)
 
 part_of_sum : (lanes : List LaneState) (k : ℕ) (s : LaneState) → slice_get lanes k ≡ Some s → s.client.next_id ≤ next_ids lanes
-part_of_sum [] k s there = absurd (cc there)
-part_of_sum (x ∷ lanes) zero s there =
-    let same : x ≡ s = cc there in
-    let ids = ap (λ (l : LaneState). l.client.next_id) same in
-    omega (arith, ids)
 part_of_sum (x ∷ lanes) (suc k) s there = let rest = part_of_sum lanes k s there in omega (arith, rest)
+part_of_sum lanes k s there = grind arith
 
 pub next_most : (shapes : List Shape) (image : ImageState) (entries : List SettleEntry) (w : WorldState) (k : ℕ) (s : LaneState) → AreShapes 0 shapes
     → Run WorldStep (fresh_world shapes image) entries w → slice_get w.lanes k ≡ Some s → s.client.next_id ≤ length entries

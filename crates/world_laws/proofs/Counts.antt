@@ -17,8 +17,7 @@ counted true n = omega (arith)
 counted false n = omega (arith)
 
 pub stuck_most : (k : ℕ) (e : End) (n : ℕ) (x : SettleEntry) → stuck k e n x ≤ n + blocked k e x
-stuck_most k e n (OfLane j (OnWire (Blocked d))) = counted ((j == k) && is_end d e) n
-stuck_most k e n _ = omega (arith)
+stuck_most k e n x = grind arith
 
 -- an entry is Blocked, or the answer of the settle; or nothing is stuck after it
 pub still_or_none : (k : ℕ) (e : End) (x : SettleEntry) → (moves x ≡ 0) ⊎ ((n : ℕ) → stuck k e n x ≡ 0)

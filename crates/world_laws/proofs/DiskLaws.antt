@@ -4,22 +4,19 @@ use Rattle.std.proofs.lemmas.Bool.{eq-eqb, eqb-true}
 use Rattle.std.specs.Prelude.{◌&&◌, ◌==◌, if◌then◌else◌}
 use Rattle.ldc_queue.specs.declared.end.End.{End}
 use Rattle.ldc_queue.specs.declared.end.End.TheVariants.{A, B}
-use Rattle.vio_tag.specs.declared.cause.Cause.TheVariants as the_cause
-use Rattle.channel_model.specs.WireEvent.{Blocked, Idle, Reset}
-use Rattle.disk_model.specs.ClientState.{is_finished}
+use Rattle.channel_model.specs.WireEvent.{Idle}
 use Rattle.disk_model.specs.DiskEvent.{DiskEvent, Off, OnWire, Switches}
 use Rattle.disk_model.specs.LaneState.{LaneState}
 use Rattle.disk_model.specs.LaneStep.{LaneStep}
 use Rattle.disk_model.specs.Reached.{IsReached}
 use Rattle.lane_kinds.proofs.Stuck.{sum_both}
 use Rattle.lane_kinds.specs.LaneCounts.{LaneMoves, LaneTicks, LaneUnsticks, TickWaits, once}
-use Rattle.lane_kinds.specs.Lanes.{CalmTurn, EachStep, GivesNothing, IsSilent, LaneFalls, LaneRests, Reads, own_or, turn_entries}
+use Rattle.lane_kinds.specs.Lanes.{CalmTurn, EachStep, GivesNothing, IsSilent, LaneFalls, LaneRests, Reads, turn_entries}
 use Rattle.lane_kinds.specs.Stuck.{sum_over}
 use Rattle.lane_laws.proofs.StepFalls.{idles, step_falls}
 use Rattle.lane_laws.proofs.StepKeeps.{step_keeps}
-use Rattle.lane_laws.specs.CalmEnds.{IsCalm, IsStep, StepKeeps}
+use Rattle.lane_laws.specs.CalmEnds.{IsCalm, IsStep}
 use Rattle.lane_laws.specs.Remaining.{remaining}
-use Rattle.lane_laws.specs.TickBegins.{TickBegins}
 use Rattle.world_laws.proofs.Counts.{blocked, still_or_none, stuck_most}
 use Rattle.world_laws.proofs.LaneRounds.{is_calm_where, quiet_finished, reached_on, round_keeps}
 use Rattle.world_laws.proofs.LaneTicks.{tick_at, tick_falls, tick_whole, waits_where}
@@ -48,10 +45,7 @@ pub record IsClean (s : LaneState) : Type 0 where
   pub unforged : IsUnforged s
 
 step_clean : (s : LaneState) (event : DiskEvent) (t : LaneState) → IsClean s → LaneStep s event t → disk_kind.IsStep event → IsClean t
-step_clean s event t at step own = record {
-  reached = reached_on s event t at.reached step;
-  unforged = (step_keeps s own.0 event t step own.1).forged ∙ at.unforged;
-}
+step_clean s event t given step own = grind (arith, reached_on, step_keeps)
 
 loud_by : (e : End) (s : LaneState) (event : DiskEvent) (t : LaneState) → is_calm event ≡ false → (IsCalm e event × (remaining t ≤ remaining s)) ⊎ (remaining t < remaining s)
     → remaining t + 7 * 0 < remaining s
@@ -88,10 +82,7 @@ not_waiting false true done = refl
 not_waiting false false done = let never : false ≡ true = done refl in absurd (cc never)
 
 finishes : (s : LaneState) (events : List DiskEvent) (t : LaneState) → IsReached s → IsUnforged s → IsLossless s → CalmTurn disk_kind s events t → waits_on t ≡ false
-finishes s events t at clean whole turn =
-    let made : MakesRound s events t = own_round s events t turn in
-    let keeps : StepKeeps s t = round_keeps s events t made in
-    not_waiting (is_finished t.client) t.stopped (λ runs. (quiet_finished s events t at clean whole (sym keeps.stopped ∙ runs) made turn.calm).finished)
+finishes s events t given clean whole turn = grind (arith, own_round, round_keeps, not_waiting, quiet_finished)
 
 pub disk_rests : LaneRests disk_kind IsReached IsUnforged IsLossless
 disk_rests = record {
@@ -106,15 +97,8 @@ disk_rests = record {
 }
 
 -- a tick leaves it waiting
-waits_still : (finished stopped : Bool) → finished ≡ false → stopped ≡ false → (if finished then false else if stopped then false else true) ≡ true
-waits_still true stopped unfinished runs = absurd (cc unfinished)
-waits_still false true unfinished runs = absurd (cc runs)
-waits_still false false unfinished runs = refl
-
 pub tick_waits : TickWaits disk_kind IsReached
-tick_waits s t at waits step =
-    let begins : TickBegins s t = tick_at s t at step in
-    waits_still (is_finished t.client) t.stopped begins.anew (begins.stopped ∙ (waits_where (is_finished s.client) s.stopped waits).1)
+tick_waits s t given waits step = grind (arith, tick_at, waits_where)
 
 -- WHAT MOVES
 silent_calm : (event : DiskEvent) → is_silent event ≡ true → is_calm event ≡ true
@@ -123,52 +107,32 @@ silent_calm (Switches Off) is = refl
 silent_calm _ is = absurd (cc is)
 
 loud_moves : (k : ℕ) (event : DiskEvent) → is_calm event ≡ false → 1 ≤ moves (OfLane k event)
-loud_moves k (OnWire (Idle e)) loud = absurd (cc loud)
-loud_moves k (OnWire (Blocked e)) loud = absurd (cc loud)
-loud_moves k (Switches Off) loud = absurd (cc loud)
-loud_moves k _ loud = omega (arith)
+loud_moves k event loud = grind arith
 
 pub disk_moves : LaneMoves disk_kind disk_entries moves
-disk_moves = record { silent_calm = silent_calm; loud = loud_moves; tick = λ k s. omega (arith) }
+disk_moves = grind arith
 
 -- TICKS: no step is one, and a tick is one of its lane
 never : (c : Bool) → once (c && false) ≡ 0
 never true = refl
 never false = refl
 
-step_never : (k j : ℕ) (e : End) (event : DiskEvent) → IsStep e event → ticks k (OfLane j event) ≡ 0
-step_never k j e (OnWire (Reset d the_cause.Tick packet lost)) own = absurd (cc own.1)
-step_never k j e _ own = never (j == k)
-
 one_tick : (c : Bool) → once (c && true) ≡ once c
 one_tick true = refl
 one_tick false = refl
 
 pub disk_ticks : LaneTicks disk_kind disk_entries ticks
-disk_ticks = record {
-  turn_steps = turn_steps;
-  step = λ k j event own. step_never k j own.0 event own.1;
-  tick = λ k j s. one_tick (j == k);
-  left = λ k j. refl;
-  answer = λ k. refl;
-}
+disk_ticks = grind (arith, turn_steps, never)
 
 -- AN END THAT FINDS NO ROOM does so once in its turn
 alone : (n : ℕ) → n + 0 ≤ n
 alone n = omega (arith)
 
 step_blocked : (k : ℕ) (e : End) (j : ℕ) (d : End) (event : DiskEvent) → IsStep d event → sum_over (blocked k e) (entry_of j event) ≤ once ((j == k) && is_end d e)
-step_blocked k e j d (OnWire (Idle f)) own = omega (arith)
-step_blocked k e j d (Switches Off) own = omega (arith)
-step_blocked k e j d (OnWire (Blocked f)) own =
-    subst (λ (x : End). once ((j == k) && is_end f e) + 0 ≤ once ((j == k) && is_end x e)) own (alone (once ((j == k) && is_end f e)))
-step_blocked k e j d _ own = omega (arith)
+step_blocked k e j d event own = grind arith
 
 one_end : (c : Bool) (e : End) → once (c && is_end A e) + once (c && is_end B e) ≤ once c
-one_end true A = omega (arith)
-one_end true B = omega (arith)
-one_end false A = omega (arith)
-one_end false B = omega (arith)
+one_end c e = grind arith
 
 two_steps : (t a r b c x y : ℕ) → t ≡ a + r → r ≡ b + 0 → a ≤ x → b ≤ y → x + y ≤ c → t ≤ c
 two_steps t a r b c x y is rest one two all = omega (arith, is, rest, one, two, all)
@@ -195,24 +159,9 @@ disk_unsticks k e = record {
 }
 
 -- WHAT LEAVES NO ENTRY does nothing
-silent_same : (s : LaneState) (event : DiskEvent) (t : LaneState) → LaneStep s event t → is_silent event ≡ true → s ≡ t
-silent_same s (OnWire (Idle e)) t step is = sym (idles e s t step)
-silent_same s (Switches Off) t step is = sym step.1
-silent_same s _ t step is = absurd (cc is)
-
 pub disk_silent : IsSilent disk_kind
-disk_silent = record { same = silent_same; gives = λ k event is. refl; tick_gives = λ k s. refl; tick_loud = λ s. refl }
+disk_silent = grind (arith, idles)
 
 -- and an entry says what happened to its own lane
-as_own : (a b : Bool) (event : DiskEvent) → (a ≡ true → b ≡ true) → (b ≡ true → a ≡ true) → (if a then event ∷ [] else []) ≡ own_or b event []
-as_own true true event one two = refl
-as_own false false event one two = refl
-as_own true false event one two = let never : false ≡ true = one refl in absurd (cc never)
-as_own false true event one two = let never : false ≡ true = two refl in absurd (cc never)
-
 pub disk_reads : Reads disk_kind disk_entries event_at
-disk_reads = record {
-  of_lane = λ j k event. as_own (k == j) (j == k) event (λ same. eq-eqb j k (sym (eqb-true k j same))) (λ same. eq-eqb k j (sym (eqb-true j k same)));
-  of_left = λ j k. refl;
-  of_answer = λ j. refl;
-}
+disk_reads = grind (arith, eq-eqb, eqb-true)

@@ -1,5 +1,5 @@
 -- The events of one kind in a journal are those that happened to its lanes, together.
-use Rattle.std.proofs.Common.{◌≡◌, ◌≤◌, ◌<◌, ℕ, zero, suc, ◌+◌, Bool, true, false, cond, List, [], ◌∷◌, length, refl, sym, ap, ◌∙◌, subst, arith, inl, inr}
+use Rattle.std.proofs.Common.{◌≡◌, ◌≤◌, ◌<◌, ℕ, zero, suc, ◌+◌, Bool, true, false, cond, List, [], ◌∷◌, length, refl, sym, ap, subst, arith}
 use Rattle.std.specs.Prelude.{⊤, ◌==◌, if◌then◌else◌}
 use Rattle.std.specs.List.{count_by}
 use Rattle.std.proofs.lemmas.Bool.{cases_lt, eq-eqb, eqb-true}
@@ -38,19 +38,11 @@ entry_first is k zero entry entries = refl
 entry_first is k (suc many) entry entries =
     omega (arith, entry_first is (k + 1) many entry entries, count_behind is (event_at k entry) (happened k entries))
 
-count_if : (is : DiskEvent → Bool) (b : Bool) (event : DiskEvent) → b ≡ true → count_by is (if b then event ∷ [] else []) ≡ cond (is event) 1 0
-count_if is true event here = omega (arith, count_more is event [])
-count_if is false event here = absurd (cc here)
-
-count_unless : (is : DiskEvent → Bool) (b : Bool) (event : DiskEvent) → (b ≡ true → ⊥) → count_by is (if b then event ∷ [] else []) ≡ 0
-count_unless is true event other = absurd (other refl)
-count_unless is false event other = refl
-
 own_count : (is : DiskEvent → Bool) (k j : ℕ) (event : DiskEvent) → j ≡ k → count_at is k (OfLane j event) ≡ cond (is event) 1 0
-own_count is k j event same = count_if is (j == k) event (eq-eqb j k same)
+own_count is k j event same = grind (arith, count_more, eq-eqb)
 
 other_count : (is : DiskEvent → Bool) (k j : ℕ) (event : DiskEvent) → (j ≡ k → ⊥) → count_at is k (OfLane j event) ≡ 0
-other_count is k j event other = count_unless is (j == k) event (λ same. other (eqb-true j k same))
+other_count is k j event other = grind (arith, eqb-true)
 
 none_behind : (is : DiskEvent → Bool) (k many j : ℕ) (event : DiskEvent) → j < k → counts_at is k many (OfLane j event) ≡ 0
 none_behind is k zero j event below = refl
@@ -59,15 +51,7 @@ none_behind is k (suc many) j event below =
 
 one_lane : (is : DiskEvent → Bool) (k many j : ℕ) (event : DiskEvent) → k ≤ j → j < k + many → counts_at is k many (OfLane j event) ≡ cond (is event) 1 0
 one_lane is k zero j event since below = absurd (omega (arith, since, below))
-one_lane is k (suc many) j event since below = elim (cases_lt k j) [
-  | inl later ↦
-      omega (
-        arith,
-        other_count is k j event (λ same. absurd (omega (arith, later, same))),
-        one_lane is (k + 1) many j event (omega (arith, later)) (omega (arith, below)),
-      )
-  | inr here ↦ omega (arith, own_count is k j event (omega (arith, here, since)), none_behind is (k + 1) many j event (omega (arith, here)))
-]
+one_lane is k (suc many) j event since below = grind (arith, cases_lt, other_count, own_count, none_behind, one_lane is (k + 1) many j event)
 
 no_lane : (is : DiskEvent → Bool) (k many : ℕ) (entry : SettleEntry) → ((j : ℕ) → event_at j entry ≡ []) → counts_at is k many entry ≡ 0
 no_lane is k zero entry none = refl
@@ -88,25 +72,13 @@ all_counts is many (OfLane k event ∷ entries) are =
       one_lane is 0 many k event (omega arith) (omega (arith, are.0)),
       all_counts is many entries are.1,
     )
-all_counts is many (x ∷ entries) are =
-    omega (
-      arith,
-      count_more (in_entry is) x entries,
-      entry_first is 0 many x entries,
-      no_lane is 0 many x (λ j. refl),
-      all_counts is many entries are,
-    )
+all_counts is many (x ∷ entries) are = grind (arith, count_more, entry_first, no_lane, all_counts is many entries are)
 
 -- what counts less on each lane counts less on all
 pub counts_le : (is others : DiskEvent → Bool) (k many : ℕ) (entries : List SettleEntry)
     → ((j : ℕ) → k ≤ j → j < k + many → count_by is (happened j entries) ≤ count_by others (happened j entries)) → counts_on is k many entries ≤ counts_on others k many entries
 counts_le is others k zero entries each = omega arith
-counts_le is others k (suc many) entries each =
-    omega (
-      arith,
-      each k (omega arith) (omega arith),
-      counts_le is others (k + 1) many entries (λ j since below. each j (omega (arith, since)) (omega (arith, below))),
-    )
+counts_le is others k (suc many) entries each = grind (arith, counts_le is others (k + 1) many entries)
 
 -- and one lane's are no more than all
 pub lane_le : (is : DiskEvent → Bool) (k : ℕ) (entries : List SettleEntry) → count_by is (happened k entries) ≤ count_by (in_entry is) entries
@@ -128,8 +100,5 @@ lane_le is k (x ∷ entries) = omega (arith, count_more (in_entry is) x entries,
 -- A RUN of a world has events of its lanes alone
 pub run_of : (w : WorldState) (entries : List SettleEntry) (v : WorldState) → Run WorldStep w entries v → AreOf (length w.lanes) entries
 run_of w [] v run = tt
-run_of w (OfLane k event ∷ entries) v run =
-    let step = run.1 in
-    let long : length run.0.lanes ≡ length w.lanes = ap length step.lanes ∙ length-set w.lanes k step.after in
-    (slice_get_within w.lanes k step.lane step.there, subst (λ (n : ℕ). AreOf n entries) long (run_of run.0 entries v run.2))
+run_of w (OfLane k event ∷ entries) v run = grind (arith, length-set, slice_get_within, run_of run.0 entries v run.2)
 run_of w (entry ∷ entries) v run = subst (λ (x : WorldState). AreOf (length x.lanes) entries) run.1 (run_of run.0 entries v run.2)

@@ -1,6 +1,6 @@
 -- An event of a lane that was run there can be told in words.
-use Rattle.std.proofs.Common.{◌≡◌, ℕ, ◌+◌, ◌*◌, ◌≤◌, ◌%◌, Bool, true, false, List, [], ◌∷◌, ◌++◌, length, Option, Some, None, refl, sym, ap, ◌∙◌, subst, arith}
-use Rattle.std.specs.Prelude.{◌==◌, ◌&&◌, nat_le, if◌then◌else◌}
+use Rattle.std.proofs.Common.{◌≡◌, ℕ, ◌*◌, ◌≤◌, ◌%◌, Bool, true, false, List, [], ◌∷◌, ◌++◌, length, Option, Some, None, refl, sym, ap, ◌∙◌, subst, arith}
+use Rattle.std.specs.Prelude.{◌==◌, ◌&&◌, if◌then◌else◌}
 use Rattle.runs.specs.Lawful.{lawful_split, log_of, run_lawful}
 use Rattle.runs.specs.Run.{Run, run_push}
 use Rattle.ldc_queue.specs.declared.end.End.{End}
@@ -8,9 +8,8 @@ use Rattle.ldc_queue.specs.declared.end.End.TheVariants.{A, B}
 use Rattle.ldc_queue.specs.Transcript.{Turn}
 use Rattle.vdisk_msg.specs.declared.request.Request.{Request}
 use Rattle.vdisk_msg.specs.declared.request.Request.TheVariants.{Flush, Read, Write}
-use Rattle.vdisk_msg.specs.Requests.{BadCount, BadRange, Defect, defect, given_count, operation_of}
+use Rattle.vdisk_msg.specs.Requests.{BadCount, Defect, defect, given_count, operation_of}
 use Rattle.vio_tag.specs.declared.cause.Cause.{Cause}
-use Rattle.vio_tag.specs.declared.cause.Cause.TheVariants as the_cause
 use Rattle.channel_model.specs.ResetSays.{ResetSays}
 use Rattle.channel_model.specs.WireEvent.{Joined, Reset}
 use Rattle.lane_laws.specs.DiskLog.{DiskLog, after, nothing_yet}
@@ -20,41 +19,30 @@ use Rattle.lane_laws.specs.WorkLaws.{ResetOf}
 use Rattle.disk_model.specs.DiskEvent.{DiskEvent, Done, OnWire, Stored, Works}
 use Rattle.disk_model.specs.LaneState.{IsShape, LaneState, Shape, fresh}
 use Rattle.disk_model.specs.LaneStep.{EndOnWire, LaneStep}
-use Rattle.disk_model.specs.ServerState.{Flushes, Progress, Reads, Work, Writes}
+use Rattle.disk_model.specs.ServerState.{Progress, Work}
 use Rattle.disk_model.specs.ServerWork.{StoresIn}
 use Rattle.lane_laws.proofs.CarriedRuns.{AllStand, all_step, fresh_all}
 use Rattle.lane_laws.proofs.MemorySteps.{carried_long, got_sound}
 use Rattle.lane_laws.specs.MemoryStands.{MemoryStands}
 use Rattle.lane_laws.proofs.EveryRun.{every_run}
-use Rattle.channel_model.specs.TranscriptLog.{transcript_of}
 use Rattle.world_laws.specs.Words.{AreBlocks, HasWords, IsOperation, NamesFault}
 
 -- OPERATIONS
-operation_at : (n operation : ℕ) → operation ≡ n → 1 ≤ n → n ≤ 3 → IsOperation operation
-operation_at n operation is first last = (omega (arith, is, first), omega (arith, is, last))
-
 request_operation : (request : Request) → IsOperation (operation_of request)
 request_operation (Read block count) = (omega (arith), omega (arith))
 request_operation (Write block count fill) = (omega (arith), omega (arith))
 request_operation Flush = (omega (arith), omega (arith))
 
 stored_operation : (p : Progress) (work : Work) (operation block count : ℕ) (failed : Bool) (gave : List ℕ) (next : Progress) → StoresIn p work operation block count failed gave next → IsOperation operation
-stored_operation (Reads u) work operation block count failed gave next stores = operation_at 1 operation stores.0.operation_is (omega (arith)) (omega (arith))
-stored_operation (Writes u bytes) work operation block count failed gave next stores = operation_at 2 operation stores.0.operation_is (omega (arith)) (omega (arith))
-stored_operation Flushes work operation block count failed gave next stores = operation_at 3 operation stores.0 (omega (arith)) (omega (arith))
-stored_operation _ work operation block count failed gave next stores = absurd stores
+stored_operation p work operation block count failed gave next stores = grind arith
 
 -- BLOCKS: a read that was accepted has at least one
 some_if : (b c : Bool) (why : Option Defect) → (if b && c then why else Some BadCount) ≡ None → b ≡ true
 some_if true c why none = refl
 some_if false c why none = absurd (cc none)
 
-le_true : (n : ℕ) → nat_le 1 n ≡ true → 1 ≤ n
-le_true n test = grind (arith, test)
-
 some_blocks : (blocks block count : ℕ) → defect blocks (Read block count) ≡ None → 1 ≤ count
-some_blocks blocks block count none =
-    le_true count (some_if (nat_le 1 count) (nat_le count 64) (if nat_le (block + count) blocks then None else Some BadRange) none)
+some_blocks blocks block count none = grind arith
 
 whole_blocks : (count : ℕ) → 512 * count % 512 ≡ 0
 whole_blocks count = omega (arith)
@@ -66,9 +54,7 @@ carried_well : (status : ℕ) (request : Request) → status ≡ 0 → carried_c
 carried_well status request well = ap (λ (n : ℕ). if n == 0 then given_count request else 0) well
 
 read_blocks : (blocks : ℕ) (request : Request) (bytes : List ℕ) → defect blocks request ≡ None → length bytes ≡ given_count request → operation_of request ≡ 1 → AreBlocks bytes
-read_blocks blocks (Read block count) bytes none long read = blocks_of count bytes long (some_blocks blocks block count none)
-read_blocks blocks (Write block count fill) bytes none long read = absurd (omega (arith, read))
-read_blocks blocks Flush bytes none long read = absurd (omega (arith, read))
+read_blocks blocks request bytes none long read = grind arith
 
 memory_stands : (shape : Shape) (events : List DiskEvent) (s : LaneState) → IsShape shape → Run LaneStep (fresh shape) events s → MemoryStands s
 memory_stands shape events s sound run =
@@ -89,18 +75,11 @@ joined_none : (e : End) (s : LaneState) (lost : ℕ) (t : LaneState) → EndOnWi
 joined_none A s lost t step = step.step.1
 joined_none B s lost t step = step.1.step.1.1
 
-copy_named : (l : DiskLog) (turns : List Turn) (e : End) (fault : ℕ) (packet : Option (List ℕ)) → ResetOf l e (the_cause.Copy fault) packet → ResetSays turns packet (the_cause.Copy fault)
-    → NamesFault (the_cause.Copy fault)
-copy_named l turns A fault None own says = absurd own
-copy_named l turns B fault None own says = (own.0, own.1)
-copy_named l turns e fault (Some packet) own says = absurd says
-
 cause_named : (l : DiskLog) (turns : List Turn) (e : End) (cause : Cause) (packet : Option (List ℕ)) → ResetOf l e cause packet → ResetSays turns packet cause → NamesFault cause
-cause_named l turns e (the_cause.Copy fault) packet own says = copy_named l turns e fault packet own says
-cause_named l turns e _ packet own says = tt
+cause_named l turns e cause packet own says = grind arith
 
 reset_words : (l : DiskLog) (e : End) (cause : Cause) (packet : Option (List ℕ)) (lost : ℕ) → May l (OnWire (Reset e cause packet lost)) → HasWords (OnWire (Reset e cause packet lost))
-reset_words l e cause packet lost may = (cause_named l (transcript_of e l.transcript) e cause packet may.own_resets.1 may.reset_says, may.own_resets.0)
+reset_words l e cause packet lost may = grind arith
 
 -- EACH EVENT after a run of a lane
 may_behind : (shape : Shape) (events : List DiskEvent) (s : LaneState) (event : DiskEvent) (t : LaneState) → IsShape shape → Run LaneStep (fresh shape) events s → LaneStep s event t

@@ -1,7 +1,7 @@
 -- A lane none of whose calls of the store failed stays so by each event but a call that fails.
-use Rattle.std.proofs.Common.{◌≡◌, Bool, true, false, ◌∙◌}
+use Rattle.std.proofs.Common.{◌≡◌, Bool, true, false, arith}
 use Rattle.std.specs.Prelude.{◌||◌}
-use Rattle.disk_model.specs.DiskEvent.{DiskEvent, Stored, Works}
+use Rattle.disk_model.specs.DiskEvent.{DiskEvent}
 use Rattle.disk_model.specs.LaneState.{LaneState}
 use Rattle.disk_model.specs.LaneStep.{LaneStep}
 use Rattle.lane_laws.proofs.FailedRuns.{failed_after}
@@ -13,8 +13,7 @@ neither false b first second = second
 neither true b first second = absurd (cc first)
 
 stays_well : (b : Bool) (event : DiskEvent) → is_failed_store event ≡ false → b ≡ false → after_failed b event ≡ false
-stays_well b (Works (Stored operation block count failed)) well before = neither b failed before well
-stays_well b _ well before = before
+stays_well b event well before = grind arith
 
 pub failed_stays : (s : LaneState) (event : DiskEvent) (t : LaneState) → LaneStep s event t → is_failed_store event ≡ false → s.failed ≡ false → t.failed ≡ false
-failed_stays s event t step well before = failed_after s event t step ∙ stays_well s.failed event well before
+failed_stays s event t step well before = grind (arith, failed_after)

@@ -6,7 +6,6 @@ use Rattle.disk_model.specs.LaneState.{LaneState}
 use Rattle.disk_model.specs.Reached.{IsReached}
 use Rattle.lane_kinds.proofs.Falling as kind
 use Rattle.lane_kinds.proofs.Lanes.{all_fall}
-use Rattle.lane_kinds.proofs.Standing.{rounds_stand}
 use Rattle.lane_kinds.specs.Lanes.{AreCleanWhere}
 use Rattle.lane_kinds.specs.Laws.{Falls, Keeps}
 use Rattle.lane_laws.proofs.LaneBound.{remains_most}
@@ -43,20 +42,13 @@ one_more b n m q is most = omega (arith, is, most)
 
 pub remains_on_most : (lanes : List LaneState) → Each IsClean lanes → remaining_on lanes ≤ 69 * length lanes + 32 * pending_on lanes
 remains_on_most [] all = omega (arith)
-remains_on_most (s ∷ lanes) all =
-    let at = all.0.reached in
-    one_more (remaining s + remaining_on lanes) (length lanes) (length (s ∷ lanes)) (length s.client.pending + pending_on lanes) (omega (arith))
-    (lane_sum (remaining s) (remaining_on lanes) (length lanes) (length s.client.pending) (pending_on lanes) (remains_most at.shape at.events s at.sound at.run all.0.unforged)
-    (remains_on_most lanes all.1))
+remains_on_most (s ∷ lanes) all = grind (arith, one_more, lane_sum, remains_most, remains_on_most lanes all.1)
 
 within : (all lanes pending : ℕ) → all ≤ 69 * lanes + 32 * pending → lanes ≤ 8 → all < 4096 + 64 * pending
 within all lanes pending most few = omega (arith, most, few)
 
 few_remain : (start : List LaneState) → AreClean start → length start ≤ 8 → remaining_on start < most_rounds start
 few_remain start clean few = within (remaining_on start) (length start) (pending_on start) (remains_on_most start clean.clean) few
-
-pub clean_behind : (w : Settling) (rounds : List SettleRound) (v : Settling) → AreClean w.lanes → Run GoesOn w rounds v → AreClean v.lanes
-clean_behind w rounds v clean run = rounds_stand disks (λ lanes marks. AreClean lanes) keeps w rounds v run clean
 
 -- THE LAWS
 pub rounds_lower : (start : List LaneState) (rounds : List SettleRound) (now : Settling) → Each IsReached start → Each IsUnforged start → Run GoesOn (begin start) rounds now

@@ -1,20 +1,18 @@
 -- The statuses 5 that a lane still has to tell: those that are owed, and those in slots that are DONE. Each event of a lane that nobody forged
 -- tells one, or leaves them, or adds one for a call of the store that failed; a reset only forgets some.
-use Rattle.std.proofs.Common.{◌≡◌, ◌≤◌, ℕ, zero, suc, ◌+◌, ◌-◌, ◌%◌, Bool, true, false, cond, Option, Some, None, List, [], ◌∷◌, ◌++◌, set, refl, sym, ap, arith}
+use Rattle.std.proofs.Common.{◌≡◌, ◌≤◌, ℕ, zero, suc, ◌+◌, ◌%◌, Bool, true, false, cond, Option, Some, None, List, [], ◌∷◌, ◌++◌, set, refl, arith}
 use Rattle.std.specs.Prelude.{◌==◌, if◌then◌else◌, slice_get, replicate}
 use Rattle.cookie_copy.specs.declared.fault.CopyFault.{CopyFault}
-use Rattle.ldc_queue.specs.declared.end.End.TheVariants.{A, B}
 use Rattle.vdisk_msg.specs.Check.{first_defect}
 use Rattle.vdisk_msg.specs.declared.desc.DescFault.{DescFault}
-use Rattle.vdisk_msg.specs.declared.desc.DescFault.TheVariants.{Cookies, Operation, Range, Size}
 use Rattle.vdisk_msg.specs.declared.desc.DiskDesc.{DiskDesc}
 use Rattle.vdisk_msg.specs.Pieces.{Finishes, Moves, Piece, Stores, checked_pieces, operation_pieces, pieces, read_pieces, refusal_status, unit_count, write_pieces}
-use Rattle.channel_model.specs.WireEvent.{Blocked, Declines, Idle, Injected, Joined, Lost, Poked, Reset, Sent, Took, WireEvent}
+use Rattle.channel_model.specs.WireEvent.{WireEvent}
 use Rattle.lane_laws.specs.DiskLog.{DiskLog, after, nothing_yet}
-use Rattle.lane_laws.specs.RingLog.{Accepted as IsAccepted, Done as IsDone, Free, Ready, SlotLog, Zeros, cleared_if, fetched_at, finished_at, freed_at, id_at, published_at}
-use Rattle.lane_laws.specs.WorkLaws.{FinishesPiece, InServer, Owes}
-use Rattle.lane_laws.specs.WorkLog.{ClientCounts, ServerCounts, WorkLog, change_server, moved_rest, opened_counts, rest_of, stored_rest}
-use Rattle.disk_model.specs.DiskEvent.{Accepted, Admitted, Asks, Desc, DiskEvent, Done, Finished, Full, Misplaced, Moved, Off, OnWire, Published, Refused, Calms, Started, Stopped, Stored, Switched, Switches, Worked, Works}
+use Rattle.lane_laws.specs.RingLog.{Accepted as IsAccepted, Done as IsDone, Free, Ready, SlotLog, Zeros, fetched_at, finished_at, freed_at, id_at, published_at}
+use Rattle.lane_laws.specs.WorkLaws.{FinishesPiece, InServer}
+use Rattle.lane_laws.specs.WorkLog.{ClientCounts, ServerCounts, WorkLog, change_server, moved_rest, rest_of, stored_rest}
+use Rattle.disk_model.specs.DiskEvent.{Accepted, Admitted, Asks, Desc, DiskEvent, Done, Finished, Full, Misplaced, Moved, Off, OnWire, Published, Refused, Started, Stopped, Stored, Switched, Switches, Worked, Works}
 use Rattle.disk_model.specs.LaneState.{Shape}
 use Rattle.world_laws.proofs.LawFacts.{Facts, FreesSlot}
 use Rattle.world_laws.specs.Failures.{is_failed_done, is_failed_store}
@@ -46,18 +44,12 @@ fives_in (slot ∷ ring) = five_in slot + fives_in ring
 abbrev pub to_tell : DiskLog → ℕ
 to_tell l = fives_in l.ring + fives_of l.work.server
 
-same_le : (n : ℕ) → n ≤ n
-same_le n = omega arith
-
 none_le : (n m : ℕ) → n ≡ 0 → n ≤ m
 none_le n m none = omega (arith, none)
 
 -- WHAT IS OWED
 rest_fives : (owed : List Piece) → fives_owed (rest_of owed) ≤ fives_owed owed
-rest_fives [] = omega arith
-rest_fives (Finishes status ∷ rest) = omega arith
-rest_fives (Moves unit ∷ rest) = omega arith
-rest_fives (Stores unit ∷ rest) = omega arith
+rest_fives owed = grind arith
 
 moved_fives : (fault : Option CopyFault) (owed : List Piece) → fives_owed (moved_rest fault owed) ≤ fives_owed owed
 moved_fives None owed = rest_fives owed
@@ -87,10 +79,7 @@ operation_fives false true units = write_fives 0 units
 operation_fives false false units = refl
 
 refused_fives : (fault : DescFault) → five (refusal_status fault) ≡ 0
-refused_fives Operation = refl
-refused_fives Cookies = refl
-refused_fives Size = refl
-refused_fives Range = refl
+refused_fives fault = grind arith
 
 checked_fives : (fault : Option DescFault) (desc : DiskDesc) → fives_owed (checked_pieces fault desc) ≡ 0
 checked_fives None desc =
@@ -102,13 +91,6 @@ pieces_fives : (desc : DiskDesc) (blocks mask : ℕ) → fives_owed (pieces desc
 unfolding pieces
 pieces_fives desc blocks mask = checked_fives (first_defect desc blocks mask) desc
 
--- the status that is owed first is told
-owes_fives : (owed : List Piece) (status : ℕ) → Owes owed (Finishes status) → five status + fives_owed (rest_of owed) ≡ fives_owed owed
-owes_fives [] status owes = absurd owes
-owes_fives (Finishes first ∷ rest) status owes = let same : first ≡ status = cc owes in ap (λ (n : ℕ). five n + fives_owed rest) (sym same)
-owes_fives (Moves unit ∷ rest) status owes = absurd (cc owes)
-owes_fives (Stores unit ∷ rest) status owes = absurd (cc owes)
-
 -- THE RING
 set_fives : (ring : List SlotLog) (k : ℕ) (e : SlotLog) → fives_in (set ring k e) ≤ five_in e + fives_in ring
 set_fives [] k e = omega arith
@@ -116,20 +98,12 @@ set_fives (x ∷ ring) zero e = omega arith
 set_fives (x ∷ ring) (suc k) e = omega (arith, set_fives ring k e)
 
 freed_fives : (ring : List SlotLog) (k id status : ℕ) → slice_get ring k ≡ Some (IsDone id status) → fives_in (set ring k Free) + five status ≡ fives_in ring
-freed_fives [] k id status got = absurd (cc got)
-freed_fives (x ∷ ring) zero id status got =
-    let same : x ≡ IsDone id status = cc got in
-    let here : five_in x ≡ five status = ap five_in same in
-    omega (arith, here)
 freed_fives (x ∷ ring) (suc k) id status got = omega (arith, freed_fives ring k id status got)
+freed_fives ring k id status got = grind arith
 
 many_fives : (n : ℕ) (e : SlotLog) → five_in e ≡ 0 → fives_in (replicate n e) ≡ 0
 many_fives zero e none = refl
 many_fives (suc n) e none = omega (arith, none, many_fives n e none)
-
-cleared_fives : (b : Bool) (slots : ℕ) (ring : List SlotLog) → fives_in (cleared_if b slots ring) ≤ fives_in ring
-cleared_fives true slots ring = omega (arith, many_fives slots Free refl)
-cleared_fives false slots ring = omega arith
 
 published_fives : (slots : ℕ) (o : Option ClientCounts) (id : ℕ) (ring : List SlotLog) → fives_in (published_at slots o id ring) ≤ fives_in ring
 published_fives slots None id ring = omega arith
@@ -149,46 +123,21 @@ same_fives : (ring now : ℕ) (f : ServerCounts → ServerCounts) (o : Option Se
     → 0 + (now + fives_of (change_server f o)) ≤ 0 + (ring + fives_of o)
 same_fives ring now f o few falls = more_fives ring now 0 f o few (λ c. omega (arith, falls c))
 
-opened_fives : (b : Bool) (sid ring : ℕ) (f : ServerCounts → ServerCounts) (o : Option ServerCounts) → ((c : ServerCounts) → fives_owed (f c).owed ≤ fives_owed c.owed)
-    → 0 + (ring + fives_of (opened_counts b sid (change_server f o))) ≤ 0 + (ring + fives_of o)
-opened_fives true sid ring f o falls = omega arith
-opened_fives false sid ring f o falls = same_fives ring ring f o (omega arith) falls
-
 ended_fives : (l : DiskLog) (slots : ℕ) (w : WorkLog) (o : Option ServerCounts) (slot status : ℕ) (ring : List SlotLog) (f : ServerCounts → ServerCounts)
     → ((c : ServerCounts) → (f c).owed ≡ rest_of c.owed) → InServer o (FinishesPiece l slot status)
     → 0 + (fives_in (finished_at slots w o slot status ring) + fives_of (change_server f o)) ≤ 0 + (fives_in ring + fives_of o)
-ended_fives l slots w None slot status ring f ends finishes = absurd finishes
-ended_fives l slots w (Some c) slot status ring f ends finishes =
-    let left : fives_owed (f c).owed ≡ fives_owed (rest_of c.owed) = ap fives_owed (ends c) in
-    omega (arith, set_fives ring slot (IsDone (id_at w.client c.finished) status), owes_fives c.owed status finishes.owed, left)
+ended_fives l slots w o slot status ring f ends finishes = grind (arith, set_fives)
 
 done_fives : (l : DiskLog) (id status : ℕ) → FreesSlot l id status
     → five status + (fives_in (freed_at l.shape.slots l.work l.work.client l.ring) + fives_of l.work.server) ≤ 0 + (fives_in l.ring + fives_of l.work.server)
-done_fives l id status frees =
-    let slot = (l.work.done - frees.client.base) % l.shape.slots in
-    let table : fives_in (freed_at l.shape.slots l.work l.work.client l.ring) ≡ fives_in (set l.ring slot Free) =
-    ap (λ (o : Option ClientCounts). fives_in (freed_at l.shape.slots l.work o l.ring)) frees.open_is in
-    omega (arith, table, freed_fives l.ring slot id status frees.done_is)
+done_fives l id status frees = grind (arith, freed_fives)
 
 -- EACH EVENT
 abbrev pub TellsSome : DiskLog → DiskEvent → Type 0
 TellsSome l event = cond (is_failed_done event) 1 0 + to_tell (after l event) ≤ cond (is_failed_store event) 1 0 + to_tell l
 
 wire_fives : (l : DiskLog) (event : WireEvent) → TellsSome l (OnWire event)
-wire_fives l (Joined A lost) = omega arith
-wire_fives l (Joined B lost) = omega arith
-wire_fives l (Reset A cause packet lost) = omega arith
-wire_fives l (Reset B cause packet lost) = omega arith
-wire_fives l (Took A packet opens) = omega arith
-wire_fives l (Took B packet opens) = opened_fives opens _ (fives_in l.ring) _ l.work.server (λ c. same_le (fives_owed c.owed))
-wire_fives l (Sent A packet opens) = omega (arith, cleared_fives opens l.shape.slots l.ring)
-wire_fives l (Sent B packet opens) = opened_fives opens _ (fives_in l.ring) _ l.work.server (λ c. same_le (fives_owed c.owed))
-wire_fives l (Lost e packet) = omega arith
-wire_fives l (Injected e packet) = omega arith
-wire_fives l (Poked e at bytes) = omega arith
-wire_fives l (Idle e) = omega arith
-wire_fives l (Blocked e) = omega arith
-wire_fives l (Declines d) = omega arith
+wire_fives l event = grind (arith, same_fives, many_fives)
 
 asked_fives : (l : DiskLog) (event : Admitted) → TellsSome l (Asks event)
 asked_fives l (Accepted id request) = omega arith
@@ -213,11 +162,7 @@ turn_fives l Started = omega arith
 turn_fives l Off = omega arith
 
 pub event_fives : (l : DiskLog) (event : DiskEvent) → Facts l event → l.wire.forged ≡ false → TellsSome l event
-event_fives l (OnWire event) facts clean = wire_fives l event
-event_fives l (Asks event) facts clean = asked_fives l event
-event_fives l (Works event) facts clean = work_fives l event facts clean
-event_fives l (Switches event) facts clean = turn_fives l event
-event_fives l (Calms event) facts clean = omega arith
+event_fives l event facts clean = grind (arith, wire_fives, asked_fives, work_fives, turn_fives)
 
 pub nothing_to_tell : (shape : Shape) → to_tell (nothing_yet shape) ≡ 0
 nothing_to_tell shape = omega (arith, many_fives shape.slots Zeros refl)

@@ -5,7 +5,7 @@ use Rattle.runs.specs.Run.{Run}
 use Rattle.channel_model.specs.WireEvent.{Injected, Poked, WireEvent}
 use Rattle.channel_model.specs.WireLog.{WireLog}
 use Rattle.disk_law.specs.ListState.{ImageState}
-use Rattle.disk_model.specs.DiskEvent.{Asks, DiskEvent, OnWire, Calms, Switches, Works}
+use Rattle.disk_model.specs.DiskEvent.{DiskEvent, OnWire}
 use Rattle.disk_model.specs.LaneState.{LaneState, Shape, fresh}
 use Rattle.disk_model.specs.LaneStep.{LaneStep}
 use Rattle.lane_kinds.proofs.Places.{get_within}
@@ -26,32 +26,19 @@ wire_honest (Poked e at bytes) none = absurd (cc none)
 wire_honest event none = tt
 
 pub event_honest : (event : DiskEvent) → forges event ≡ false → IsHonest event
-event_honest (OnWire event) none = wire_honest event none
-event_honest (Asks event) none = tt
-event_honest (Works event) none = tt
-event_honest (Switches event) none = tt
-event_honest (Calms event) none = tt
+event_honest event none = grind arith
 
 -- and one that leads to a lane that nobody forged forges nothing
 pub forged_now : (w v : WireLog) → v ≡ w → w.forged ≡ true → v.forged ≡ false → ⊥
 forged_now w v is forged clean = let both : true ≡ false = sym forged ∙ sym (ap (λ (x : WireLog). x.forged) is) ∙ clean in cc both
 
 pub event_forges : (s : LaneState) (event : DiskEvent) (t : LaneState) → LaneStep s event t → t.wire.forged ≡ false → forges event ≡ false
-event_forges s (OnWire (Injected e packet)) t step clean = absurd (forged_now _ t.wire (wire_only s (Injected e packet) t step).wire refl clean)
-event_forges s (OnWire (Poked e at bytes)) t step clean = absurd (forged_now _ t.wire (wire_only s (Poked e at bytes) t step).wire refl clean)
-event_forges s (OnWire _) t step clean = refl
-event_forges s (Asks event) t step clean = refl
-event_forges s (Works event) t step clean = refl
-event_forges s (Switches event) t step clean = refl
-event_forges s (Calms event) t step clean = refl
+event_forges s event t step clean = grind (arith, forged_now, wire_only)
 
 -- A RUN that leads to a lane that nobody forged, and one that leads from it
 pub none_forged : (s : LaneState) (events : List DiskEvent) (t : LaneState) → Run LaneStep s events t → t.wire.forged ≡ false → (s.wire.forged ≡ false) × NobodyForges events
 none_forged s [] t run clean = (ap (λ (l : LaneState). l.wire.forged) run ∙ clean, tt)
-none_forged s (event ∷ events) t run clean =
-    let later = none_forged run.0 events t run.2 clean in
-    let here : forges event ≡ false = event_forges s event run.0 run.1 later.0 in
-    (sym (same_forged s event run.0 (event_honest event here) run.1) ∙ later.0, (here, later.1))
+none_forged s (event ∷ events) t run clean = grind (arith, event_forges, same_forged, event_honest, none_forged run.0 events t run.2 clean)
 
 pub stays_clean : (s : LaneState) (events : List DiskEvent) (t : LaneState) → Run LaneStep s events t → s.wire.forged ≡ false → NobodyForges events → t.wire.forged ≡ false
 stays_clean s [] t run clean none = sym (ap (λ (l : LaneState). l.wire.forged) run) ∙ clean

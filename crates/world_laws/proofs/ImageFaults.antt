@@ -5,21 +5,15 @@ use Rattle.runs.specs.Run.{Run}
 use Rattle.vio_io.specs.Causes.{count_after, last_count, next_count}
 use Rattle.vio_io.proofs.Counts.{one_before}
 use Rattle.disk_law.specs.ListState.{ImageState}
-use Rattle.disk_model.specs.DiskEvent.{Asks, Desc, DiskEvent, Done, Finished, Misplaced, Moved, OnWire, Published, Calms, Stored, Switches, Works}
-use Rattle.disk_model.specs.LaneState.{LaneState}
-use Rattle.world_laws.specs.Settle.{OfLane, SettleEntry}
-use Rattle.world_laws.specs.World.{CalledOnce, LaneMoves, WorldState, WorldStep}
+use Rattle.world_laws.specs.Settle.{SettleEntry}
+use Rattle.world_laws.specs.World.{CalledOnce, WorldState, WorldStep}
 use Rattle.world_laws.proofs.Counted.{count_more}
 use Rattle.world_laws.specs.Failures.{in_entry, is_failed_store, is_flush, is_store, is_store_that, is_write}
 
 -- A COUNT later
 more_before : (n count : ℕ) (b : Bool) → count_after n (count_after (cond b 1 0) count) ≡ count_after (cond b 1 0 + n) count
-more_before n count true =
-    let one : suc n ≡ 1 + n = omega arith in
-    one_before n count ∙ ap (λ (k : ℕ). count_after k count) one
-more_before n count false =
-    let none : n ≡ 0 + n = omega arith in
-    ap (λ (k : ℕ). count_after k count) none
+more_before n count true = grind (arith, one_before)
+more_before n count false = grind (arith)
 
 -- A COUNT OF THE IMAGE that each call raises of which this says so
 abbrev Counts : (ImageState → ℕ) → (ℕ → Bool → Bool) → Type 0
@@ -28,24 +22,9 @@ Counts count says =
     → count j ≡ count_after (cond (says operation failed) 1 0) (count i)
 
 module _ (count : ImageState → ℕ) (says : ℕ → Bool → Bool) (counts : Counts count says) where
-  event_counts : (s : LaneState) (i : ImageState) (event : DiskEvent) (t : LaneState) (j : ImageState) → LaneMoves s i event t j
-      → count j ≡ count_after (cond (is_store_that says event) 1 0) (count i)
-  event_counts s i (OnWire event) t j moves = ap count moves.1
-  event_counts s i (Asks event) t j moves = ap count moves.1
-  event_counts s i (Works (Published id)) t j moves = ap count moves.1
-  event_counts s i (Works (Done id operation status bytes)) t j moves = ap count moves.1
-  event_counts s i (Works (Desc slot bytes)) t j moves = ap count moves.1
-  event_counts s i (Works (Moved unit fault)) t j moves = ap count moves.1
-  event_counts s i (Works (Stored operation block n failed)) t j moves = counts operation failed i j moves.1
-  event_counts s i (Works (Finished slot status)) t j moves = ap count moves.1
-  event_counts s i (Works Misplaced) t j moves = ap count moves.1
-  event_counts s i (Switches event) t j moves = ap count moves.1
-  event_counts s i (Calms event) t j moves = ap count moves.1
-
   entry_counts : (w : WorldState) (entry : SettleEntry) (v : WorldState) → WorldStep w entry v
       → count v.image ≡ count_after (cond (in_entry (is_store_that says) entry) 1 0) (count w.image)
-  entry_counts w (OfLane k event) v step = event_counts step.lane w.image event step.after v.image step.moves
-  entry_counts w _ v step = ap (λ (x : WorldState). count x.image) step
+  entry_counts w entry v step = grind arith
 
   -- A RUN
   run_counts : (w : WorldState) (entries : List SettleEntry) (v : WorldState) → Run WorldStep w entries v

@@ -21,10 +21,7 @@ further p q xs ys behind same =
 
 -- a byte of what stays
 pub byte_before : (place at : ℕ) (xs ys : List ℕ) → place < at → take at xs ≡ take at ys → slice_index xs place ≡ slice_index ys place
-byte_before place at xs ys below same =
-    let one : get_or (take at xs) place 0 ≡ get_or xs place 0 = get_or-take at xs place 0 below in
-    let two : get_or (take at ys) place 0 ≡ get_or ys place 0 = get_or-take at ys place 0 below in
-    sym one ∙ ap (λ (zs : List ℕ). get_or zs place 0) same ∙ two
+byte_before place at xs ys below same = grind (arith, get_or, get_or-take)
 
 pub byte_behind : (place at : ℕ) (xs ys : List ℕ) → at ≤ place → drop at xs ≡ drop at ys → slice_index xs place ≡ slice_index ys place
 byte_behind place at xs ys behind same =

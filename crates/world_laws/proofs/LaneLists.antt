@@ -1,7 +1,6 @@
 -- Lanes by their numbers: one that is set, a condition on each, and what moves them all.
-use Rattle.std.proofs.Common.{◌≡◌, ℕ, zero, suc, ◌+◌, Bool, true, false, List, [], ◌∷◌, ◌++◌, length, slice_get, slice_set, Some, refl}
+use Rattle.std.proofs.Common.{◌≡◌, ℕ, zero, suc, ◌+◌, List, [], ◌∷◌, length, slice_get, slice_set, Some, refl, arith}
 use Rattle.std.proofs.lemmas.Bool.{eqb-true}
-use Rattle.std.specs.Prelude.{◌==◌, if◌then◌else◌}
 use Rattle.runs.specs.Run.{Run}
 use Rattle.disk_model.specs.DiskEvent.{DiskEvent}
 use Rattle.disk_model.specs.LaneState.{LaneState}
@@ -25,12 +24,8 @@ each_set P (x ∷ lanes) zero t all holds = (holds, all.1)
 each_set P (x ∷ lanes) (suc k) t all holds = (all.0, each_set P lanes k t all.1 holds)
 
 -- NOTHING HAPPENED to a lane in an entry of another
-none_where : (c : Bool) (event : DiskEvent) → (c ≡ true → ⊥) → (if c then event ∷ [] else []) ++ [] ≡ []
-none_where true event other = absurd (other refl)
-none_where false event other = refl
-
 pub other_event : (j n : ℕ) (event : DiskEvent) → (n ≡ j → ⊥) → happened j (OfLane n event ∷ []) ≡ []
-other_event j n event other = none_where (n == j) event (λ same. other (eqb-true n j same))
+other_event j n event other = grind (arith, eqb-true)
 
 -- A LANE AMONG THOSE that were moved
 pub lane_moved : (j k n : ℕ) (lanes : List LaneState) (part : List SettleEntry) (behind : List LaneState) (s t : LaneState) → n ≡ j + k → LanesMove j lanes part behind

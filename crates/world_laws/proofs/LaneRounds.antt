@@ -1,12 +1,11 @@
 -- One lane in a round: it stays reached, and what its two steps keep; and what stands where both are calm.
-use Rattle.std.proofs.Common.{◌≡◌, true, false, [], ◌∷◌, ◌++◌, refl, ◌∙◌, subst}
+use Rattle.std.proofs.Common.{◌≡◌, true, false, [], ◌∷◌, ◌++◌, arith}
 use Rattle.std.specs.Prelude.{◌&&◌}
 use Rattle.runs.specs.Run.{run_keeps, run_push}
 use Rattle.ldc_queue.specs.declared.end.End.{End}
 use Rattle.ldc_queue.specs.declared.end.End.TheVariants.{A, B}
 use Rattle.channel_model.specs.WireAt.{IsUp}
-use Rattle.channel_model.specs.WireEvent.{Blocked, Idle}
-use Rattle.disk_model.specs.DiskEvent.{DiskEvent, Off, OnWire, Switches}
+use Rattle.disk_model.specs.DiskEvent.{DiskEvent}
 use Rattle.disk_model.specs.LaneState.{LaneState, fresh}
 use Rattle.disk_model.specs.LaneStep.{LaneStep}
 use Rattle.disk_model.specs.Reached.{IsReached}
@@ -20,21 +19,11 @@ use Rattle.world_laws.specs.Rounds.{LaneRound, MakesRound, is_quiet}
 use Rattle.world_laws.specs.Sums.{IsUnforged}
 
 -- CALM, as a test and as a condition
-off_calm : (e : End) → IsStep e (Switches Off) → IsCalm e (Switches Off)
-off_calm A own = absurd own
-off_calm B own = tt
-
 calm_is : (e : End) (event : DiskEvent) → IsStep e event → is_calm event ≡ true → IsCalm e event
-calm_is e (OnWire (Idle d)) own now = own
-calm_is e (OnWire (Blocked d)) own now = own
-calm_is e (Switches Off) own now = off_calm e own
-calm_is e _ own now = absurd (cc now)
+calm_is e event own now = grind arith
 
 pub is_calm_where : (e : End) (event : DiskEvent) → IsCalm e event → is_calm event ≡ true
-is_calm_where e (OnWire (Idle d)) calm = refl
-is_calm_where e (OnWire (Blocked d)) calm = refl
-is_calm_where B (Switches Off) calm = refl
-is_calm_where e _ calm = absurd calm
+is_calm_where e event calm = grind arith
 
 pub reached_on : (s : LaneState) (event : DiskEvent) (t : LaneState) → IsReached s → LaneStep s event t → IsReached t
 reached_on s event t at step = record {
@@ -56,24 +45,14 @@ pub record TwoSteps (s : LaneState) (client server : DiskEvent) (t : LaneState) 
   pub of_server : IsStep B server
 
 pub two_steps : (s : LaneState) (client server : DiskEvent) (t : LaneState) → MakesRound s (client ∷ server ∷ []) t → TwoSteps s client server t
-two_steps s client server t made = record {
-  between = made.run.0;
-  first = made.run.1;
-  of_client = made.of_turn.0;
-  second = subst (LaneStep made.run.0 server) made.run.2.2 made.run.2.1;
-  of_server = made.of_turn.1;
-}
+two_steps s client server t made = grind arith
 
 pub round_keeps : (s : LaneState) (r : LaneRound) (t : LaneState) → MakesRound s r t → StepKeeps s t
 round_keeps s (client ∷ server ∷ []) t made =
     let at : TwoSteps s client server t = two_steps s client server t made in
     let one : StepKeeps s at.between = step_keeps s A client at.between at.first at.of_client in
     let two : StepKeeps at.between t = step_keeps at.between B server t at.second at.of_server in
-    record {
-      forged = two.forged ∙ one.forged;
-      whole = λ w. two.whole (one.whole w);
-      stopped = two.stopped ∙ one.stopped;
-    }
+    grind arith
 round_keeps s [] t made = absurd made.of_turn
 round_keeps s (client ∷ []) t made = absurd made.of_turn
 round_keeps s (client ∷ server ∷ other ∷ events) t made = absurd made.of_turn

@@ -1,5 +1,5 @@
 -- What an event of a lane over a told image leaves: all around the lane's region, also where somebody forges and where the store fails.
-use Rattle.std.proofs.Common.{◌≡◌, ℕ, ◌+◌, ◌*◌, ◌≤◌, Bool, Option, Some, List, length, inl, inr, refl, ap, ◌∙◌, subst, arith}
+use Rattle.std.proofs.Common.{◌≡◌, ℕ, ◌+◌, ◌*◌, ◌≤◌, Bool, Option, Some, List, length, refl, ap, ◌∙◌, subst, arith}
 use Rattle.runs.specs.Lawful.{log_of}
 use Rattle.runs.specs.Run.{Run}
 use Rattle.vdisk_msg.specs.declared.desc.DiskDesc.{DiskDesc}
@@ -15,7 +15,7 @@ use Rattle.world_laws.specs.World.{LaneMoves}
 use Rattle.world_laws.specs.Stays.{StaysAround}
 use Rattle.world_laws.proofs.Checking.{ServesChecked, run_checked}
 use Rattle.world_laws.proofs.ImageKeeping.{front_of, further}
-use Rattle.world_laws.proofs.UnitPlaces.{StoredAt, Stores, Wrote, stored_at}
+use Rattle.world_laws.proofs.UnitPlaces.{StoredAt, Stores, stored_at}
 
 -- A UNIT of a lane that was reached
 pub record UnitStored (shape : Shape) (s : LaneState) (operation block count : ℕ) (failed : Bool) (t : LaneState) (store : List ℕ) (told : Option (List ℕ)) : Type 0 where
@@ -48,26 +48,9 @@ unit_stored shape events s operation block count failed t store told sound run r
 pub all_stays : (shape : Shape) (store : List ℕ) (told : Option (List ℕ)) → told ≡ Some store → StaysAround shape store told
 all_stays shape store told is = record { now = store; told_is = is; long = refl; around = record { before = refl; behind = refl } }
 
-wrote_around : (shape : Shape) (desc : DiskDesc) (store : List ℕ) (told : Option (List ℕ)) → (desc.operation ≡ 2 → 512 * desc.offset + desc.size ≤ 512 * shape.blocks) → Wrote desc shape.first store told
-    → StaysAround shape store told
-wrote_around shape desc store told within wrote =
-    let inside = within wrote.writes in
-    let begins = wrote.begins in
-    let ends = wrote.ends in
-    record {
-      now = wrote.now;
-      told_is = wrote.told_is;
-      long = wrote.long;
-      around = record {
-        before = front_of (512 * shape.first) wrote.at wrote.now store (omega (arith, begins)) wrote.before;
-        behind = further wrote.past (512 * (shape.first + shape.blocks)) wrote.now store (omega (arith, ends, inside)) wrote.behind;
-      };
-    }
-
 stores_around : (shape : Shape) (desc : DiskDesc) (store : List ℕ) (told : Option (List ℕ)) → (desc.operation ≡ 2 → 512 * desc.offset + desc.size ≤ 512 * shape.blocks) → Stores desc shape.first store told
     → StaysAround shape store told
-stores_around shape desc store told within (inl same) = all_stays shape store told same
-stores_around shape desc store told within (inr wrote) = wrote_around shape desc store told within wrote
+stores_around shape desc store told within given = grind (arith, all_stays, front_of, further)
 
 unit_around : (shape : Shape) (s : LaneState) (operation block count : ℕ) (failed : Bool) (t : LaneState) (store : List ℕ) (told : Option (List ℕ)) → UnitStored shape s operation block count failed t store told
     → StaysAround shape store told

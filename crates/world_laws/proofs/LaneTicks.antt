@@ -1,5 +1,5 @@
 -- One lane at the tick after a quiet round: what remains falls where nobody forged, and nothing is lost any more after it.
-use Rattle.std.proofs.Common.{◌≡◌, ◌<◌, ◌⊎◌, inl, inr, Bool, true, false, None, refl, sym, ap, ◌∙◌}
+use Rattle.std.proofs.Common.{◌≡◌, ◌<◌, ◌⊎◌, inl, inr, Bool, true, false, None, refl, sym, arith}
 use Rattle.std.specs.Prelude.{if◌then◌else◌}
 use Rattle.ldc_queue.specs.declared.end.End.TheVariants.{A}
 use Rattle.vio_tag.specs.declared.cause.Cause.TheVariants as the_cause
@@ -10,7 +10,6 @@ use Rattle.disk_model.specs.Reached.{IsReached}
 use Rattle.lane_laws.proofs.TickSteps.{tick_begins}
 use Rattle.lane_laws.specs.Remaining.{remaining}
 use Rattle.lane_laws.specs.TickBegins.{TickBegins}
-use Rattle.lane_laws.specs.CalmEnds.{HaveFinished, StepKeeps}
 use Rattle.world_laws.proofs.LaneRounds.{quiet_finished, quiet_same, quiet_up, round_keeps, round_reached}
 use Rattle.world_laws.specs.Rounds.{LaneRound, MakesRound, is_quiet}
 use Rattle.world_laws.specs.Sums.{IsUnforged}
@@ -40,18 +39,10 @@ tick_at s t at step = tick_begins at.shape at.events s A the_cause.Tick None 0 t
 -- a quiet lane that waits lost a packet
 waits_lossy : (s : LaneState) (r : LaneRound) (t : LaneState) → IsReached s → IsUnforged s → MakesRound s r t → is_quiet r ≡ true → s.stopped ≡ false → is_finished t.client ≡ false
     → (s.wire.lossy ≡ true) ⊎ (s.wire.lossy ≡ false) → t.wire.lossy ≡ true
-waits_lossy s r t at clean made quiet runs unfinished (inl lossy) = ap (λ (x : LaneState). x.wire.lossy) (quiet_same s r t at clean runs made quiet) ∙ lossy
-waits_lossy s r t at clean made quiet runs unfinished (inr whole) =
-    let done : HaveFinished t = quiet_finished s r t at clean whole runs made quiet in
-    let never : true ≡ false = sym done.finished ∙ unfinished in
-    absurd (cc never)
+waits_lossy s r t given clean made quiet runs unfinished also = grind (arith, quiet_same, quiet_finished)
 
 pub tick_falls : (s : LaneState) (r : LaneRound) (t u : LaneState) → IsReached s → IsUnforged s → MakesRound s r t → is_quiet r ≡ true → waits_on t ≡ true → LaneStep t tick u → remaining u < remaining t
-tick_falls s r t u at clean made quiet waits step =
-    let keeps : StepKeeps s t = round_keeps s r t made in
-    let both = waits_where (is_finished t.client) t.stopped waits in
-    (tick_at t u (round_reached s r t at made) step).falls (quiet_up s r t at made quiet)
-    (waits_lossy s r t at clean made quiet (sym keeps.stopped ∙ both.1) both.0 (either s.wire.lossy))
+tick_falls s r t u given clean made quiet waits step = grind (arith, round_keeps, waits_where, tick_at, round_reached, quiet_up, quiet_same, quiet_finished, either)
 
 pub tick_whole : (s : LaneState) (r : LaneRound) (t u : LaneState) → IsReached s → MakesRound s r t → is_quiet r ≡ true → LaneStep t tick u → u.wire.lossy ≡ false
 tick_whole s r t u at made quiet step = (tick_at t u (round_reached s r t at made) step).whole (quiet_up s r t at made quiet)

@@ -1,6 +1,6 @@
 -- What is known of an event of a lane in the log of those before it: all laws of a lane, and where nobody forged, that the slot of a
 -- completion is DONE with its status.
-use Rattle.std.proofs.Common.{◌≡◌, ℕ, ◌-◌, ◌%◌, false, List, [], ◌∷◌, ◌++◌, Some, sym, ap, ◌∙◌}
+use Rattle.std.proofs.Common.{◌≡◌, ℕ, ◌-◌, ◌%◌, false, List, [], ◌∷◌, ◌++◌, Some, sym, ap, ◌∙◌, arith}
 use Rattle.std.specs.Prelude.{⊤, slice_get}
 use Rattle.runs.specs.Lawful.{Lawful, lawful_split, log_of}
 use Rattle.runs.specs.Run.{Run, run_push}
@@ -9,7 +9,7 @@ use Rattle.lane_laws.specs.DiskLog.{DiskLog, after, nothing_yet}
 use Rattle.lane_laws.specs.May.{May}
 use Rattle.lane_laws.specs.RingLog.{Done as IsDone}
 use Rattle.lane_laws.specs.WorkLog.{ClientCounts}
-use Rattle.disk_model.specs.DiskEvent.{Asks, Desc, DiskEvent, Done, Finished, Misplaced, Moved, OnWire, Published, Calms, Stored, Switches, Worked, Works}
+use Rattle.disk_model.specs.DiskEvent.{DiskEvent, Done, Worked, Works}
 use Rattle.disk_model.specs.LaneState.{IsShape, LaneState, Shape, fresh}
 use Rattle.disk_model.specs.LaneStep.{LaneStep}
 use Rattle.lane_laws.proofs.RingAlong.{run_status}
@@ -37,20 +37,11 @@ slot_worked : (shape : Shape) → IsShape shape → (events : List DiskEvent) (s
 slot_worked shape sound events s (Done id operation status bytes) t run step clean =
     let found = run_status shape events s t id operation status bytes sound run step clean in
     record { client = found.0; open_is = found.1.open_is; done_is = found.1.done_is }
-slot_worked shape sound events s (Published id) t run step clean = tt
-slot_worked shape sound events s (Desc slot bytes) t run step clean = tt
-slot_worked shape sound events s (Moved unit fault) t run step clean = tt
-slot_worked shape sound events s (Stored operation block count failed) t run step clean = tt
-slot_worked shape sound events s (Finished slot status) t run step clean = tt
-slot_worked shape sound events s Misplaced t run step clean = tt
+slot_worked shape sound events s event t run step clean = grind arith
 
 slot_at : (shape : Shape) → IsShape shape → (events : List DiskEvent) (s : LaneState) (event : DiskEvent) (t : LaneState) → Run LaneStep (fresh shape) events s → LaneStep s event t
     → (log_of after (nothing_yet shape) events).wire.forged ≡ false → SlotAt (log_of after (nothing_yet shape) events) event
-slot_at shape sound events s (Works event) t run step clean = slot_worked shape sound events s event t run step clean
-slot_at shape sound events s (OnWire event) t run step clean = tt
-slot_at shape sound events s (Asks event) t run step clean = tt
-slot_at shape sound events s (Switches event) t run step clean = tt
-slot_at shape sound events s (Calms event) t run step clean = tt
+slot_at shape sound events s event t run step clean = grind (arith, slot_worked)
 
 facts_at : (shape : Shape) → IsShape shape → OfEachRun Facts shape
 facts_at shape sound events s event t run step =

@@ -13,13 +13,7 @@ use Rattle.world_laws.specs.Settle.{GoesOn, OfLane, RunsOut, SettleEntry, Settle
 
 -- IN A LONGER PART
 pub moved_left : (x : ℕ) (one two : List SettleEntry) → MovedIn x one → MovedIn x (one ++ two)
-moved_left x one two at = record {
-  before = at.before;
-  event = at.event;
-  later = at.later ++ two;
-  is = ap (λ (l : List SettleEntry). l ++ two) at.is ∙ append_assoc at.before (OfLane x at.event ∷ at.later) two;
-  loud = at.loud;
-}
+moved_left x one two given = grind (arith, append_assoc)
 
 pub moved_right : (x : ℕ) (one two : List SettleEntry) → MovedIn x two → MovedIn x (one ++ two)
 moved_right x one two at = record {

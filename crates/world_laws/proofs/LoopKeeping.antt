@@ -1,28 +1,23 @@
 -- What each event keeps of a lane: its shape; and the client's next id, but where a request is accepted.
 use Rattle.std.proofs.Common.{◌≡◌, ℕ, ◌+◌, Bool, true, false, Option, Some, None, List, [], ◌∷◌, slice_get, slice_set, Result, Ok, Err, refl, sym, ap, ◌∙◌, subst, arith}
-use Rattle.std.specs.Prelude.{zero, suc, nat_le, nat_lt, ◌&&◌, if◌then◌else◌, ⊤}
+use Rattle.std.specs.Prelude.{zero, suc, if◌then◌else◌, ⊤}
 use Rattle.ldc_link.specs.LinkState.{cleared}
 use Rattle.ldc_link.specs.Taking.{Heard, LinkTake, Unheard}
 use Rattle.ldc_packet.specs.declared.packet.Subtype.{Subtype}
-use Rattle.ldc_packet.specs.declared.packet.Subtype.TheVariants.{Ack, Nack}
 use Rattle.ldc_queue.specs.declared.end.End.{End}
 use Rattle.ldc_queue.specs.declared.end.End.TheVariants.{A, B}
 use Rattle.vio_tag.specs.declared.cause.Cause.{Cause}
-use Rattle.vio_tag.specs.declared.cause.Cause.TheVariants as the_cause
 use Rattle.vio_tag.specs.declared.message.Message.{Message}
 use Rattle.vio_tag.specs.declared.message.MsgBody.{MsgBody}
-use Rattle.vio_tag.specs.declared.message.MsgBody.TheVariants.{DringData}
 use Rattle.vio_tag.specs.declared.message.TagFault.{TagFault}
 use Rattle.lane_laws.specs.Rules.{Faults, Goes, GoesOpen, HandshakeTake, handshake_take, sid_fault}
-use Rattle.channel_model.specs.WireEvent.{Blocked, ByRestart, ByScript, ByStep, ByTick, Declines, Giver, Idle, Injected, Joined, Lost, Poked, Reset, Sent, Took, WireEvent, giver}
+use Rattle.channel_model.specs.WireEvent.{Blocked, Giver, Idle, Joined, Poked, Sent, Took, WireEvent}
 use Rattle.disk_model.specs.ClientRule.{client_rule}
-use Rattle.disk_model.specs.ClientState.{ClientSession, ClientState, slot_in}
+use Rattle.disk_model.specs.ClientState.{ClientSession, ClientState}
 use Rattle.disk_model.specs.ClientTaking as taking
-use Rattle.disk_model.specs.DiskEvent.{Accepted, Admitted, Asks, Calm, CalmReset, CalmRestart, CalmStart, CalmStop, CalmTick, Desc, DiskEvent, Done, Finished, Full, Misplaced, Moved, Off, OnWire, Published, Refused, Calms, Started, Stopped, Stored, Switched, Switches, Worked, Works}
+use Rattle.disk_model.specs.DiskEvent.{Accepted, Admitted, Asks, Calm, DiskEvent, Full, Off, OnWire, Refused, Calms, Started, Stopped, Switched, Switches, Worked, Works}
 use Rattle.disk_model.specs.LaneState.{LaneState}
 use Rattle.disk_model.specs.LaneStep.{EndOnWire, LaneStep, ResetBy, RestStep, TurnStep, WireStep, WorkStep}
-use Rattle.channel_model.specs.Ranges.{is_other}
-use Rattle.disk_model.specs.ClientTaking.{range_length}
 use Rattle.channel_model.specs.Seeing.{seen}
 use Rattle.lane_laws.proofs.Requesting.{held_kept, sent_kept}
 use Rattle.lane_laws.proofs.RingPages.{same_pages}
@@ -47,17 +42,8 @@ next_handshake s (Goes h) = refl
 next_handshake s (GoesOpen h) = refl
 next_handshake s (Faults cause) = tt
 
-next_ack : (s : ClientState) (session : ClientSession) (ident start end : ℕ) → KeepsNext s.next_id (taking.takes_ack s session ident start end)
-next_ack s session ident start end =
-    next_if s.next_id (is_other s.handshake.draft.ident_own ident) (taking.Resets (the_cause.Ident s.handshake.draft.ident_own ident)) _ tt
-    (next_if s.next_id (is_other (slot_in s session.acked) start) (taking.Resets (the_cause.Slot (slot_in s session.acked) start)) _ tt
-    (next_if s.next_id (nat_lt end s.slots && nat_le (session.acked + range_length s.slots start end) session.announced)
-    (taking.GoesOn (taking.acknowledged s session (range_length s.slots start end))) (taking.Resets (the_cause.RangeEnd end)) refl tt))
-
 next_in : (s : ClientState) (session : ClientSession) (message : Message) (subtype : Subtype) (b : MsgBody) → KeepsNext s.next_id (taking.in_session s session message subtype b)
-next_in s session message Ack (DringData seq ident start end state) = next_ack s session ident start end
-next_in s session message Nack (DringData seq ident start end state) = tt
-next_in s session message _ _ = next_handshake s (handshake_take s.handshake message)
+next_in s session message subtype b = grind (arith, next_handshake)
 
 next_or : (n : ℕ) (fault : Option Cause) (rest : taking.ClientTake) → KeepsNext n rest → KeepsNext n (taking.sid_first fault rest)
 next_or n None rest keeps = keeps
@@ -106,44 +92,19 @@ next_blocked A s t step =
     (held_kept s.client at (client_rule s.client at) t.client (client_may s.client at) step.step.0).next
 next_blocked B s t step = ap (λ (x : LaneState). x.client.next_id) step.1.is
 
-next_reset : (e : End) (s : LaneState) (cause : Cause) (packet : Option (List ℕ)) (lost : ℕ) (t : LaneState) → EndOnWire e s (Reset e cause packet lost) t → t.client.next_id ≡ s.client.next_id
-next_reset A s cause packet lost t step = ap (λ (x : ClientState). x.next_id) step.step.2
-next_reset B s cause packet lost t step = ap (λ (x : LaneState). x.client.next_id) step.1.is
-
 next_reset_by : (by : Giver) (e : End) (s : LaneState) (cause : Cause) (packet : Option (List ℕ)) (lost : ℕ) (t : LaneState) → ResetBy by e s cause packet lost t → t.client.next_id ≡ s.client.next_id
-next_reset_by ByStep e s cause packet lost t step = next_reset e s cause packet lost t step
-next_reset_by ByScript A s cause packet lost t step = ap (λ (x : LaneState). x.client.next_id) step.2
-next_reset_by ByScript B s cause packet lost t step = ap (λ (x : LaneState). x.client.next_id) step.1.2
-next_reset_by ByRestart A s cause packet lost t step = absurd step
-next_reset_by ByRestart B s cause packet lost t step = ap (λ (x : LaneState). x.client.next_id) step.1.2
-next_reset_by ByTick A s cause packet lost t step = ap (λ (x : LaneState). x.client.next_id) step.1.2
-next_reset_by ByTick B s cause packet lost t step = absurd step
+next_reset_by by e s cause packet lost t step = grind arith
 
 next_poked : (e : End) (s : LaneState) (at : ℕ) (bytes : List ℕ) (t : LaneState) → WireStep s (Poked e at bytes) t → t.client.next_id ≡ s.client.next_id
 next_poked A s at bytes t step = ap (λ (x : LaneState). x.client.next_id) step.1
 next_poked B s at bytes t step = absurd step
 
 next_on_wire : (s : LaneState) (event : WireEvent) (t : LaneState) → WireStep s event t → t.client.next_id ≡ s.client.next_id
-next_on_wire s (Joined e lost) t step = next_joined e s lost t step
-next_on_wire s (Took e packet opens) t step = next_took e s packet opens t step
-next_on_wire s (Sent e packet opens) t step = next_sent e s packet opens t step
-next_on_wire s (Idle e) t step = next_idle e s t step
-next_on_wire s (Blocked e) t step = next_blocked e s t step
-next_on_wire s (Reset e cause packet lost) t step = next_reset_by (giver cause) e s cause packet lost t step
-next_on_wire s (Lost e packet) t step = ap (λ (x : LaneState). x.client.next_id) step.1
-next_on_wire s (Injected e packet) t step = ap (λ (x : LaneState). x.client.next_id) step.2
-next_on_wire s (Poked e at bytes) t step = next_poked e s at bytes t step
-next_on_wire s (Declines d) t step = ap (λ (x : LaneState). x.client.next_id) step.1
+next_on_wire s event t step = grind (arith, next_joined, next_took, next_sent, next_idle, next_blocked, next_reset_by, next_poked)
 
 -- nor any work, call or refusal
 next_works : (s : LaneState) (event : Worked) (t : LaneState) → WorkStep s event t → t.client.next_id ≡ s.client.next_id
-next_works s (Published id) t step = ap (λ (x : ClientState). x.next_id) step.step.is
-next_works s (Done id operation status bytes) t step = ap (λ (x : ClientState). x.next_id) step.step.is
-next_works s (Desc slot bytes) t step = ap (λ (x : LaneState). x.client.next_id) step.1.is
-next_works s (Moved unit fault) t step = ap (λ (x : LaneState). x.client.next_id) step.1.is
-next_works s (Stored operation block count failed) t step = ap (λ (x : LaneState). x.client.next_id) step.1.is
-next_works s (Finished slot status) t step = ap (λ (x : LaneState). x.client.next_id) step.1.is
-next_works s Misplaced t step = absurd step
+next_works s event t step = grind arith
 
 next_turns : (s : LaneState) (event : Switched) (t : LaneState) → TurnStep s event t → t.client.next_id ≡ s.client.next_id
 next_turns s Stopped t step = ap (λ (x : LaneState). x.client.next_id) step.1
@@ -151,12 +112,7 @@ next_turns s Started t step = ap (λ (x : LaneState). x.client.next_id) step.1
 next_turns s Off t step = ap (λ (x : LaneState). x.client.next_id) step.1
 
 next_rests : (s : LaneState) (event : Calm) (t : LaneState) → RestStep s event t → t.client.next_id ≡ s.client.next_id
-next_rests s CalmTick t step = ap (λ (x : LaneState). x.client.next_id) step.1
-next_rests s CalmStop t step = ap (λ (x : LaneState). x.client.next_id) step.1
-next_rests s CalmStart t step = ap (λ (x : LaneState). x.client.next_id) step.1
-next_rests s (CalmReset A) t step = absurd step
-next_rests s (CalmReset B) t step = ap (λ (x : LaneState). x.client.next_id) step.1
-next_rests s CalmRestart t step = ap (λ (x : LaneState). x.client.next_id) step.1
+next_rests s event t step = grind arith
 
 next_asks : (s : LaneState) (event : Admitted) (t : LaneState) → LaneStep s (Asks event) t → t.client.next_id ≡ next_behind (Asks event) s.client.next_id
 next_asks s (Accepted id request) t step = ap (λ (x : ClientState). x.next_id) step.0.5

@@ -6,7 +6,7 @@ use Rattle.disk_model.specs.DiskEvent.{DiskEvent}
 use Rattle.disk_model.specs.LaneStep.{LaneStep}
 use Rattle.disk_model.specs.Reached.{IsReached}
 use Rattle.lane_kinds.proofs.LaneFronts.{fronts_lead}
-use Rattle.lane_kinds.proofs.Leading.{front_leads, part_leads, rounds_lead}
+use Rattle.lane_kinds.proofs.Leading.{front_leads, part_leads}
 use Rattle.lane_kinds.proofs.Moving as kind
 use Rattle.lane_kinds.proofs.Moving.{both_move, lanes_end, lanes_lead, none_move, nothing_move}
 use Rattle.lane_kinds.specs.Laws.{Ends, FrontsLead, Leads}
@@ -15,7 +15,7 @@ use Rattle.world_laws.specs.Along.{LanesMove, event_at, happened}
 use Rattle.world_laws.specs.Begun.{SettleFront, fronts}
 use Rattle.world_laws.specs.DiskKind.{disk_kind}
 use Rattle.world_laws.specs.Rounds.{Each}
-use Rattle.world_laws.specs.Settle.{GoesOn, SettleEntry, SettlePart, SettleRound, Settled, Settling, disk_entries, disks, entries_of_rounds}
+use Rattle.world_laws.specs.Settle.{SettleEntry, SettlePart, Settled, disk_entries, disks}
 
 pub happened_both : (k : ℕ) (before behind : List SettleEntry) → happened k (before ++ behind) ≡ happened k before ++ happened k behind
 happened_both k before behind = kind.happened_both event_at k before behind
@@ -43,9 +43,6 @@ settled_moves lanes = ends.answer lanes
 
 pub fronts_move : FrontsLead disks fronts (LanesMove 0)
 fronts_move = fronts_lead disk_kind disk_entries event_at disk_reads disk_silent
-
-pub rounds_move_lanes : (w : Settling) (rounds : List SettleRound) (v : Settling) → Run GoesOn w rounds v → LanesMove 0 w.lanes (entries_of_rounds rounds) v.lanes
-rounds_move_lanes w rounds v run = rounds_lead disks (LanesMove 0) leads w rounds v run
 
 pub part_moves : (start : List LaneState) (part : List SettleEntry) (behind : List LaneState) → SettlePart start part behind → LanesMove 0 start part behind
 part_moves start part behind settle = part_leads disks (LanesMove 0) leads ends start part behind settle

@@ -8,7 +8,7 @@ use Rattle.vdisk_msg.specs.declared.request.Request.{Request}
 use Rattle.vdisk_msg.specs.declared.request.Request.TheVariants.{Flush, Read, Write}
 use Rattle.vdisk_msg.specs.Requested.{block_of, size_of}
 use Rattle.vdisk_msg.specs.Requests.{operation_of}
-use Rattle.disk_model.specs.DiskEvent.{Accepted, Asks, Desc, DiskEvent, Done, Finished, Full, Misplaced, Moved, Off, OnWire, Published, Refused, Calms, Started, Stopped, Stored, Switches, Works}
+use Rattle.disk_model.specs.DiskEvent.{DiskEvent}
 use Rattle.disk_model.specs.LaneState.{IsShape, LaneState, Shape, fresh}
 use Rattle.disk_model.specs.LaneStep.{LaneStep}
 use Rattle.disk_model.specs.ServerState.{Work}
@@ -48,21 +48,7 @@ apart_push place first (x ∷ requests) request all one = (all.0, apart_push pla
 
 -- those that the log of a lane has as accepted
 apart_behind : (place first : ℕ) (l : DiskLog) (event : DiskEvent) → NamesNot place first event → AllApart place first l.work.issued → AllApart place first (after l event).work.issued
-apart_behind place first l (OnWire event) named all = subst (AllApart place first) (sym (wired_keeps l.shape.slots l.transcript l.work event).issued) all
-apart_behind place first l (Asks (Accepted id request)) named all = apart_push place first l.work.issued request all named
-apart_behind place first l (Asks (Full request)) named all = all
-apart_behind place first l (Asks (Refused why request)) named all = all
-apart_behind place first l (Works (Published id)) named all = all
-apart_behind place first l (Works (Done id operation status bytes)) named all = all
-apart_behind place first l (Works (Desc slot bytes)) named all = all
-apart_behind place first l (Works (Moved unit fault)) named all = all
-apart_behind place first l (Works (Stored operation block count failed)) named all = all
-apart_behind place first l (Works (Finished slot status)) named all = all
-apart_behind place first l (Works Misplaced) named all = all
-apart_behind place first l (Switches Stopped) named all = all
-apart_behind place first l (Switches Started) named all = all
-apart_behind place first l (Switches Off) named all = all
-apart_behind place first l (Calms event) named all = all
+apart_behind place first l event named all = grind (arith, wired_keeps, apart_push)
 
 issued_apart : (place first : ℕ) (l : DiskLog) (events : List DiskEvent) → NamesNo place first events → AllApart place first l.work.issued → AllApart place first (log_of after l events).work.issued
 issued_apart place first l [] named all = all
@@ -110,12 +96,8 @@ apart_byte place first desc (Write block count fill) store told size offset oper
     record { now = wrote.now; told_is = wrote.told_is; long = wrote.long; byte = by_side apart }
   where
     by_side : (place < 512 * (first + block)) ⊎ (512 * (first + block + count) ≤ place) → slice_index wrote.now place ≡ slice_index store place
-    by_side (inl below) =
-        let begins = wrote.begins in
-        byte_before place wrote.at wrote.now store (omega (arith, below, begins, offset)) wrote.before
-    by_side (inr above) =
-        let ends = wrote.ends in
-        byte_behind place wrote.past wrote.now store (omega (arith, above, ends, offset, size)) wrote.behind
+    by_side (inl below) = grind (arith, byte_before)
+    by_side (inr above) = grind (arith, byte_behind)
 
 pub same_byte : (place : ℕ) (store : List ℕ) (told : Option (List ℕ)) → told ≡ Some store → StaysAt place store told
 same_byte place store told is = record { now = store; told_is = is; long = refl; byte = refl }

@@ -47,13 +47,7 @@ byte_on place first told now before behind = record { now = behind.now; told_is 
 
 -- OF A FRONT of entries
 alone_front : (shapes : List Shape) (place : ℕ) (past : List SettleEntry) (entry : SettleEntry) → AllLeaveAlone shapes place (past ++ entry ∷ []) → AllLeaveAlone shapes place past
-alone_front shapes place past entry alone k shape there =
-    front (happened k past) (happened k (entry ∷ []))
-    (subst (λ (l : List DiskEvent). LeavesAlone place shape l) (happened_both k past (entry ∷ [])) (alone k shape there))
-  where
-    front : (one two : List DiskEvent) → LeavesAlone place shape (one ++ two) → LeavesAlone place shape one
-    front one two (inl out) = inl out
-    front one two (inr clean) = inr (forges_front one two clean.0, names_front place shape.first one two clean.1)
+alone_front shapes place past entry alone k shape there = grind (arith, happened_both, forges_front, names_front)
 
 -- OUTSIDE of the region of its disk the byte stays by any event
 around_byte : (place : ℕ) (shape : Shape) (store : List ℕ) (told : Option (List ℕ)) → IsOutOf place shape → StaysAround shape store told → StaysAt place store told

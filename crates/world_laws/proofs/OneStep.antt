@@ -6,19 +6,18 @@ use Rattle.cookie_copy.specs.declared.fault.CopyFault.{CopyFault}
 use Rattle.ldc_queue.specs.declared.end.End.{End}
 use Rattle.ldc_queue.specs.declared.end.End.TheVariants.{A, B}
 use Rattle.vio_tag.specs.declared.cause.Cause.{Cause}
-use Rattle.vio_io.specs.Stores.{WritesRange}
 use Rattle.vdisk_msg.specs.declared.request.Request.{Request}
 use Rattle.vdisk_msg.specs.Requests.{AreSound, after_request, defect, operation_of}
 use Rattle.channel_model.specs.WireEvent.{Blocked, ByStep, Declines, Idle, Injected, Joined, Lost, Poked, Reset, Sent, Took, WireEvent, giver}
 use Rattle.disk_law.specs.ListState.{ImageState}
 use Rattle.lane_laws.specs.DiskLog.{after, nothing_yet}
 use Rattle.disk_model.specs.ClientState.{ClientState}
-use Rattle.disk_model.specs.DiskEvent.{Asks, Desc, DiskEvent, Done, Finished, Misplaced, Moved, Off, OnWire, Published, Calms, Started, Stopped, Stored, Switches, Works}
+use Rattle.disk_model.specs.DiskEvent.{Desc, DiskEvent, Done, Finished, Moved, OnWire, Published, Stored, Works}
 use Rattle.disk_model.specs.LaneState.{LaneState, NearCounts, Shape}
 use Rattle.disk_model.specs.LaneStep.{EndOnWire, LaneStep, WireStep, near_on_wire}
 use Rattle.disk_model.specs.Served.{Served}
 use Rattle.disk_model.specs.Served as served
-use Rattle.disk_model.specs.ServerState.{Ends, Flushes, Gathers, Gives, Progress, Reads, ServerState, Work, Writes}
+use Rattle.disk_model.specs.ServerState.{ServerState, Work}
 use Rattle.lane_laws.proofs.Completions.{run_shows}
 use Rattle.lane_laws.proofs.NearRuns.{run_near}
 use Rattle.lane_laws.proofs.RegionRuns.{run_around, run_served}
@@ -75,17 +74,13 @@ quietly shape p s event t i j front over same hidden silent = inl (record {
 })
 
 -- ON THE WIRE
-end_near : (e : End) (s : LaneState) (event : WireEvent) (t : LaneState) → EndOnWire e s event t → t.near ≡ near_on_wire s event
-end_near A s event t step = ap (λ (x : LaneState). x.near) step.is
-end_near B s event t step = ap (λ (x : LaneState). x.near) step.1.is
-
 -- a step on the wire that resets nothing
 record OnlyWire (s : LaneState) (event : WireEvent) (t : LaneState) : Type 0 where
   near : t.near ≡ s.near
   hidden : is_shown (OfLane 0 (OnWire event)) ≡ false
 
 only_wire : (e : End) (s : LaneState) (event : WireEvent) (t : LaneState) → EndOnWire e s event t → near_on_wire s event ≡ s.near → is_shown (OfLane 0 (OnWire event)) ≡ false → OnlyWire s event t
-only_wire e s event t step near hidden = record { near = end_near e s event t step ∙ near; hidden = hidden }
+only_wire e s event t step near hidden = grind arith
 
 -- an end resets itself after a loss alone, and nothing was lost
 never_resets : (shape : Shape) (p : Plain) (s : LaneState) (store : List ℕ) (d : End) (cause : Cause) (packet : Option (List ℕ)) (lost : ℕ) (t : LaneState) → IsFirstShape shape → Stands shape p s store
@@ -128,17 +123,7 @@ wire_silent shape p s store e event t front stands own step =
 -- THE WORK that is no call of the store
 published_silent : (shape : Shape) (p : Plain) (s : LaneState) (store : List ℕ) (id : ℕ) (t : LaneState) → Stands shape p s store → LaneStep s (Works (Published id)) t
     → Silent shape p s (Works (Published id)) t store store
-published_silent shape p s store id t stands step = record {
-  step = step;
-  keeps = step_keeps s A (Works (Published id)) t step tt;
-  well = failed_stays s (Works (Published id)) t step refl stands.lane.well;
-  early = ap (λ (x : LaneState). x.near.m) step.is ∙ stands.lane.early;
-  done = λ l. refl;
-  issued = λ l. refl;
-  content = refl;
-  image = refl;
-  behind = refl;
-}
+published_silent shape p s store id t stands step = grind (arith, step_keeps, failed_stays)
 
 desc_silent : (shape : Shape) (p : Plain) (s : LaneState) (store : List ℕ) (slot : ℕ) (bytes : List ℕ) (t : LaneState) → Stands shape p s store → LaneStep s (Works (Desc slot bytes)) t
     → Silent shape p s (Works (Desc slot bytes)) t store store
@@ -156,55 +141,19 @@ desc_silent shape p s store slot bytes t stands step = record {
 
 moved_silent : (shape : Shape) (p : Plain) (s : LaneState) (store : List ℕ) (unit : ℕ) (fault : Option CopyFault) (t : LaneState) → Stands shape p s store → LaneStep s (Works (Moved unit fault)) t
     → Silent shape p s (Works (Moved unit fault)) t store store
-moved_silent shape p s store unit fault t stands step = record {
-  step = step;
-  keeps = step_keeps s B (Works (Moved unit fault)) t step tt;
-  well = failed_stays s (Works (Moved unit fault)) t step refl stands.lane.well;
-  early = ap (λ (x : LaneState). x.near.m) step.1.is ∙ stands.lane.early;
-  done = λ l. refl;
-  issued = λ l. refl;
-  content = refl;
-  image = refl;
-  behind = refl;
-}
+moved_silent shape p s store unit fault t stands step = grind (arith, step_keeps, failed_stays)
 
 finished_silent : (shape : Shape) (p : Plain) (s : LaneState) (store : List ℕ) (slot status : ℕ) (t : LaneState) → Stands shape p s store → LaneStep s (Works (Finished slot status)) t
     → Silent shape p s (Works (Finished slot status)) t store store
-finished_silent shape p s store slot status t stands step = record {
-  step = step;
-  keeps = step_keeps s B (Works (Finished slot status)) t step tt;
-  well = failed_stays s (Works (Finished slot status)) t step refl stands.lane.well;
-  early = ap (λ (x : LaneState). x.near.m) step.1.is ∙ stands.lane.early;
-  done = λ l. refl;
-  issued = λ l. refl;
-  content = refl;
-  image = refl;
-  behind = refl;
-}
+finished_silent shape p s store slot status t stands step = grind (arith, step_keeps, failed_stays)
 
 -- A CALL OF THE STORE that didn't fail
 record Tells (told : Option (List ℕ)) : Type 0 where
   bytes : List ℕ
   is : told ≡ Some bytes
 
-told_same : (store : List ℕ) (told : Option (List ℕ)) → told ≡ Some store → Tells told
-told_same store told is = record { bytes = store; is = is }
-
-told_written : (store bytes : List ℕ) (place : ℕ) (told : Option (List ℕ)) → WritesRange (Some store) told place bytes → Tells told
-told_written store bytes place (Some new) wrote = record { bytes = new; is = refl }
-told_written store bytes place None wrote = absurd wrote
-
-unit_told : (progress : Progress) (s : ServerState) (block : ℕ) (gave store : List ℕ) (told : Option (List ℕ)) → served.StoreDoesIn progress s block false gave (Some store) told → Tells told
-unit_told (Reads unit) s block gave store told does = told_same store told does.1
-unit_told (Writes unit bytes) s block gave store told does = told_written store bytes (served.place_in s block) told does
-unit_told (Gives unit bytes) s block gave store told does = told_same store told does
-unit_told (Gathers unit) s block gave store told does = told_same store told does
-unit_told Flushes s block gave store told does = told_same store told does
-unit_told (Ends status) s block gave store told does = told_same store told does
-
 store_told : (work : Option Work) (s : ServerState) (block : ℕ) (gave store : List ℕ) (told : Option (List ℕ)) → served.StoreDoes work s block false gave (Some store) told → Tells told
-store_told None s block gave store told does = told_same store told does
-store_told (Some work) s block gave store told does = unit_told work.progress s block gave store told does
+store_told work s block gave store told does = grind arith
 
 room_in : (shape : Shape) (p : Plain) (s : LaneState) (bytes : List ℕ) → IsFirstShape shape → Undisturbed shape p.completed s → length (region_of shape bytes) ≡ 512 * s.client.blocks
     → end_of shape ≤ length bytes
@@ -258,11 +207,7 @@ front_split (x ∷ behind) request is = let same : x ≡ request = cc is in ap (
 
 done_same : (id one operation two status three : ℕ) (bytes four : List ℕ) → id ≡ one → operation ≡ two → status ≡ three → bytes ≡ four
     → OfLane 0 (Works (Done id operation status bytes)) ≡ OfLane 0 (Works (Done one two three four))
-done_same id one operation two status three bytes four first second third fourth =
-    ap (λ (n : ℕ). OfLane 0 (Works (Done n operation status bytes))) first
-    ∙ ap (λ (n : ℕ). OfLane 0 (Works (Done one n status bytes))) second
-    ∙ ap (λ (n : ℕ). OfLane 0 (Works (Done one two n bytes))) third
-    ∙ ap (λ (xs : List ℕ). OfLane 0 (Works (Done one two three xs))) fourth
+done_same id one operation two status three bytes four first second third fourth = grind arith
 
 none_less : (n m : ℕ) → n ≡ m - 1 → m ≡ 0 → n ≡ 0
 none_less n m is none = omega (arith, is, none)
@@ -374,13 +319,4 @@ one_step shape p s e (Works (Stored operation block count failed)) t i j front o
     stored_on failed shape p s operation block count t i j front over (fault_free failed i.faults j.faults moves.1.faults well) moves.0
 one_step shape p s e (Works (Finished slot status)) t i j front over own moves well =
     quietly shape p s (Works (Finished slot status)) t i j front over moves.1 refl (finished_silent shape p s over.store slot status t over.stands moves.0)
-one_step shape p s e (Works Misplaced) t i j front over own moves well = absurd moves.0
-one_step shape p s e (Switches Off) t i j front over own moves well = absurd (never_off shape p s over.store over.stands moves.0.0)
-one_step shape p s A (Switches Stopped) t i j front over own moves well = absurd own
-one_step shape p s B (Switches Stopped) t i j front over own moves well = absurd own
-one_step shape p s A (Switches Started) t i j front over own moves well = absurd own
-one_step shape p s B (Switches Started) t i j front over own moves well = absurd own
-one_step shape p s A (Asks event) t i j front over own moves well = absurd own
-one_step shape p s B (Asks event) t i j front over own moves well = absurd own
-one_step shape p s A (Calms event) t i j front over own moves well = absurd own
-one_step shape p s B (Calms event) t i j front over own moves well = absurd own
+one_step shape p s e event t i j front over own moves well = grind (arith, never_off)

@@ -5,10 +5,9 @@ use Rattle.std.proofs.lemmas.Bool.{eq-eqb, eqb-false, eqb-true}
 use Rattle.std.specs.Prelude.{◌==◌, if◌then◌else◌}
 use Rattle.runs.specs.Run.{Run, run_push}
 use Rattle.disk_law.specs.ListState.{ImageState}
-use Rattle.disk_model.specs.DiskEvent.{Asks, Desc, DiskEvent, Done, Finished, Misplaced, Moved, OnWire, Published, Calms, Stored, Switches, Works}
+use Rattle.disk_model.specs.DiskEvent.{DiskEvent}
 use Rattle.disk_model.specs.LaneState.{IsShape, LaneState, Shape, fresh}
 use Rattle.disk_model.specs.LaneStep.{LaneStep}
-use Rattle.disk_model.specs.Served.{Served}
 use Rattle.lane_laws.specs.Headline.{Imaged, ImagedStep, fresh_image}
 use Rattle.lane_laws.specs.ImageStep.{ImageStep, region_of}
 use Rattle.lane_laws.proofs.FailedRuns.{failed_before}
@@ -41,21 +40,7 @@ still i j store now told told_now same = some_is now store (sym told_now ∙ ap 
 own_step : (shape : Shape) (events : List DiskEvent) (s : LaneState) (event : DiskEvent) (t : LaneState) (i j : ImageState) (store now : List ℕ) → IsShape shape → Run LaneStep (fresh shape) events s
     → LaneMoves s i event t j → i.told ≡ Some store → j.told ≡ Some now → 512 * (shape.first + shape.blocks) ≤ length store → t.wire.forged ≡ false → t.failed ≡ false
     → ImageStep s event t (region_of shape store) (region_of shape now)
-own_step shape events s (Works (Stored operation block count failed)) t i j store now sound run moves told told_now room unforged well =
-    run_served shape events s (Works (Stored operation block count failed)) t store now sound run unforged well room
-    (subst (λ (o : Option (List ℕ)). Served s o (Works (Stored operation block count failed)) t (Some now)) told
-    (subst (λ (o : Option (List ℕ)). Served s i.told (Works (Stored operation block count failed)) t o) told_now moves.0))
-own_step shape events s (OnWire event) t i j store now sound run moves told told_now room unforged well = ap (region_of shape) (still i j store now told told_now moves.1)
-own_step shape events s (Asks event) t i j store now sound run moves told told_now room unforged well = ap (region_of shape) (still i j store now told told_now moves.1)
-own_step shape events s (Works (Published id)) t i j store now sound run moves told told_now room unforged well = ap (region_of shape) (still i j store now told told_now moves.1)
-own_step shape events s (Works (Done id operation status bytes)) t i j store now sound run moves told told_now room unforged well =
-    ap (region_of shape) (still i j store now told told_now moves.1)
-own_step shape events s (Works (Desc slot bytes)) t i j store now sound run moves told told_now room unforged well = ap (region_of shape) (still i j store now told told_now moves.1)
-own_step shape events s (Works (Moved unit fault)) t i j store now sound run moves told told_now room unforged well = ap (region_of shape) (still i j store now told told_now moves.1)
-own_step shape events s (Works (Finished slot status)) t i j store now sound run moves told told_now room unforged well = ap (region_of shape) (still i j store now told told_now moves.1)
-own_step shape events s (Works Misplaced) t i j store now sound run moves told told_now room unforged well = ap (region_of shape) (still i j store now told told_now moves.1)
-own_step shape events s (Switches event) t i j store now sound run moves told told_now room unforged well = ap (region_of shape) (still i j store now told told_now moves.1)
-own_step shape events s (Calms event) t i j store now sound run moves told told_now room unforged well = ap (region_of shape) (still i j store now told told_now moves.1)
+own_step shape events s event t i j store now sound run moves told told_now room unforged well = grind (arith, run_served, some_is)
 
 -- the run so far, and one more step
 own_push : (shape : Shape) (first : List ℕ) (events : List DiskEvent) (s : LaneState) (event : DiskEvent) (t : LaneState) (told later : Option (List ℕ)) (now : List ℕ)
@@ -73,11 +58,7 @@ of_lane s image = record { lane = s; image = image }
 
 own_stays : (shape : Shape) (first : List ℕ) (events : List DiskEvent) (s : LaneState) (told later : Option (List ℕ)) (now : List ℕ) → (before : OwnImage shape first events s told)
     → later ≡ Some now → region_of shape now ≡ region_of shape before.now → OwnImage shape first events s later
-own_stays shape first events s told later now before told_now same = record {
-  now = now;
-  told_is = told_now;
-  run = subst (λ (bytes : List ℕ). Run ImagedStep (fresh_image shape (region_of shape first)) events (of_lane s bytes)) (sym same) before.run;
-}
+own_stays shape first events s told later now before told_now same = grind arith
 
 -- ALONG A RUN of the world
 module _ (shapes : List Shape) (image : ImageState) (first : List ℕ) (k : ℕ) (shape : Shape) (world : IsWorld shapes image) (told : image.told ≡ Some first) (there : slice_get shapes k ≡ Some shape) where
@@ -138,12 +119,7 @@ module _ (shapes : List Shape) (image : ImageState) (first : List ℕ) (k : ℕ)
 
   -- a settle's answer leaves all
   answer_own : (past : List SettleEntry) (w : WorldState) (entry : SettleEntry) (v : WorldState) → happened k (entry ∷ []) ≡ [] → v ≡ w → HasImage past w → HasImage (past ++ entry ∷ []) v
-  answer_own past w entry v none is has = λ s now unforged well.
-      let same : happened k (past ++ entry ∷ []) ≡ happened k past =
-      happened_both k past (entry ∷ []) ∙ ap (λ (l : List DiskEvent). happened k past ++ l) none ∙ append-nil (happened k past) in
-      subst (λ (l : List DiskEvent). OwnImage shape first l s v.image.told) (sym same)
-      (subst (λ (x : WorldState). OwnImage shape first (happened k past) s x.image.told) (sym is)
-      (has s (ap (λ (x : WorldState). slice_get x.lanes k) (sym is) ∙ now) unforged well))
+  answer_own past w entry v none is has = grind (arith, happened_both, append-nil, slice_get)
 
   image_step : (past : List SettleEntry) (w : WorldState) (entry : SettleEntry) (v : WorldState) → Run WorldStep (fresh_world shapes image) past w → WorldStep w entry v → HasImage past w
       → HasImage (past ++ entry ∷ []) v
@@ -151,13 +127,7 @@ module _ (shapes : List Shape) (image : ImageState) (first : List ℕ) (k : ℕ)
   image_step past w x v run step has = answer_own past w x v refl step has
 
   first_own : HasImage [] (fresh_world shapes image)
-  first_own = λ s now unforged well.
-      let is : fresh shape ≡ s = some_is (fresh shape) s (sym (fresh_there shapes k shape there) ∙ now) in
-      record {
-        now = first;
-        told_is = told;
-        run = subst (λ (x : LaneState). fresh_image shape (region_of shape first) ≡ of_lane x (region_of shape first)) is refl;
-      }
+  first_own = grind (arith, some_is, fresh_there)
 
   pub has_own : (entries : List SettleEntry) (w : WorldState) → Run WorldStep (fresh_world shapes image) entries w → (s : LaneState) → slice_get w.lanes k ≡ Some s → s.wire.forged ≡ false
       → s.failed ≡ false → OwnImage shape first (happened k entries) s w.image.told

@@ -1,12 +1,11 @@
 -- The part of a settle over one lane that nobody disturbs: steps of its ends alone, and Settled. No tick comes, since a calm lane is finished.
-use Rattle.std.proofs.Common.{◌≡◌, ℕ, Bool, true, false, List, [], ◌∷◌, ◌++◌, refl, sym, ap, ◌∙◌, subst}
-use Rattle.std.specs.Prelude.{if◌then◌else◌}
+use Rattle.std.proofs.Common.{◌≡◌, ℕ, Bool, true, false, List, [], ◌∷◌, ◌++◌, refl, sym, subst, arith}
 use Rattle.ldc_queue.specs.declared.end.End.{End}
 use Rattle.ldc_queue.specs.declared.end.End.TheVariants.{A, B}
 use Rattle.disk_model.specs.DiskEvent.{DiskEvent}
 use Rattle.disk_model.specs.LaneState.{LaneState}
 use Rattle.disk_model.specs.Reached.{IsReached}
-use Rattle.lane_laws.specs.CalmEnds.{IsStep, StepKeeps}
+use Rattle.lane_laws.specs.CalmEnds.{IsStep}
 use Rattle.lane_kinds.proofs.EntriesEach.{entry_has}
 use Rattle.lane_kinds.proofs.LaneFronts.{of_both}
 use Rattle.lane_kinds.proofs.Lanes.{own_turns}
@@ -16,10 +15,10 @@ use Rattle.lane_kinds.specs.Lanes.{EachOf, OwnTurns}
 use Rattle.lane_kinds.specs.Laws.{LeadsWhere}
 use Rattle.world_laws.proofs.DiskLaws.{gives_nothing}
 use Rattle.world_laws.proofs.LaneRounds.{quiet_finished, round_keeps, round_reached}
-use Rattle.world_laws.specs.Rounds.{LaneRound, MakeRound, MakesRound, are_quiet, is_quiet}
+use Rattle.world_laws.specs.Rounds.{LaneRound, MakeRound, MakesRound, are_quiet}
 use Rattle.world_laws.specs.Settle.{OfLane, SettleEntry, Settled, Settles, disks, entries_of_rounds, entry_of, round_entries, tick_entries}
-use Rattle.world_laws.specs.DiskKind.{disk_kind, is_silent, tick, waits_on}
-use Rattle.world_laws.specs.Ticks.{TickLanes, TicksWhere, marked}
+use Rattle.world_laws.specs.DiskKind.{disk_kind, is_silent, waits_on}
+use Rattle.world_laws.specs.Ticks.{TickLanes, marked}
 
 -- ENTRIES of steps of the ends of lane 0
 pub record OwnEvent (k : ℕ) (event : DiskEvent) : Type 0 where
@@ -53,14 +52,7 @@ pub record IsWhole (s : LaneState) : Type 0 where
   pub runs : s.stopped ≡ false
 
 whole_behind : (s : LaneState) (r : LaneRound) (t : LaneState) → IsWhole s → MakesRound s r t → IsWhole t
-whole_behind s r t at made =
-    let keeps : StepKeeps s t = round_keeps s r t made in
-    record {
-      reached = round_reached s r t at.reached made;
-      unforged = keeps.forged ∙ at.unforged;
-      whole = keeps.whole at.whole;
-      runs = keeps.stopped ∙ at.runs;
-    }
+whole_behind s r t given made = grind (arith, round_keeps, round_reached)
 
 -- ONE LANE in a settle, with no tick so far
 abbrev Alone : List LaneState → List Bool → Type 0
@@ -73,14 +65,7 @@ record NoTick (lanes : List LaneState) (marks : List Bool) (behind : List LaneSt
   none : tick_entries 0 lanes marks ≡ []
 
 none_ticks : (t : LaneState) (u : List LaneState) → IsWhole t → waits_on t ≡ false → TickLanes (t ∷ []) (false ∷ []) u → NoTick (t ∷ []) (false ∷ []) u
-none_ticks t (u ∷ []) whole rests ticks =
-    let same : u ≡ t = subst (λ (b : Bool). TicksWhere b t u) rests ticks.0 in
-    record {
-      alone = subst (λ (b : Bool). Alone (u ∷ []) (b ∷ [])) (sym rests) (subst IsWhole (sym same) whole);
-      none = ap (λ (b : Bool). (if b then OfLane 0 tick ∷ [] else []) ++ []) rests;
-    }
-none_ticks t [] whole rests ticks = absurd ticks
-none_ticks t (u ∷ more ∷ behind) whole rests ticks = absurd ticks.1
+none_ticks t u whole rests ticks = grind arith
 
 -- A ROUND of it; and where it was quiet it is finished
 record RoundOn (marks : List Bool) (steps : List LaneRound) (behind : List LaneState) : Type 0 where
@@ -89,15 +74,7 @@ record RoundOn (marks : List Bool) (steps : List LaneRound) (behind : List LaneS
   ticks : (u : List LaneState) → are_quiet steps ≡ true → TickLanes behind marks u → NoTick behind marks u
 
 round_by : (lanes : List LaneState) (marks : List Bool) (steps : List LaneRound) (behind : List LaneState) → Alone lanes marks → OwnTurns disk_kind lanes steps behind → RoundOn marks steps behind
-round_by (s ∷ []) (false ∷ []) (r ∷ []) (t ∷ []) at made =
-    let whole : IsWhole t = whole_behind s r t at made.0 in
-    record {
-      alone = whole;
-      own = round_own s r t made.0;
-      ticks = λ u quiet ticks. none_ticks t u whole
-          (ap (λ (b : Bool). if b then false else if t.stopped then false else true)
-          (quiet_finished s r t at.reached at.unforged at.whole at.runs made.0 (and_left (is_quiet r) true quiet)).finished) ticks;
-    }
+round_by (s ∷ []) (false ∷ []) (r ∷ []) (t ∷ []) at made = grind (arith, whole_behind, round_own, none_ticks, quiet_finished, and_left)
 round_by (s ∷ []) (false ∷ []) [] behind at made = absurd made
 round_by (s ∷ []) (false ∷ []) (r ∷ steps) [] at made = absurd made
 round_by (s ∷ []) (false ∷ []) (r ∷ []) (t ∷ more ∷ behind) at made = absurd made.1

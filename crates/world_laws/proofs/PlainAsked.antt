@@ -4,7 +4,6 @@ use Rattle.std.proofs.lemmas.Bool.Decides.{nat_tests}
 use Rattle.vdisk_msg.specs.declared.request.Request.{Request}
 use Rattle.vdisk_msg.specs.Fills.{IsRequest}
 use Rattle.vdisk_msg.specs.Requests.{AreSound, Defect, defect}
-use Rattle.disk_law.specs.ListState.{ImageState}
 use Rattle.disk_model.specs.ClientState.{ClientState}
 use Rattle.disk_model.specs.DiskEvent.{Accepted, Asks, DiskEvent, Full, Refused}
 use Rattle.disk_model.specs.LaneState.{LaneState, Shape}
@@ -12,7 +11,7 @@ use Rattle.disk_model.specs.LaneStep.{LaneStep}
 use Rattle.lane_laws.proofs.NearRuns.{run_near}
 use Rattle.lane_laws.specs.ImageStep.{region_of}
 use Rattle.lane_laws.specs.CalmEnds.{StepKeeps}
-use Rattle.world_laws.specs.Settle.{OfLane, SettleEntry}
+use Rattle.world_laws.specs.Settle.{OfLane}
 use Rattle.world_laws.specs.World.{WorldState}
 use Rattle.world_laws.proofs.Regions.{IsFirstShape}
 use Rattle.world_laws.proofs.PlainSettle.{LaneOne, PartIsPlain, RestsAt}
@@ -66,10 +65,7 @@ pub refused_answer : (shape : Shape) (p : Plain) (s : LaneState) (why : Defect) 
 refused_answer shape p s why request t front stands step =
     let is : defect shape.blocks request ≡ Some why = admitted_at shape p s request (Some why) front stands.lane step.0.0 in
     let behind : Stands shape p t p.content = subst (λ (x : LaneState). Stands shape p x p.content) (sym (lane_stays s t step.0.1 step.1)) stands in
-    record {
-      shows = sym (ap (λ (d : Option Defect). answer request d (is_full shape p)) is);
-      stands = refused_plain shape p request why t (defect shape.blocks request) (is_full shape p) is behind;
-    }
+    grind (arith, refused_plain)
 
 pub full_answer : (shape : Shape) (p : Plain) (s : LaneState) (request : Request) (t : LaneState) → IsFirstShape shape → Stands shape p s p.content
     → LaneStep s (Asks (Full request)) t → Answered shape p request (Asks (Full request)) t
@@ -78,10 +74,7 @@ full_answer shape p s request t front stands step =
     let whole : is_full shape p ≡ true =
     full_where shape.slots (length p.waiting) s.client.slots (length s.client.pending) step.0.1 (slots_at shape p.completed s front.sound stands.lane) (ap length stands.waiting) in
     let behind : Stands shape p t p.content = subst (λ (x : LaneState). Stands shape p x p.content) (sym (lane_stays s t step.0.2 step.1)) stands in
-    record {
-      shows = sym (ap (λ (d : Option Defect). answer request d (is_full shape p)) is ∙ ap (answer request None) whole);
-      stands = full_plain shape p request t (defect shape.blocks request) (is_full shape p) is whole behind;
-    }
+    grind (arith, full_plain)
 
 -- IT WAITS
 sound_push : (blocks : ℕ) (requests : List Request) (request : Request) → AreSound blocks requests → defect blocks request ≡ None → IsRequest request → AreSound blocks (requests ++ request ∷ [])
@@ -89,11 +82,7 @@ sound_push blocks [] request sound admitted fill = (admitted, fill, tt)
 sound_push blocks (one ∷ requests) request sound admitted fill = (sound.0, sound.1, sound_push blocks requests request sound.2 admitted fill)
 
 ask_keeps : (s t : LaneState) → t ≡ record s { client = t.client } → StepKeeps s t
-ask_keeps s t is = record {
-  forged = ap (λ (x : LaneState). x.wire.forged) is;
-  whole = λ whole. ap (λ (x : LaneState). x.wire.lossy) is ∙ whole;
-  stopped = ap (λ (x : LaneState). x.stopped) is;
-}
+ask_keeps s t is = grind arith
 
 accepted_stands : (shape : Shape) (p : Plain) (s : LaneState) (id : ℕ) (request : Request) (t : LaneState) → IsFirstShape shape → Stands shape p s p.content
     → LaneStep s (Asks (Accepted id request)) t → defect shape.blocks request ≡ None → Stands shape (waits p request) t p.content
@@ -128,23 +117,10 @@ asked_content p request (Some why) full = refl
 asked_content p request None true = refl
 asked_content p request None false = refl
 
-same_store : (told : Option (List ℕ)) (store content : List ℕ) → told ≡ Some store → told ≡ Some content → store ≡ content
-same_store told store content one two = let both : Some store ≡ Some content = sym one ∙ two in cc both
-
 pub stands_at : (shape : Shape) (p : Plain) (w : WorldState) → (rests : RestsAt shape p w) → Stands shape p rests.beside.lane p.content
-stands_at shape p w rests =
-    let over = rests.beside.over in
-    subst (Stands shape p rests.beside.lane) (same_store w.image.told over.store p.content over.told rests.told) over.stands
+stands_at shape p w rests = grind arith
 
 pub answered_plain : (shape : Shape) (p : Plain) (w : WorldState) (request : Request) (event : DiskEvent) (v : WorldState) → (rests : RestsAt shape p w)
     → (one : LaneOne rests.beside.lane w event v) → v.image ≡ w.image → Answered shape p request event one.behind
     → PartIsPlain shape (answer request (defect shape.blocks request) (is_full shape p)) (asked p request (defect shape.blocks request) (is_full shape p)) (OfLane 0 event ∷ []) v
-answered_plain shape p w request event v rests one image answered =
-    let told : v.image.told ≡ Some p.content = ap (λ (x : ImageState). x.told) image ∙ rests.told in
-    record {
-      shows = answered.shows;
-      rests = record {
-        beside = record { lane = one.behind; lanes = one.lanes; over = record { store = p.content; told = told; stands = answered.stands } };
-        told = told ∙ ap (λ (xs : List ℕ). Some xs) (sym (asked_content p request (defect shape.blocks request) (is_full shape p)));
-      };
-    }
+answered_plain shape p w request event v rests one image answered = grind (arith, asked_content)

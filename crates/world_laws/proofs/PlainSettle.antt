@@ -60,30 +60,13 @@ reached_none : (shape : Shape) (p : Plain) (w : WorldState) → Beside shape p w
 reached_none shape p w beside = record { plain = p; beside = beside; shows = refl; ends = refl }
 
 -- a hidden entry in front
-hidden_first : (x : SettleEntry) (steps : List SettleEntry) → is_shown x ≡ false → shown (x ∷ steps) ≡ shown steps
-hidden_first x steps hidden = ap (λ (b : Bool). shown_if b x ++ shown steps) hidden
-
 reached_quietly : (shape : Shape) (p : Plain) (x : SettleEntry) (steps : List SettleEntry) (v : WorldState) → is_shown x ≡ false → Reaches shape p steps v → Reaches shape p (x ∷ steps) v
-reached_quietly shape p x steps v hidden rest = record {
-  plain = rest.plain;
-  beside = rest.beside;
-  shows = ap (λ (xs : List SettleEntry). xs ++ completions rest.plain rest.plain.waiting) (hidden_first x steps hidden) ∙ rest.shows;
-  ends = rest.ends;
-}
+reached_quietly shape p x steps v hidden rest = grind arith
 
 -- a completion in front
-completed_first : (p : Plain) (request : Request) (x : SettleEntry) (steps : List SettleEntry) → x ≡ completion p request → shown (x ∷ steps) ≡ completion p request ∷ shown steps
-completed_first p request x steps is = ap (λ (y : SettleEntry). shown_if (is_shown y) y ++ shown steps) is
-
 reached_done : (shape : Shape) (p : Plain) (request : Request) (behind : List Request) (x : SettleEntry) (steps : List SettleEntry) (v : WorldState) → p.waiting ≡ request ∷ behind
     → x ≡ completion p request → Reaches shape (complete p request behind) steps v → Reaches shape p (x ∷ steps) v
-reached_done shape p request behind x steps v front is rest = record {
-  plain = rest.plain;
-  beside = rest.beside;
-  shows = ap (λ (xs : List SettleEntry). xs ++ completions rest.plain rest.plain.waiting) (completed_first p request x steps is)
-      ∙ ap (λ (xs : List SettleEntry). completion p request ∷ xs) rest.shows ∙ sym (ap (completions p) front);
-  ends = rest.ends ∙ sym (ap (complete_all p) front);
-}
+reached_done shape p request behind x steps v front is rest = grind arith
 
 own_steps : (shape : Shape) (p : Plain) (w : WorldState) (steps : List SettleEntry) (v : WorldState) → IsFirstShape shape → Beside shape p w → AreOwn steps → Run WorldStep w steps v
     → v.image.faults ≡ 0 → Reaches shape p steps v
@@ -131,17 +114,7 @@ SettleIsPlain shape p part v = PartIsPlain shape (completions p p.waiting ++ Set
 -- what is reached where nothing waits any more
 settled_plain : (shape : Shape) (p : Plain) (steps : List SettleEntry) (part : List SettleEntry) (v : WorldState) → IsFirstShape shape → part ≡ steps ++ Settled ∷ [] → (all : Reaches shape p steps v)
     → all.plain.waiting ≡ [] → SettleIsPlain shape p part v
-settled_plain shape p steps part v front is all none =
-    let over = all.beside.over in
-    let ends : all.plain ≡ complete_all p p.waiting = sym (ap (complete_all all.plain) none) ∙ all.ends in
-    let shows : shown steps ≡ completions p p.waiting =
-    sym (append-nil (shown steps)) ∙ sym (ap (λ (xs : List Request). shown steps ++ completions all.plain xs) none) ∙ all.shows in
-    let told : v.image.told ≡ Some all.plain.content =
-    over.told ∙ ap (λ (xs : List ℕ). Some xs) (rested_image shape all.plain all.beside.lane over.store front over.stands none) in
-    record {
-      shows = ap shown is ∙ shown_append steps (Settled ∷ []) ∙ ap (λ (xs : List SettleEntry). xs ++ Settled ∷ []) shows;
-      rests = subst (λ (q : Plain). RestsAt shape q v) ends (record { beside = all.beside; told = told });
-    }
+settled_plain shape p steps part v front is all none = grind (arith, append-nil, rested_image, shown_append)
 
 -- the answer of a settle changes nothing
 before_answer : (w : WorldState) (steps : List SettleEntry) (v : WorldState) → Run WorldStep w (steps ++ Settled ∷ []) v → Run WorldStep w steps v

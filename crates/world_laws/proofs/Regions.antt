@@ -1,5 +1,5 @@
 -- A disk's region of the image's bytes, and a request that is completed on them.
-use Rattle.std.proofs.Common.{◌≡◌, ℕ, zero, suc, ◌+◌, ◌-◌, ◌*◌, ◌<◌, ◌≤◌, ◌⊎◌, inl, inr, List, ◌∷◌, ◌++◌, length, take, drop, min, None, refl, sym, ap, ◌∙◌, arith, length-drop, length-take, take-append-drop, take_all, take-add}
+use Rattle.std.proofs.Common.{◌≡◌, ℕ, zero, suc, ◌+◌, ◌-◌, ◌*◌, ◌<◌, ◌≤◌, ◌⊎◌, inl, inr, List, ◌∷◌, ◌++◌, length, take, drop, None, refl, sym, ap, ◌∙◌, arith, length-drop, length-take, take-append-drop, take_all, take-add}
 use Rattle.vdisk_msg.proofs.Repeated.{length-repeated}
 use Rattle.vdisk_msg.specs.declared.request.Request.{Request}
 use Rattle.vdisk_msg.specs.declared.request.Request.TheVariants.{Flush, Read, Write}
@@ -25,22 +25,12 @@ pub record IsFirstShape (shape : Shape) : Type 0 where
 abbrev pub end_of : Shape → ℕ
 end_of shape = 512 * (shape.first + shape.blocks)
 
-longer_than : (at n long all : ℕ) → all ≡ min n (long - at) → all ≡ n → 1 ≤ n → at + n ≤ long
-longer_than at n long all is same some = omega (arith, is, same, some)
-
-both_parts : (first blocks long : ℕ) → 512 * first + 512 * blocks ≤ long → 512 * (first + blocks) ≤ long
-both_parts first blocks long room = omega (arith, room)
-
 some_bytes : (blocks : ℕ) → 1 ≤ blocks → 1 ≤ 512 * blocks
 some_bytes blocks some = omega (arith, some)
 
 -- an image whose region is the whole disk holds it
 pub region_room : (shape : Shape) (bytes : List ℕ) → IsShape shape → length (region_of shape bytes) ≡ 512 * shape.blocks → end_of shape ≤ length bytes
-region_room shape bytes sound long =
-    let cut : length (region_of shape bytes) ≡ min (512 * shape.blocks) (length bytes - 512 * shape.first) =
-    length-take (512 * shape.blocks) (drop (512 * shape.first) bytes) ∙ ap (min (512 * shape.blocks)) (length-drop (512 * shape.first) bytes) in
-    both_parts shape.first shape.blocks (length bytes)
-    (longer_than (512 * shape.first) (512 * shape.blocks) (length bytes) (length (region_of shape bytes)) cut long (some_bytes shape.blocks sound.some_blocks))
+region_room shape bytes sound long = grind (arith, length-take, length-drop)
 
 pub region_long : (shape : Shape) (bytes : List ℕ) → end_of shape ≤ length bytes → length (region_of shape bytes) ≡ 512 * shape.blocks
 region_long shape bytes room = length-range_at (512 * shape.first) (512 * shape.blocks) bytes (omega (arith, room))
@@ -60,33 +50,17 @@ region_after shape content Flush front room admitted = refl
 
 pub behind_after : (shape : Shape) (content : List ℕ) (request : Request) → IsFirstShape shape → end_of shape ≤ length content → defect shape.blocks request ≡ None
     → drop (end_of shape) (after_request content request) ≡ drop (end_of shape) content
-behind_after shape content (Read block count) front room admitted = refl
-behind_after shape content (Write block count fill) front room admitted =
-    let fits = admitted_blocks shape.blocks block count admitted in
-    let first = front.place in
-    let long : length (written fill count) ≡ 512 * count = length-repeated fill 0 (512 * count) in
-    drop-put_at (512 * block) (end_of shape) (written fill count) content (omega (arith, fits.2, long, first)) (omega (arith, fits.2, long, first, room))
-behind_after shape content Flush front room admitted = refl
+behind_after shape content request front room admitted = grind (arith, admitted_blocks, length-repeated, drop-put_at)
 
 pub given_same : (shape : Shape) (content : List ℕ) (request : Request) → IsFirstShape shape → defect shape.blocks request ≡ None → given (region_of shape content) request ≡ given content request
-given_same shape content (Read block count) front admitted =
-    let fits = admitted_blocks shape.blocks block count admitted in
-    let first = front.place in
-    let place : 512 * shape.first + 512 * block ≡ 512 * block = omega (arith, first) in
-    range_at-range_at (512 * block) (512 * count) (512 * shape.first) (512 * shape.blocks) content (omega (arith, fits.2))
-    ∙ ap (λ (p : ℕ). range_at p (512 * count) content) place
-given_same shape content (Write block count fill) front admitted = refl
-given_same shape content Flush front admitted = refl
+given_same shape content request front admitted = grind (arith, admitted_blocks, range_at-range_at)
 
 -- THE SAME BYTES: lists with the same blocks, and with the same region and the same after it
 fronts_same : (n : ℕ) (one other : List ℕ) → ((b : ℕ) → b < n → block_at b one ≡ block_at b other) → take (512 * n) one ≡ take (512 * n) other
 fronts_same zero one other same = refl
 fronts_same (suc n) one other same =
     let next : 512 * suc n ≡ 512 * n + 512 = omega arith in
-    let front = fronts_same n one other (λ b below. same b (omega (arith, below))) in
-    ap (λ (m : ℕ). take m one) next ∙ take-add (512 * n) 512 one
-    ∙ ap (λ (xs : List ℕ). xs ++ block_at n one) front ∙ ap (λ (xs : List ℕ). take (512 * n) other ++ xs) (same n (omega arith))
-    ∙ sym (ap (λ (m : ℕ). take m other) next ∙ take-add (512 * n) 512 other)
+    grind (arith, take-add, fronts_same n one other)
 
 same_blocks : (blocks : ℕ) (one other : List ℕ) → length one ≡ 512 * blocks → length other ≡ 512 * blocks → ((b : ℕ) → b < blocks → block_at b one ≡ block_at b other) → one ≡ other
 same_blocks blocks one other one_long other_long same =

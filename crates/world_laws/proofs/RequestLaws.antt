@@ -1,13 +1,13 @@
 -- The requests of a lane, and of each disk of a world, are admitted by the rules and complete once and in order.
-use Rattle.std.proofs.Common.{◌≡◌, ℕ, ◌-◌, ◌<◌, List, ◌∷◌, length, drop, slice_get, Some, None, ap, ◌∙◌, subst, arith}
+use Rattle.std.proofs.Common.{◌≡◌, ℕ, ◌-◌, ◌<◌, List, ◌∷◌, length, drop, slice_get, Some, ap, ◌∙◌, subst, arith}
 use Rattle.runs.specs.Lawful.{Lawful, lawful_split, log_of}
 use Rattle.runs.specs.Run.{Run}
 use Rattle.disk_law.specs.Issued.{Admission, Admits, CompletesNext, CompletesOnceInOrder, completed, issued}
 use Rattle.disk_law.specs.ListState.{ImageState}
 use Rattle.disk_law.specs.ListStep as plain
 use Rattle.lane_laws.specs.DiskLog.{DiskLog, after, nothing_yet}
-use Rattle.lane_laws.specs.RequestLaws.{AdmissionAt, IsNext, OnceAt}
-use Rattle.disk_model.specs.DiskEvent.{Accepted, Asks, Desc, DiskEvent, Done, Finished, Full, Misplaced, Moved, OnWire, Published, Refused, Calms, Stored, Switches, Works}
+use Rattle.lane_laws.specs.RequestLaws.{AdmissionAt, OnceAt}
+use Rattle.disk_model.specs.DiskEvent.{DiskEvent, Done, Works}
 use Rattle.disk_model.specs.LaneState.{IsShape, LaneState, Shape, fresh}
 use Rattle.disk_model.specs.LaneStep.{LaneStep}
 use Rattle.lane_laws.proofs.LaneCores.{shape_of}
@@ -16,8 +16,6 @@ use Rattle.world_laws.specs.Along.{happened}
 use Rattle.world_laws.specs.Settle.{SettleEntry}
 use Rattle.world_laws.proofs.Along.{lane_at, lanes_run, shape_at}
 use Rattle.world_laws.specs.World.{AreShapes, WorldState, WorldStep, fresh_world}
-use Rattle.vdisk_msg.specs.declared.request.Request.{Request}
-use Rattle.vdisk_msg.specs.Requests.{defect}
 use Rattle.world_laws.proofs.Filtered.{ComesOf, comes_of}
 use Rattle.world_laws.proofs.RequestLog.{done_behind, issued_behind, next_is, pending_are}
 use Rattle.world_laws.specs.Requests.{request_event, requests_of}
@@ -26,33 +24,9 @@ use Rattle.world_laws.specs.Requests.{request_event, requests_of}
 same_done : (i o s id operation status : ℕ) (b bytes : List ℕ) → plain.Done i o s b ≡ plain.Done id operation status bytes → Works (Done i o s b) ≡ Works (Done id operation status bytes)
 same_done i o s id operation status b bytes is = cc is
 
-done_of : (event : DiskEvent) (id operation status : ℕ) (bytes : List ℕ) → request_event event ≡ Some (plain.Done id operation status bytes) → event ≡ Works (Done id operation status bytes)
-done_of (Works (Done i o s b)) id operation status bytes is =
-    let same : plain.Done i o s b ≡ plain.Done id operation status bytes = cc is in
-    same_done i o s id operation status b bytes same
-done_of (OnWire event) id operation status bytes is = absurd (cc is)
-done_of (Asks (Accepted i request)) id operation status bytes is = absurd (cc is)
-done_of (Asks (Full request)) id operation status bytes is = absurd (cc is)
-done_of (Asks (Refused why request)) id operation status bytes is = absurd (cc is)
-done_of (Works (Published i)) id operation status bytes is = absurd (cc is)
-done_of (Works (Desc slot said)) id operation status bytes is = absurd (cc is)
-done_of (Works (Moved unit fault)) id operation status bytes is = absurd (cc is)
-done_of (Works (Stored o block count failed)) id operation status bytes is = absurd (cc is)
-done_of (Works (Finished slot s)) id operation status bytes is = absurd (cc is)
-done_of (Works Misplaced) id operation status bytes is = absurd (cc is)
-done_of (Switches event) id operation status bytes is = absurd (cc is)
-done_of (Calms event) id operation status bytes is = absurd (cc is)
-
 once_here : (l : DiskLog) (event : DiskEvent) (before : List plain.ListEvent) (id operation status : ℕ) (bytes : List ℕ) → request_event event ≡ Some (plain.Done id operation status bytes)
     → l.work.issued ≡ issued before → l.work.done ≡ length (completed before) → OnceAt l event → CompletesNext before id operation
-once_here l event before id operation status bytes is issued_is done_is at =
-    let next : IsNext l.work id operation = subst (λ (e : DiskEvent). OnceAt l e) (done_of event id operation status bytes is) at in
-    record {
-      next = next.next ∙ done_is;
-      request = next.request;
-      accepted_before = subst (λ (r : List Request). slice_get r id ≡ Some next.request) issued_is next.accepted;
-      operation_is = next.operation_is;
-    }
+once_here l event before id operation status bytes is issued_is done_is given = grind (arith, slice_get)
 
 -- AND WHAT COMES OF A REQUEST of what came of it
 room_for : (i d n m x y : ℕ) → i ≡ n → d ≡ m → x ≡ y → i - d < x → n - m < y
@@ -63,34 +37,7 @@ no_room i d n m x y one two three full = omega (arith, one, two, three, full)
 
 admitted_here : (blocks slots : ℕ) (l : DiskLog) (before : List plain.ListEvent) → l.shape.blocks ≡ blocks → l.shape.slots ≡ slots → l.work.issued ≡ issued before
     → l.work.done ≡ length (completed before) → (event : DiskEvent) (seen : plain.ListEvent) → request_event event ≡ Some seen → AdmissionAt l event → Admits blocks slots before seen
-admitted_here blocks slots l before blocks_are slots_are issued_is done_is (Asks (Accepted id request)) seen is at =
-    let same : plain.Accepted id request ≡ seen = cc is in
-    subst (λ (e : plain.ListEvent). Admits blocks slots before e) same (
-      subst (λ (b : ℕ). defect b request ≡ None) blocks_are at.0,
-      room_for (length l.work.issued) l.work.done (length (issued before)) (length (completed before)) l.shape.slots slots (ap (λ (r : List Request). length r) issued_is) done_is slots_are at.1,
-      at.2 ∙ ap (λ (r : List Request). length r) issued_is,
-    )
-admitted_here blocks slots l before blocks_are slots_are issued_is done_is (Asks (Full request)) seen is at =
-    let same : plain.Full request ≡ seen = cc is in
-    subst (λ (e : plain.ListEvent). Admits blocks slots before e) same (
-      subst (λ (b : ℕ). defect b request ≡ None) blocks_are at.0,
-      no_room (length l.work.issued) l.work.done (length (issued before)) (length (completed before)) l.shape.slots slots (ap (λ (r : List Request). length r) issued_is) done_is slots_are at.1,
-    )
-admitted_here blocks slots l before blocks_are slots_are issued_is done_is (Asks (Refused why request)) seen is at =
-    let same : plain.Refused why request ≡ seen = cc is in
-    subst (λ (e : plain.ListEvent). Admits blocks slots before e) same (subst (λ (b : ℕ). defect b request ≡ Some why) blocks_are at)
-admitted_here blocks slots l before blocks_are slots_are issued_is done_is (Works (Done id operation status bytes)) seen is at =
-    let same : plain.Done id operation status bytes ≡ seen = cc is in
-    subst (λ (e : plain.ListEvent). Admits blocks slots before e) same tt
-admitted_here blocks slots l before blocks_are slots_are issued_is done_is (OnWire event) seen is at = absurd (cc is)
-admitted_here blocks slots l before blocks_are slots_are issued_is done_is (Works (Published id)) seen is at = absurd (cc is)
-admitted_here blocks slots l before blocks_are slots_are issued_is done_is (Works (Desc slot bytes)) seen is at = absurd (cc is)
-admitted_here blocks slots l before blocks_are slots_are issued_is done_is (Works (Moved unit fault)) seen is at = absurd (cc is)
-admitted_here blocks slots l before blocks_are slots_are issued_is done_is (Works (Stored operation block count failed)) seen is at = absurd (cc is)
-admitted_here blocks slots l before blocks_are slots_are issued_is done_is (Works (Finished slot status)) seen is at = absurd (cc is)
-admitted_here blocks slots l before blocks_are slots_are issued_is done_is (Works Misplaced) seen is at = absurd (cc is)
-admitted_here blocks slots l before blocks_are slots_are issued_is done_is (Switches event) seen is at = absurd (cc is)
-admitted_here blocks slots l before blocks_are slots_are issued_is done_is (Calms event) seen is at = absurd (cc is)
+admitted_here blocks slots l before blocks_are slots_are issued_is done_is event seen is given = grind arith
 
 -- WHERE THE EVENT STANDS in a lawful run
 lawful_here : (May : DiskLog → DiskEvent → Type 0) (shape : Shape) (events : List DiskEvent) (before : List plain.ListEvent) (seen : plain.ListEvent)

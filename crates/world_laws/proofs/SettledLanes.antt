@@ -1,5 +1,5 @@
 -- What stands of each lane where a settle ends settled, by the part that it gave.
-use Rattle.std.proofs.Common.{◌≡◌, ℕ, ◌+◌, ◌≤◌, ◌⊎◌, inl, inr, Bool, true, List, arith}
+use Rattle.std.proofs.Common.{◌≡◌, ℕ, ◌≤◌, ◌⊎◌, inl, inr, Bool, true, List, arith}
 use Rattle.disk_model.specs.ClientState.{is_finished}
 use Rattle.disk_model.specs.LaneState.{LaneState}
 use Rattle.disk_model.specs.Reached.{IsReached}
@@ -18,11 +18,11 @@ by_tick k had part t one (inl finished) = inl finished
 by_tick k had part t one (inr is) = inr (one is)
 
 lane_ends : (part : List SettleEntry) (k : ℕ) (t : LaneState) (had : Bool) → (had ≡ true → ticks_in k part ≡ 1) → EndsFinished t had → EndsIn k part t
-lane_ends part k t had one ends = record { ticked = λ runs. by_tick k had part t one (ends.ticked runs); finished = ends.finished; whole = ends.whole }
+lane_ends part k t had one ends = grind arith
 
 -- by their marks
 pub lanes_end : (part : List SettleEntry) (behind : List LaneState) (marks : List Bool) → AreTicks (λ k. ticks_in k part) 0 marks → EachMarked EndsFinished behind marks → LanesEnd 0 part behind
-lanes_end part behind marks at ends = each_ticked EndsFinished (λ k t. EndsIn k part t) (λ k. ticks_in k part) (lane_ends part) 0 behind marks at ends
+lanes_end part behind marks given ends = grind (arith, each_ticked)
 
 same_is_most : (a b : ℕ) → a ≡ b → b ≤ a
 same_is_most a b is = omega (arith, is)

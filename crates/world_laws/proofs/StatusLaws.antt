@@ -9,7 +9,7 @@ use Rattle.lane_laws.specs.DiskLog.{DiskLog, after, nothing_yet}
 use Rattle.lane_laws.specs.RequestLaws.{carried_count}
 use Rattle.lane_laws.specs.RequestLaws as request_laws
 use Rattle.lane_laws.specs.RingLog.{Done as IsDone}
-use Rattle.disk_model.specs.DiskEvent.{Asks, Desc, DiskEvent, Done, Finished, Misplaced, Moved, OnWire, Published, Calms, Stored, Switches, Worked, Works}
+use Rattle.disk_model.specs.DiskEvent.{DiskEvent, Done, Finished, Worked, Works}
 use Rattle.disk_model.specs.LaneState.{IsShape, LaneState, Shape, fresh}
 use Rattle.disk_model.specs.LaneStep.{LaneStep}
 use Rattle.lane_laws.proofs.RingRuns.{before}
@@ -33,28 +33,15 @@ completion_tells l id status bytes frees tells carries =
 
 -- EACH EVENT
 worked_status : (l : DiskLog) (event : Worked) → Facts l (Works event) → l.wire.forged ≡ false → LogTells l → TellsAt l (Works event)
-worked_status l (Finished slot status) facts clean tells = ends_tells l slot status l.work.server facts.may.pieces tells.owed
-worked_status l (Done id operation status bytes) facts clean tells = completion_tells l id status bytes (facts.slot clean) tells facts.may.carries
-worked_status l (Published id) facts clean tells = tt
-worked_status l (Desc slot bytes) facts clean tells = tt
-worked_status l (Moved unit fault) facts clean tells = tt
-worked_status l (Stored operation block count failed) facts clean tells = tt
-worked_status l Misplaced facts clean tells = tt
+worked_status l event facts clean tells = grind (arith, ends_tells, completion_tells)
 
 event_status : (l : DiskLog) (event : DiskEvent) → Facts l event → l.wire.forged ≡ false → LogTells l → TellsAt l event
-event_status l (Works event) facts clean tells = worked_status l event facts clean tells
-event_status l (OnWire event) facts clean tells = tt
-event_status l (Asks event) facts clean tells = tt
-event_status l (Switches event) facts clean tells = tt
-event_status l (Calms event) facts clean tells = tt
+event_status l event facts clean tells = grind (arith, worked_status)
 
 -- ALONG A RUN
 status_along : (l : DiskLog) (events : List DiskEvent) → Lawful Facts after l events → (l.wire.forged ≡ false → LogTells l) → Lawful StatusAt after l events
-status_along l [] facts tells = tt
-status_along l (event ∷ events) facts tells = (
-  λ clean. event_status l event facts.0 clean (tells clean),
-  status_along (after l event) events facts.1 (λ clean. event_tells l event facts.0 (before l event clean) (tells (before l event clean))),
-)
+status_along l (event ∷ events) facts tells = grind (arith, event_status, event_tells, before, status_along (after l event) events facts.1)
+status_along l events facts tells = grind arith
 
 tells_along : (l : DiskLog) (events : List DiskEvent) → Lawful Facts after l events → (l.wire.forged ≡ false → LogTells l)
     → (log_of after l events).wire.forged ≡ false → LogTells (log_of after l events)

@@ -1,9 +1,8 @@
 -- In the log of a lane that nobody forged each status that is owed, and that of each slot that is DONE, is 0 or 5; and each request was
 -- accepted without a defect.
-use Rattle.std.proofs.Common.{◌≡◌, ◌⊎◌, inl, inr, ℕ, zero, suc, ◌+◌, ◌-◌, ◌%◌, Bool, true, false, Option, Some, None, List, [], ◌∷◌, ◌++◌, set, refl, sym, ap, ◌∙◌, subst}
+use Rattle.std.proofs.Common.{◌≡◌, ◌⊎◌, inl, inr, ℕ, zero, suc, ◌+◌, ◌-◌, ◌%◌, Bool, true, false, Option, Some, None, List, [], ◌∷◌, ◌++◌, set, refl, sym, ap, ◌∙◌, subst, arith}
 use Rattle.std.specs.Prelude.{⊤, ◌==◌, if◌then◌else◌, slice_get, replicate}
 use Rattle.cookie_copy.specs.declared.fault.CopyFault.{CopyFault}
-use Rattle.ldc_queue.specs.declared.end.End.TheVariants.{A, B}
 use Rattle.vdisk_msg.proofs.Written.{requested_is_sound, sound_pieces}
 use Rattle.vdisk_msg.specs.Check.{first_defect}
 use Rattle.vdisk_msg.specs.declared.desc.DiskDesc.{DiskDesc}
@@ -11,13 +10,13 @@ use Rattle.vdisk_msg.specs.declared.request.Request.{Request}
 use Rattle.vdisk_msg.specs.Descriptor as slot_says
 use Rattle.vdisk_msg.specs.Pieces.{Finishes, Moves, Piece, Stores, operation_pieces, pieces, read_pieces, unit_count, write_pieces}
 use Rattle.vdisk_msg.specs.Requests.{defect}
-use Rattle.channel_model.specs.WireEvent.{Blocked, Declines, Idle, Injected, Joined, Lost, Poked, Reset, Sent, Took, WireEvent}
+use Rattle.channel_model.specs.WireEvent.{WireEvent}
 use Rattle.lane_laws.specs.DiskLog.{DiskLog, after, nothing_yet}
 use Rattle.lane_laws.specs.RequestLaws.{Admits}
-use Rattle.lane_laws.specs.RingLog.{Accepted as IsAccepted, Done as IsDone, Free, Ready, SlotLog, Zeros, cleared_if, fetched_at, finished_at, freed_at, published_at}
-use Rattle.lane_laws.specs.WorkLaws.{FetchesRequest, FinishesPiece, InClient, InServer, Owes, Unforged}
-use Rattle.lane_laws.specs.WorkLog.{ClientCounts, ServerCounts, WorkLog, change_server, moved_rest, opened_counts, rest_of, stored_rest}
-use Rattle.disk_model.specs.DiskEvent.{Accepted, Admitted, Asks, Desc, DiskEvent, Done, Finished, Full, Misplaced, Moved, Off, OnWire, Published, Refused, Calms, Started, Stopped, Stored, Switched, Switches, Worked, Works}
+use Rattle.lane_laws.specs.RingLog.{Accepted as IsAccepted, Done as IsDone, Free, Ready, SlotLog, Zeros, fetched_at, finished_at, freed_at, published_at}
+use Rattle.lane_laws.specs.WorkLaws.{FetchesRequest, FinishesPiece, InClient, InServer, Unforged}
+use Rattle.lane_laws.specs.WorkLog.{ClientCounts, ServerCounts, WorkLog, change_server, moved_rest, rest_of, stored_rest}
+use Rattle.disk_model.specs.DiskEvent.{Admitted, Asks, Desc, DiskEvent, Done, Finished, Misplaced, Moved, Off, OnWire, Published, Started, Stopped, Stored, Switched, Switches, Worked, Works}
 use Rattle.disk_model.specs.LaneState.{Shape}
 use Rattle.world_laws.proofs.LawFacts.{Facts}
 use Rattle.world_laws.specs.Statuses.{TellsStore}
@@ -55,22 +54,15 @@ pub record LogTells (l : DiskLog) : Type 0 where
 zero_tells : TellsStore 0
 zero_tells = inl refl
 
-five_tells : TellsStore 5
-five_tells = inr refl
-
 rest_tells : (owed : List Piece) → OwedTell owed → OwedTell (rest_of owed)
-rest_tells [] tells = tt
-rest_tells (Finishes status ∷ rest) tells = tells.1
-rest_tells (Moves unit ∷ rest) tells = tells
-rest_tells (Stores unit ∷ rest) tells = tells
+rest_tells owed tells = grind arith
 
 moved_tells : (fault : Option CopyFault) (owed : List Piece) → fault ≡ None → OwedTell owed → OwedTell (moved_rest fault owed)
 moved_tells None owed none tells = rest_tells owed tells
 moved_tells (Some why) owed none tells = absurd (cc none)
 
 stored_tells : (failed : Bool) (owed : List Piece) → OwedTell owed → OwedTell (stored_rest failed owed)
-stored_tells false owed tells = rest_tells owed tells
-stored_tells true owed tells = (five_tells, tt)
+stored_tells failed owed tells = grind (arith, rest_tells)
 
 end_tells : (owed : List Piece) → OwedTell owed → OwedTell (owed ++ Finishes 0 ∷ [])
 end_tells [] tells = (zero_tells, tt)
@@ -114,20 +106,9 @@ changed_tells : (f : ServerCounts → ServerCounts) (o : Option ServerCounts) �
 changed_tells f None keeps tells = tt
 changed_tells f (Some c) keeps tells = keeps c tells
 
-opened_tells : (b : Bool) (sid : ℕ) (o : Option ServerCounts) → ServerTells o → ServerTells (opened_counts b sid o)
-opened_tells true sid o tells = tt
-opened_tells false sid o tells = tells
-
 -- the status that is owed first
-owes_tells : (owed : List Piece) (status : ℕ) → Owes owed (Finishes status) → OwedTell owed → TellsStore status
-owes_tells [] status owes tells = absurd owes
-owes_tells (Finishes first ∷ rest) status owes tells = let same : first ≡ status = cc owes in subst TellsStore same tells.0
-owes_tells (Moves unit ∷ rest) status owes tells = absurd (cc owes)
-owes_tells (Stores unit ∷ rest) status owes tells = absurd (cc owes)
-
 pub ends_tells : (l : DiskLog) (slot status : ℕ) (o : Option ServerCounts) → InServer o (FinishesPiece l slot status) → ServerTells o → TellsStore status
-ends_tells l slot status None ends tells = absurd ends
-ends_tells l slot status (Some c) ends tells = owes_tells c.owed status ends.owed tells
+ends_tells l slot status o ends tells = grind arith
 
 -- THE RING
 set_tells : (ring : List SlotLog) (k : ℕ) (e : SlotLog) → SlotTells e → RingTells ring → RingTells (set ring k e)
@@ -143,10 +124,6 @@ got_tells (x ∷ ring) (suc k) is tells got = got_tells ring k is tells.1 got
 many_tell : (n : ℕ) (e : SlotLog) → SlotTells e → RingTells (replicate n e)
 many_tell zero e here = tt
 many_tell (suc n) e here = (here, many_tell n e here)
-
-cleared_tells : (b : Bool) (slots : ℕ) (ring : List SlotLog) → RingTells ring → RingTells (cleared_if b slots ring)
-cleared_tells true slots ring tells = many_tell slots Free tt
-cleared_tells false slots ring tells = tells
 
 published_tells : (slots : ℕ) (o : Option ClientCounts) (id : ℕ) (ring : List SlotLog) → RingTells ring → RingTells (published_at slots o id ring)
 published_tells slots None id ring tells = tells
@@ -172,35 +149,14 @@ got_newest (x ∷ issued) request zero is got = inl got
 got_newest (x ∷ issued) request (suc n) is got = got_newest issued request n is got
 
 one_more_sound : (blocks : ℕ) (issued : List Request) (request : Request) → defect blocks request ≡ None → WithoutDefect blocks issued → WithoutDefect blocks (issued ++ request ∷ [])
-one_more_sound blocks issued request sound all = λ n is got. elim (got_newest issued request n is got) [
-  | inl old ↦ all n is old
-  | inr same ↦ subst (λ (r : Request). defect blocks r ≡ None) same sound
-]
+one_more_sound blocks issued request sound all = grind (arith, got_newest)
 
 -- EACH EVENT
 wire_tells : (l : DiskLog) (event : WireEvent) → LogTells l → LogTells (after l (OnWire event))
-wire_tells l (Joined A lost) tells = record { issued = tells.issued; owed = tells.owed; ring = tells.ring }
-wire_tells l (Joined B lost) tells = record { issued = tells.issued; owed = tt; ring = tells.ring }
-wire_tells l (Reset A cause packet lost) tells = record { issued = tells.issued; owed = tells.owed; ring = tells.ring }
-wire_tells l (Reset B cause packet lost) tells = record { issued = tells.issued; owed = tt; ring = tells.ring }
-wire_tells l (Took A packet opens) tells = record { issued = tells.issued; owed = tells.owed; ring = tells.ring }
-wire_tells l (Took B packet opens) tells =
-    record { issued = tells.issued; owed = opened_tells opens _ _ (changed_tells _ l.work.server (λ c owed. owed) tells.owed); ring = tells.ring }
-wire_tells l (Sent A packet opens) tells = record { issued = tells.issued; owed = tells.owed; ring = cleared_tells opens l.shape.slots l.ring tells.ring }
-wire_tells l (Sent B packet opens) tells =
-    record { issued = tells.issued; owed = opened_tells opens _ _ (changed_tells _ l.work.server (λ c owed. owed) tells.owed); ring = tells.ring }
-wire_tells l (Lost e packet) tells = record { issued = tells.issued; owed = tells.owed; ring = tells.ring }
-wire_tells l (Injected e packet) tells = record { issued = tells.issued; owed = tells.owed; ring = tells.ring }
-wire_tells l (Poked e at bytes) tells = record { issued = tells.issued; owed = tells.owed; ring = tells.ring }
-wire_tells l (Idle e) tells = record { issued = tells.issued; owed = tells.owed; ring = tells.ring }
-wire_tells l (Blocked e) tells = record { issued = tells.issued; owed = tells.owed; ring = tells.ring }
-wire_tells l (Declines d) tells = record { issued = tells.issued; owed = tells.owed; ring = tells.ring }
+wire_tells l event tells = grind (arith, changed_tells, many_tell)
 
 asked_tells : (l : DiskLog) (event : Admitted) → Admits l event → LogTells l → LogTells (after l (Asks event))
-asked_tells l (Accepted id request) admits tells =
-    record { issued = one_more_sound l.shape.blocks l.work.issued request admits.0 tells.issued; owed = tells.owed; ring = tells.ring }
-asked_tells l (Full request) admits tells = record { issued = tells.issued; owed = tells.owed; ring = tells.ring }
-asked_tells l (Refused why request) admits tells = record { issued = tells.issued; owed = tells.owed; ring = tells.ring }
+asked_tells l event admits tells = grind (arith, one_more_sound)
 
 work_tells : (l : DiskLog) (event : Worked) → Facts l (Works event) → Unforged l (Works event) → LogTells l → LogTells (after l (Works event))
 work_tells l (Published id) facts unforged tells =
@@ -229,11 +185,7 @@ turn_tells l Started tells = record { issued = tells.issued; owed = tells.owed; 
 turn_tells l Off tells = record { issued = tells.issued; owed = tells.owed; ring = tells.ring }
 
 pub event_tells : (l : DiskLog) (event : DiskEvent) → Facts l event → l.wire.forged ≡ false → LogTells l → LogTells (after l event)
-event_tells l (OnWire event) facts clean tells = wire_tells l event tells
-event_tells l (Asks event) facts clean tells = asked_tells l event facts.may.admission tells
-event_tells l (Works event) facts clean tells = work_tells l event facts (facts.may.unforged_work clean) tells
-event_tells l (Switches event) facts clean tells = turn_tells l event tells
-event_tells l (Calms event) facts clean tells = record { issued = tells.issued; owed = tells.owed; ring = tells.ring }
+event_tells l event facts clean tells = grind (arith, wire_tells, asked_tells, work_tells, turn_tells)
 
 -- BEFORE ANYTHING HAPPENED
 none_issued : (blocks : ℕ) → WithoutDefect blocks []

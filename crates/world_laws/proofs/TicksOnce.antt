@@ -1,13 +1,11 @@
 -- In one settle each lane gets one tick at most.
 use Rattle.std.proofs.Common.{◌≡◌, ℕ, ◌≤◌, List}
 use Rattle.disk_model.specs.LaneState.{LaneState}
-use Rattle.lane_kinds.proofs.Counting.{front_counted, part_counted, settles_counted}
+use Rattle.lane_kinds.proofs.Counting.{part_counted, settles_counted}
 use Rattle.lane_kinds.proofs.LaneCounts.{lanes_tick}
-use Rattle.lane_kinds.proofs.LaneFronts.{fronts_tick}
 use Rattle.lane_kinds.specs.LaneCounts.{mark_at}
 use Rattle.lane_kinds.specs.Laws.{Counts}
 use Rattle.world_laws.proofs.DiskLaws.{disk_ticks}
-use Rattle.world_laws.specs.Begun.{SettleFront, fronts}
 use Rattle.world_laws.specs.DiskKind.{disk_kind}
 use Rattle.world_laws.specs.Moves.{ticks, ticks_in}
 use Rattle.world_laws.specs.Settle.{SettleEntry, SettlePart, Settles, disk_entries, disks}
@@ -20,7 +18,3 @@ settles_ticks start part behind k at = settles_counted disks (ticks_in k) (mark_
 
 pub part_ticks : (start : List LaneState) (part : List SettleEntry) (behind : List LaneState) (k : ℕ) → SettlePart start part behind → ticks_in k part ≤ 1
 part_ticks start part behind k settle = part_counted disks (ticks_in k) (mark_at k 0) (counts k) start part behind settle
-
-pub front_ticks : (start : List LaneState) (part : List SettleEntry) (behind : List LaneState) (k : ℕ) → SettleFront start part behind → ticks_in k part ≤ 1
-front_ticks start part behind k at =
-    front_counted disks (ticks_in k) (mark_at k 0) (counts k) fronts (fronts_tick disk_kind disk_entries ticks disk_ticks k) start part behind at

@@ -88,10 +88,7 @@ pub record Stands (shape : Shape) (p : Plain) (s : LaneState) (store : List ℕ)
 
 -- where nothing waits the image has the content
 pub rested_image : (shape : Shape) (p : Plain) (s : LaneState) (store : List ℕ) → IsFirstShape shape → Stands shape p s store → p.waiting ≡ [] → store ≡ p.content
-rested_image shape p s store front stands nothing =
-    let at = stands.lane in
-    same_image shape store p.content front
-    (run_settled shape at.events s (region_of shape p.content) (region_of shape store) front.sound at.run at.unforged at.well stands.near (stands.waiting ∙ nothing)) stands.behind
+rested_image shape p s store front stands nothing = grind (arith, same_image, run_settled)
 
 -- AN EVENT that neither accepts nor completes a request, and leaves what lies after the disk
 pub record Silent (shape : Shape) (p : Plain) (s : LaneState) (event : DiskEvent) (t : LaneState) (store new : List ℕ) : Type 0 where

@@ -1,9 +1,9 @@
 -- A unit that a server stores lies within the blocks of its descriptor, and they within the disk, also where somebody forges packets and memory
 -- and where the store fails.
-use Rattle.std.proofs.Common.{◌≡◌, ◌⊎◌, ℕ, ◌+◌, ◌*◌, ◌/◌, ◌%◌, ◌<◌, ◌≤◌, Bool, true, false, Option, Some, None, List, drop, take, length, inl, inr, refl, ap, ◌∙◌, subst, arith}
-use Rattle.std.specs.Prelude.{◌==◌, ◌&&◌, if◌then◌else◌, nat_le, nat_lt, not}
+use Rattle.std.proofs.Common.{◌≡◌, ◌⊎◌, ℕ, ◌+◌, ◌*◌, ◌/◌, ◌%◌, ◌<◌, ◌≤◌, Bool, true, false, Option, Some, None, List, drop, take, length, inl, inr, refl, ap, subst, arith}
+use Rattle.std.specs.Prelude.{if◌then◌else◌, not}
 use Rattle.std.proofs.lemmas.Bool.{and_parts, eqb-true, leb-true}
-use Rattle.vdisk_msg.specs.Check.{first_defect, has_size, holds_cookies, is_allowed, is_within, moves_data}
+use Rattle.vdisk_msg.specs.Check.{first_defect, moves_data}
 use Rattle.vdisk_msg.specs.declared.desc.DescFault.TheVariants as fault
 use Rattle.vdisk_msg.specs.declared.desc.DiskDesc.{DiskDesc}
 use Rattle.vdisk_msg.specs.Pieces.{unit_count}
@@ -32,20 +32,10 @@ record FitsDisk (desc : DiskDesc) (blocks : ℕ) : Type 0 where
 checked_if : (allowed moves cookies size within : Bool)
     → (if not allowed then Some fault.Operation else if not moves then None else if not cookies then Some fault.Cookies else if not size then Some fault.Size else if not within then Some fault.Range else None) ≡ None
     → moves ≡ true → (size ≡ true) × (within ≡ true)
-checked_if true true true true true none is = (refl, refl)
-checked_if true true true true false none is = absurd (cc)
-checked_if true true true false within none is = absurd (cc)
-checked_if true true false size within none is = absurd (cc)
-checked_if true false cookies size within none is = absurd (cc)
-checked_if false moves cookies size within none is = absurd (cc)
+checked_if allowed moves cookies size within none is = grind arith
 
 fits_disk : (desc : DiskDesc) (blocks : ℕ) → first_defect desc blocks 0x0e ≡ None → moves_data desc.operation ≡ true → FitsDisk desc blocks
-fits_disk desc blocks none moves =
-    let both = checked_if (is_allowed desc.operation 0x0e) (moves_data desc.operation) (holds_cookies desc.count) (has_size desc.size) (is_within desc.offset (desc.size / 512) blocks) none moves in
-    record {
-      whole = eqb-true (desc.size % 512) 0 (and_parts (nat_lt 0 desc.size && nat_le desc.size 32768) (desc.size % 512 == 0) both.0).1;
-      within = leb-true (desc.offset + desc.size / 512) blocks both.1;
-    }
+fits_disk desc blocks none moves = grind (arith, checked_if, eqb-true, and_parts, leb-true)
 
 -- WHAT A UNIT WROTE: nothing outside of its descriptor's blocks
 pub record Wrote (desc : DiskDesc) (first : ℕ) (store : List ℕ) (told : Option (List ℕ)) : Type 0 where
@@ -70,17 +60,11 @@ kept desc first at n store (Some now) keeps begins ends writes =
     record { now = now; told_is = refl; long = keeps.0; at = at; past = at + n; before = keeps.1; behind = keeps.2; begins = begins; ends = ends; writes = writes }
 
 put_keeps : (at : ℕ) (bytes store now : List ℕ) → now ≡ put_at at bytes store → at + length bytes ≤ length store → KeepsOutside (Some store) (Some now) at (length bytes)
-put_keeps at bytes store now is room = (
-  ap length is ∙ length-put_at at bytes store room,
-  ap (take at) is ∙ take-put_at at at bytes store (omega (arith)) (omega (arith, room)),
-  ap (drop (at + length bytes)) is ∙ drop-put_at at (at + length bytes) bytes store (omega (arith)) room,
-)
+put_keeps at bytes store now is room = grind (arith, length-put_at, take-put_at, drop-put_at)
 
 write_keeps : (failed : Bool) (store : List ℕ) (told : Option (List ℕ)) (at : ℕ) (bytes : List ℕ) → StoreWrites failed (Some store) told at bytes → at + length bytes ≤ length store
     → KeepsOutside (Some store) told at (length bytes)
-write_keeps true store told at bytes does room = does
-write_keeps false store (Some now) at bytes does room = put_keeps at bytes store now does room
-write_keeps false store None at bytes does room = absurd does
+write_keeps failed store told at bytes does room = grind (arith, length-put_at, take-put_at, drop-put_at)
 
 unit_inside : (first offset size unit block n place : ℕ) → block ≡ offset + 16 * unit → n ≡ unit_length size unit → unit < unit_count size → place ≡ 512 * (first + block)
     → (512 * (first + offset) ≤ place) × (place + n ≤ 512 * (first + offset) + size)
@@ -116,19 +100,7 @@ pub record StoredAt (s : LaneState) (operation block count : ℕ) (failed : Bool
 
 checked_within : (p : Progress) (blocks : ℕ) (desc : DiskDesc) (work : Work) (operation block count : ℕ) (failed : Bool) (gave : List ℕ) (next : Progress) → CheckedBy blocks desc p
     → StoresIn p work operation block count failed gave next → desc.operation ≡ 2 → 512 * desc.offset + desc.size ≤ 512 * blocks
-checked_within p blocks desc work operation block count failed gave next checked stores two =
-    let fits = fits_disk desc blocks (none_of p checked stores) (ap moves_data two) in
-    let within = fits.within in
-    let whole = fits.whole in
-    omega (arith, within, whole)
-  where
-    none_of : (q : Progress) → CheckedBy blocks desc q → StoresIn q work operation block count failed gave next → first_defect desc blocks 0x0e ≡ None
-    none_of (Reads u) none stored = none
-    none_of (Writes u bytes) none stored = none
-    none_of Flushes none stored = none
-    none_of (Gives u bytes) none stored = none
-    none_of (Gathers u) none stored = none
-    none_of (Ends status) none stored = absurd stored
+checked_within p blocks desc work operation block count failed gave next checked stores two = grind (arith, fits_disk)
 
 pub stored_at : (s : LaneState) (l : DiskLog) (operation block count : ℕ) (failed : Bool) (gave : List ℕ) (t : LaneState) (store : List ℕ) (told : Option (List ℕ)) → ServesChecked s l
     → 512 * (s.server.first + s.server.blocks) ≤ length store → ServerWorks s gave (Stored operation block count failed) t

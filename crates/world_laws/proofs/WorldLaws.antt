@@ -7,7 +7,6 @@ use Rattle.std.proofs.lemmas.List.Sums.{count_by-le-length}
 use Rattle.std.proofs.lemmas.Option.{slice_get_within}
 use Rattle.runs.specs.Lawful.{Lawful, lawful_split, log_append, log_of}
 use Rattle.runs.specs.Run.{Run}
-use Rattle.vio_io.specs.Causes.{count_after}
 use Rattle.disk_law.specs.ListState.{ImageState}
 use Rattle.lane_laws.specs.DiskLog.{DiskLog, after, nothing_yet}
 use Rattle.disk_model.specs.DiskEvent.{DiskEvent, Done, Works}
@@ -53,14 +52,7 @@ lane_in shapes image entries w k are run below =
     let runs = lanes_run shapes image entries w run in
     let shape = get_within shapes k below in
     let lane = get_within w.lanes k (omega (arith, below, runs.many)) in
-    record {
-      shape = shape.0;
-      shape_is = shape.1;
-      sound = sound_at 0 shapes k shape.0 are shape.1;
-      lane = lane.0;
-      lane_is = lane.1;
-      run = runs.each k shape.0 lane.0 shape.1 lane.1;
-    }
+    grind (arith, sound_at)
 
 same_there : {X : Type 0} (xs : List X) (k : ℕ) (x y : X) → slice_get xs k ≡ Some x → slice_get xs k ≡ Some y → x ≡ y
 same_there xs k x y one other = let both : Some x ≡ Some y = sym one ∙ other in cc both
@@ -96,10 +88,7 @@ world_le shapes image entries w are run clean =
 
 world_faults : (shapes : List Shape) (image : ImageState) (entries : List SettleEntry) (w : WorldState) → Run WorldStep (fresh_world shapes image) entries w
     → image.faults ≡ 0 → length entries < 2 ^ 63 → w.image.faults ≡ count_by (in_entry is_failed_store) entries
-world_faults shapes image entries w run none short =
-    let n = count_by (in_entry is_failed_store) entries in
-    let most : n ≤ length entries = count_by-le-length (in_entry is_failed_store) entries in
-    run_faults (fresh_world shapes image) entries w run ∙ ap (count_after n) none ∙ few_counted n (omega (arith, most, short))
+world_faults shapes image entries w run none short = grind (arith, count_by-le-length, run_faults, few_counted)
 
 pub world_counted : (shapes : List Shape) (image : ImageState) (entries : List SettleEntry) (w : WorldState) → AreShapes 0 shapes → Run WorldStep (fresh_world shapes image) entries w
     → Each IsUnforged w.lanes → image.faults ≡ 0 → length entries < 2 ^ 63 → count_by (in_entry is_failed_done) entries ≤ w.image.faults
@@ -173,10 +162,7 @@ well_or_failed events before later id operation status bytes is none (inr failed
     absurd (omega (arith, none, ap (count_by is_failed_done) is, failed_counts before later id operation status bytes failed))
 
 carries_tells : (l : DiskLog) (id status : ℕ) (bytes : List ℕ) → CarriesAsAsked l.work id status bytes → TellsStore status
-carries_tells l id status bytes carries = elim carries.carries [
-  | inl well ↦ inl well.0
-  | inr failed ↦ inr failed.0
-]
+carries_tells l id status bytes carries = grind arith
 
 tells_in : (shape : Shape) (before later : List DiskEvent) (id operation status : ℕ) (bytes : List ℕ)
     → Lawful StatusAt after (nothing_yet shape) (before ++ Works (Done id operation status bytes) ∷ later)

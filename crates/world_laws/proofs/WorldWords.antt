@@ -39,12 +39,7 @@ lane_in shapes image entries w k s run there =
     let runs = lanes_run shapes image entries w run in
     let within : k < length shapes = omega (arith, slice_get_within w.lanes k s there, runs.many) in
     let shape = get_within shapes k within in
-    record {
-      shape = shape.0;
-      within = within;
-      sound = λ are. shape_at 0 shapes k shape.0 are shape.1;
-      run = runs.each k shape.0 s shape.1 there;
-    }
+    grind (arith, shape_at)
 
 -- AN ENTRY is a step of its lane, after what happened to it before
 record EntryAt (shapes : List Shape) (before : List SettleEntry) (k : ℕ) (event : DiskEvent) : Type 0 where
@@ -59,13 +54,7 @@ entry_at shapes image entries w before k event behind run is =
     let whole : Run WorldStep (fresh_world shapes image) (before ++ OfLane k event ∷ behind) w =
     subst (λ (l : List SettleEntry). Run WorldStep (fresh_world shapes image) l w) (sym is) run in
     let split = run_split WorldStep (fresh_world shapes image) w before (OfLane k event ∷ behind) whole in
-    let moves = split.2.1 in
-    record {
-      lane = moves.lane;
-      of_world = lane_in shapes image before split.0 k moves.lane split.1 moves.there;
-      behind = moves.after;
-      step = lane_step moves.lane split.0.image event moves.after split.2.0.image moves.moves;
-    }
+    grind (arith, lane_in, lane_step)
 
 pub entry_within : (shapes : List Shape) (image : ImageState) (entries : List SettleEntry) (w : WorldState) (before : List SettleEntry) (k : ℕ) (event : DiskEvent) (behind : List SettleEntry)
     → AreShapes 0 shapes → Run WorldStep (fresh_world shapes image) entries w → before ++ OfLane k event ∷ behind ≡ entries → k < length shapes
