@@ -1,5 +1,5 @@
 -- An end of a port that some events led to has a next step.
-use Rattle.std.proofs.Common.{◌≡◌, ◌≢◌, Bool, true, false, Option, Some, None, List, refl, sym, subst, ap, ◌∙◌}
+use Rattle.std.proofs.Common.{◌≡◌, ◌≢◌, Bool, true, false, Option, None, List, refl, sym, subst, ap, ◌∙◌, arith}
 use Rattle.std.specs.Prelude.{is_some}
 use Rattle.ldc_link.specs.declared.phase.Role.{Role}
 use Rattle.ldc_link.specs.declared.phase.Role.TheVariants.{Initiator, Responder}
@@ -31,12 +31,10 @@ use Rattle.port_laws.proofs.LaneMoves.{fresh_run_core}
 use Rattle.port_laws.proofs.PortRuns.{before_core, fresh_port_core}
 
 owed_up : (role : Role) (begun : Bool) (s : NetEndState) (turns : List Turn) → EndStands role (net_core_at role begun s) turns → (up : Bool) → is_up s.link ≡ up → s.handshake.owed ≢ None → is_up s.link ≡ true
-owed_up role begun s turns stands true is some = is
-owed_up role begun s turns stands false is some = absurd (some (stands.below is).owed)
+owed_up role begun s turns stands up is some = grind arith
 
 some_of : (session : Option NetSession) → session ≢ None → is_some session ≡ true
-some_of None some = absurd (some refl)
-some_of (Some p) some = refl
+some_of session some = grind arith
 
 open_up : (role : Role) (begun : Bool) (s : NetEndState) (turns : List Turn) → EndStands role (net_core_at role begun s) turns → (up : Bool) → is_up s.link ≡ up → s.session ≢ None → is_up s.link ≡ true
 open_up role begun s turns stands true is some = is
@@ -68,12 +66,10 @@ reached_steps s e reached first =
 
 -- and so has a port with its out queue, behind the frame that moves
 before_step : (e : End) (one other : NetAnswer) (s : PortState) → before (Steps e one) s ≡ before (Steps e other) s
-before_step A one other s = refl
-before_step B one other s = refl
+before_step e one other s = grind arith
 
 before_first : (e : End) (s : PortState) → (seen_at e (before (Steps e Idle) s).lane).first ≡ (seen_at e s.lane).first
-before_first A s = refl
-before_first B s = before_keeps (λ (x : PortState). (seen_at B x.lane).first ≡ (seen_at B s.lane).first) (Steps B Idle) s (λ frame frames. refl) refl
+before_first e s = grind (arith, before_keeps)
 
 pub port_steps : (shape : NetShape) (events : List PortEvent) (s : PortState) (e : End) → IsNetShape shape → Run PortStep (fresh_port shape) events s → IsPacket (seen_at e s.lane).first
     → (answer : NetAnswer) × (t : PortState) × PortStep s (OnLane (Steps e answer)) t

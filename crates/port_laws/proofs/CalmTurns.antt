@@ -1,7 +1,7 @@
 -- A calm turn of a port that nobody forged and on which nothing was lost: first the guest's end and then the switch's is idle or finds no
 -- room. Then the port is finished.
 use Rattle.std.proofs.Common.{◌≡◌, ◌≢◌, ℕ, ◌+◌, ◌≤◌, Bool, true, false, Option, Some, None, List, [], ◌∷◌, ◌++◌, length, refl, sym, subst, ap, ◌∙◌, arith, length-append}
-use Rattle.std.specs.Prelude.{◌&&◌, is_some, nat_lt}
+use Rattle.std.specs.Prelude.{is_some, nat_lt}
 use Rattle.std.proofs.lemmas.Bool.Decides.{nat_tests}
 use Rattle.ldc_link.specs.declared.phase.Role.TheVariants.{Initiator, Responder}
 use Rattle.ldc_queue.specs.declared.end.End.TheVariants.{A, B}
@@ -38,18 +38,11 @@ lt_some n some = grind (arith, nat_tests, some)
 -- THE OUT QUEUE is empty where no frame is held behind the move
 queue_empty : (b : Bool) (queue : List (List ℕ)) (s : PortState) → takes_more s.lane.hub ≡ b → s.queue ≡ queue → 1 ≤ s.lane.hub.slots → is_some s.lane.hub.session ≡ true
     → length (moves_first b queue s).lane.hub.frames ≡ 0 → (moves_first b queue s).queue ≡ []
-queue_empty true [] s takes is slots opened none = is
-queue_empty true (frame ∷ frames) s takes is slots opened none = absurd (omega (arith, none, length-append s.lane.hub.frames (frame ∷ [])))
-queue_empty false queue s takes is slots opened none = by_test (nat_lt (length s.lane.hub.frames) s.lane.hub.slots) refl
-  where
-    by_test : (c : Bool) → nat_lt (length s.lane.hub.frames) s.lane.hub.slots ≡ c → s.queue ≡ []
-    by_test true less = true_false (sym (ap (λ (x : Bool). x && nat_lt (length s.lane.hub.frames) s.lane.hub.slots) opened ∙ less) ∙ takes)
-    by_test false past = true_false (sym (ap (λ (n : ℕ). nat_lt n s.lane.hub.slots) none ∙ lt_some s.lane.hub.slots slots) ∙ past)
+queue_empty b queue s takes is slots opened none = grind (arith, length-append, true_false, lt_some)
 
 -- a session of which this holds
 some_in : (session : Option SessionLog) (P : SessionLog → Type 0) → InSession session P → (v : SessionLog) × (session ≡ Some v) × P v
-some_in None P here = absurd here
-some_in (Some v) P here = (v, refl, here)
+some_in session P here = grind arith
 
 some_not : {X : Type 0} (o : Option X) (x : X) → o ≡ Some x → o ≢ None
 some_not {X} o x is none = none_some x (sym none ∙ is)

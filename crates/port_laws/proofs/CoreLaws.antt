@@ -1,6 +1,6 @@
 -- What holds of two ends on a channel, for a port.
-use Rattle.std.proofs.Common.{◌≡◌, ℕ, zero, suc, ◌*◌, ◌%◌, ◌^◌, ◌<◌, ◌≤◌, Bool, true, false, Option, List, [], ◌∷◌, refl, sym, subst, ap, ◌∙◌, arith}
-use Rattle.std.specs.Prelude.{◌⊎◌, ◌+◌, nat_le, slice_index, is_some}
+use Rattle.std.proofs.Common.{◌≡◌, ℕ, zero, suc, ◌*◌, ◌^◌, ◌<◌, ◌≤◌, Bool, true, false, Option, List, [], ◌∷◌, refl, sym, subst, ap, ◌∙◌, arith}
+use Rattle.std.specs.Prelude.{◌⊎◌, slice_index, is_some}
 use Rattle.std.specs.List.{AllByRecursion}
 use Rattle.byteorder.specs.Numbers.{big_from-lt}
 use Rattle.std.proofs.lemmas.Bool.Decides.{nat_tests}
@@ -14,14 +14,12 @@ use Rattle.ldc_queue.specs.Wire.{peer_of}
 use Rattle.runs.specs.Lawful.{log_of}
 use Rattle.runs.specs.Run.{Run}
 use Rattle.map_table.proofs.Each.{each_replicate}
-use Rattle.map_table.specs.Cookies.{IsCookie, no_cookie}
 use Rattle.vio_bytes.specs.Place.{number_at}
 use Rattle.vio_handshake.specs.Acceptance.{hold_ring}
 use Rattle.vio_handshake.specs.Attributes.{address_of}
 use Rattle.vio_handshake.specs.declared.session.Offer.{Offer}
 use Rattle.vio_handshake.specs.Offers.{FitsRing, Match}
 use Rattle.vio_tag.proofs.AttributeBytes.{net_attr_reads_back}
-use Rattle.vio_tag.specs.declared.attributes.NetAttr.{NetAttr}
 use Rattle.vio_tag.specs.declared.cause.Cause.{Cause}
 use Rattle.channel_model.specs.HandshakeOrder.{HandshakeOrder}
 use Rattle.channel_model.specs.Sayings.{heard, said}
@@ -43,7 +41,7 @@ use Rattle.port_model.specs.NetEndStep.{Reset, Sent, Took}
 use Rattle.port_model.specs.NetEvent.{NetEvent, Steps}
 use Rattle.port_model.specs.NetLaneState.{IsNetShape, NetLaneState, NetShape, fresh_net, memory_of, net_end, reach_of, role_at, seen_at}
 use Rattle.port_model.specs.NetLaneStep.{NetLaneStep}
-use Rattle.port_model.specs.Offers.{class_of, device_of, port_offer, ring_cookie}
+use Rattle.port_model.specs.Offers.{class_of, port_offer, ring_cookie}
 use Rattle.port_model.specs.PortLog.{after, no_events}
 use Rattle.port_model.specs.PortState.{OnLane, PortEvent, PortState, PortStep, before, fresh_port}
 use Rattle.port_laws.specs.NetCore.{core_events, fresh_net_core, lane_core}
@@ -54,19 +52,10 @@ use Rattle.port_laws.proofs.PortRuns.{before_core, before_fits, fresh_port_core,
 
 -- THE OFFERS
 class_small : (role : Role) → class_of role < 2 ^ 8
-class_small Initiator = omega arith
-class_small Responder = omega arith
+class_small role = grind arith
 
 offer_fits : (role : Role) (address : List ℕ) (slots : ℕ) → slots ≤ 64 → OfferFits (port_offer role address slots)
-offer_fits role address slots few = record {
-  minor = omega arith;
-  class = class_small role;
-  slots = omega (arith, few);
-  slot_size = omega arith;
-  room = refl;
-  cookies = (record { address = omega arith; size = omega (arith, few) }, each_replicate IsCookie 13 no_cookie (record { address = omega arith; size = omega arith }));
-  form = record { most = omega arith; none = refl };
-}
+offer_fits role address slots few = grind (arith, class_small, each_replicate)
 
 pub sizes_fit : (shape : NetShape) → IsNetShape shape → CoreFits shape.entries (port_offer Initiator shape.address shape.slots) (port_offer Responder shape.address shape.slots)
 sizes_fit shape is = record {
@@ -78,10 +67,7 @@ sizes_fit shape is = record {
 
 ring_held : (slots : ℕ) → hold_ring (ring_cookie slots ∷ []) (slots * 64) ≡ true
 unfolding hold_ring
-ring_held slots =
-    let even : (64 * slots) % 8 ≡ 0 = omega arith in
-    let enough : nat_le (slots * 64) (64 * slots + 0) ≡ true = grind (arith, nat_tests) in
-    rw (even) enough
+ring_held slots = grind (arith, nat_tests)
 
 ring_fits : (role other : Role) (address : List ℕ) (slots : ℕ) → FitsRing (port_offer role address slots) (port_offer other address slots)
 ring_fits role other address slots = record { slots = refl; slot_size = refl; some = omega arith; most = omega arith; held = ring_held slots }
@@ -96,18 +82,7 @@ number_small : (address : List ℕ) → AllByRecursion (λ (byte : ℕ). byte < 
 number_small address all = big_from-lt 0 6 address (bytes_small address all)
 
 address_back : (role : Role) (address : List ℕ) (slots : ℕ) → number_at 6 0 address < 2 ^ 64 → address_of (port_offer role address slots) ≡ number_at 6 0 address
-address_back role address slots few =
-    ap (λ (a : NetAttr). a.address) (net_attr_reads_back (device_of address) (record {
-      mode = omega arith;
-      address_kind = omega arith;
-      ack_freq = omega arith;
-      link = omega arith;
-      options = omega arith;
-      address = few;
-      mtu = omega arith;
-      cflags = omega arith;
-      lso = omega arith;
-    }))
+address_back role address slots few = grind (arith, net_attr_reads_back)
 
 pub offers_match : (shape : NetShape) → IsNetShape shape → Match (port_offer Initiator shape.address shape.slots) (port_offer Responder shape.address shape.slots)
 offers_match shape is =
@@ -163,16 +138,14 @@ port_front shape events s e is run unforged up =
     (core_front shape is (port_events events) s.lane (fresh_port_core shape events s run) e unforged up)
 
 pub role_same : (e : End) → role_of e ≡ role_at e
-role_same A = refl
-role_same B = refl
+role_same e = grind arith
 
 both_rings : (shape : NetShape) (events : List NetEvent) (s : NetLaneState) (e : End) → Run NetLaneStep (fresh_net shape) events s → (end_of e (lane_core s)).offer.both_rings ≡ true
 both_rings shape events s A run = refl
 both_rings shape events s B run = refl
 
 pub order_of : (both : Bool) (one other : Role) (turns : List Turn) → both ≡ true → one ≡ other → HandshakeOrder both one turns → HandshakeOrder true other turns
-order_of both one other turns is same order =
-    subst (λ (x : Role). HandshakeOrder true x turns) same (subst (λ (x : Bool). HandshakeOrder x one turns) is order)
+order_of both one other turns is same order = grind arith
 
 pub opens_said : (shape : NetShape) (events : List NetEvent) (s : NetLaneState) (e : End) (packet : List ℕ) (t : NetLaneState) → IsNetShape shape
     → Run NetLaneStep (fresh_net shape) events s → NetLaneStep s (Steps e (Sent packet true)) t

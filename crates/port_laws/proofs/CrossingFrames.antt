@@ -12,7 +12,6 @@ use Rattle.ldc_queue.specs.declared.end.End.{End}
 use Rattle.ldc_queue.specs.declared.end.End.TheVariants.{A, B}
 use Rattle.ldc_queue.specs.Transcript.{Turn}
 use Rattle.ldc_queue.specs.Wire.{peer_behind, upset}
-use Rattle.dring.specs.Slots.{range_length}
 use Rattle.runs.specs.Lawful.{log_of}
 use Rattle.runs.specs.Run.{Run}
 use Rattle.vio_handshake.specs.declared.handshake.Handshake.{Handshake}
@@ -28,26 +27,26 @@ use Rattle.cookie_copy.specs.Reach.{Reach}
 use Rattle.port_model.proofs.Refuting.{none_some}
 use Rattle.port_model.proofs.Ruling.{says_of}
 use Rattle.port_model.specs.EndLog.{EndLog}
-use Rattle.port_model.specs.Fetching.{Fetched, NotReady, fetched}
+use Rattle.port_model.specs.Fetching.{Fetched, fetched}
 use Rattle.port_model.specs.FramesStand.{CountsStand, FramesStand}
 use Rattle.port_model.specs.NetEndPutting.{announcement, answer, answers, cleared_by_put, groups_answer, holding, holding_own, net_holds, net_kind, net_opens, net_put, opened_by_put}
 use Rattle.port_model.specs.Groups.{membership}
 use Rattle.port_model.specs.NetEndRule.{Announces, Fetches, NetRule, Publishes, Puts, Replies, Says, Tells, port_rule}
 use Rattle.port_model.specs.NetEndState.{Activity, NetEndState, NetSession, joined_net_end, unseen, unseen_in}
 use Rattle.port_model.specs.NetEndStep.{Blocked, Frame, Idle, NetAnswer, NetEndStep, NetLeft, NetPublishes, NetSends, Published, Sent, Took, published, taken}
-use Rattle.port_model.specs.NetEndTaking.{GoesOn, NetTake, NetTakes, Resets, active, freed}
+use Rattle.port_model.specs.NetEndTaking.{GoesOn, NetTake, NetTakes, Resets}
 use Rattle.port_model.specs.NetEvent.{CalmTick, Steps, Ticked}
 use Rattle.port_model.specs.NetLaneState.{IsNetShape, NetLaneState, NetShape, reach_of, seen_at}
 use Rattle.port_model.specs.NetLaneStep.{EndSteps}
 use Rattle.port_model.specs.PortLog.{PortLog, after, no_events}
-use Rattle.port_model.specs.PortState.{OnLane, PortEvent, PortState, PortStep, before, fresh_port, moves_first, takes_more}
+use Rattle.port_model.specs.PortState.{OnLane, PortEvent, PortState, PortStep, before, fresh_port, moves_first}
 use Rattle.port_laws.specs.Crossing.{crossing, fresh_frames, ready_in, untaken}
 use Rattle.port_laws.specs.NetCore.{net_core}
 use Rattle.port_laws.specs.Remaining.{ready_slots}
 use Rattle.port_laws.specs.RingHolds.{RingHolds}
 use Rattle.port_laws.specs.RingStands.{RingIn, taken_of}
 use Rattle.port_laws.proofs.EndMoves.{HeldCore, held_core}
-use Rattle.port_laws.proofs.MessageDoes.{Acks, Asks, Declines, MessageDoes, Names, TakeDoes, Told}
+use Rattle.port_laws.proofs.MessageDoes.{MessageDoes, TakeDoes}
 use Rattle.port_laws.proofs.PortCounts.{Ready}
 use Rattle.port_laws.proofs.MemoryRoom.{MemoryHasRoom}
 use Rattle.port_laws.proofs.ReadyFrames.{ready_most}
@@ -80,9 +79,7 @@ in_session memory s p n is less = subst (λ (x : Option NetSession). n ≤ (leng
 -- IT HOLDS a message
 slot_kept : (memory : List ℕ) (s : NetEndState) (p : NetSession) (activity : Activity) (last : Option ℕ) (found : Fetched) (held : NetEndState) → s.session ≡ Some p
     → answers s p activity last found ≡ Some held → Kept memory s memory held
-slot_kept memory s p activity (Some last) (NotReady state) held is same =
-    of_some (Kept memory s memory) (holding_own (answer s activity last) (record p { active = None }) s) held same (in_session memory s p _ is (omega arith))
-slot_kept memory s p activity _ _ held is same = none_some held same
+slot_kept memory s p activity last found held is same = grind (arith, of_some, in_session, none_some)
 
 held_kept : (memory : List ℕ) (s : NetEndState) (at : Seen) (reach : Reach) (rule : NetRule) (held : NetEndState) → port_rule Initiator s at ≡ rule → net_holds rule s reach ≡ Some held
     → Kept memory s memory held
@@ -104,10 +101,7 @@ held_kept memory s at reach _ held is same = none_some held same
 -- IT PUTS what it holds; a session that opens by that has a cleared ring
 opened_kept : (opens : Bool) (memory : List ℕ) (s : NetEndState) → (opens ≡ true → s.session ≡ None)
     → own_untaken (cleared_by_put Initiator opens s.slots memory) (opened_by_put Initiator opens s) ≤ own_untaken memory s
-opened_kept false memory s shut = omega arith
-opened_kept true memory s shut =
-    subst (λ (x : Option NetSession). own_untaken (cleared_by_put Initiator true s.slots memory) (opened_by_put Initiator true s) ≤ (length s.frames - unseen x) + ready_in s.slots memory x) (sym (shut refl))
-    (omega (arith, cleared_none s.slots memory))
+opened_kept opens memory s shut = grind (arith, cleared_none)
 
 sends_kept : (slots : ℕ) (queue : List (List ℕ)) (s : NetEndState) (l : EndLog) (turns : List Turn) (at : Seen) (memory : List ℕ) (reach : Reach) (packet : List ℕ) (opens : Bool) (t : NetLeft)
     → Acting Initiator slots queue s l turns → NetSends Initiator s at memory reach packet opens t → Kept memory s t.own t.end
@@ -140,19 +134,7 @@ publishes_kept slots queue s l turns at memory reach id t acting room step =
 -- IT TAKES a packet
 does_kept : (memory new : List ℕ) (s t : NetEndState) (p : NetSession) (m : Message) → s.session ≡ Some p → CountsStand s p → 1 ≤ s.slots → 64 * s.slots ≤ length memory
     → MessageDoes Initiator s p memory m.subtype m.body t new → Kept memory s new t
-does_kept memory new s t p m session stands some room (Asks seq ident start end state kind body place stays is) =
-    subst (λ (x : List ℕ). Kept memory s x t) (sym stays) (subst (Kept memory s memory) (sym is) (in_session memory s p _ session (omega arith)))
-does_kept memory new s t p m session stands some room (Acks seq ident start end state kind body begins inside most undone stays is) =
-    let count : ℕ = range_length s.slots start end in
-    let held = stands.held in
-    let less = freed_less s.slots p.seen count memory some room in
-    subst (λ (x : List ℕ). Kept memory s x t) (sym stays)
-    (subst (Kept memory s (freed s.slots p.seen count memory)) (sym is) (in_session memory s p _ session (omega (arith, most, held, less, length-drop count s.frames))))
-does_kept memory new s t p m session stands some room (Names set count addresses groups reply answers role kind body stays is) = absurd (cc role)
-does_kept memory new s t p m session stands some room (Told set count addresses role kind body telling stays is) =
-    subst (λ (x : List ℕ). Kept memory s x t) (sym stays) (subst (Kept memory s memory) (sym is) (in_session memory s p _ session (omega arith)))
-does_kept memory new s t p m session stands some room (Declines h declined stays is) =
-    subst (λ (x : List ℕ). Kept memory s x t) (sym stays) (subst (Kept memory s memory) (sym is) (omega arith))
+does_kept memory new s t p m session stands some room given = grind (arith, in_session, freed_less, length-drop)
 
 abbrev TakeKept : List ℕ → NetEndState → NetTake → Type 0
 TakeKept memory s (GoesOn t opens new) = Kept memory s new t
@@ -178,8 +160,7 @@ takes_kept memory packet s turns take ends stands some room takes = by_what take
 
 -- IT BEGINS ANEW
 joined_kept : (x : ChannelState) (memory new : List ℕ) (s : NetEndState) → own_untaken new (joined_net_end Initiator s) ≤ untaken x memory s
-joined_kept Up memory new s = omega (arith, length-drop (unseen s.session) s.frames)
-joined_kept _ memory new s = omega (arith, length-drop (unseen s.session) s.frames)
+joined_kept x memory new s = grind (arith, length-drop)
 
 -- AT THE LANE
 abbrev lane_crossing : NetLaneState → ℕ
@@ -187,16 +168,10 @@ lane_crossing u = untaken u.wire.wire.end_a u.guest_memory u.guest
 
 goes_kept : (u t : NetLaneState) (new : List ℕ) (g : NetEndState) → u.wire.wire.end_a ≡ Up → t.wire.wire.end_a ≡ u.wire.wire.end_a → t.guest ≡ g → t.guest_memory ≡ new
     → Kept u.guest_memory u.guest new g → lane_crossing t ≤ lane_crossing u
-goes_kept u t new g up same guest memory kept =
-    subst (λ (x : ChannelState). untaken x t.guest_memory t.guest ≤ lane_crossing u) (sym (same ∙ up))
-    (subst (λ (x : ChannelState). own_untaken t.guest_memory t.guest ≤ untaken x u.guest_memory u.guest) (sym up)
-    (subst (λ (x : NetEndState). own_untaken t.guest_memory x ≤ own_untaken u.guest_memory u.guest) (sym guest)
-    (subst (λ (x : List ℕ). own_untaken x g ≤ own_untaken u.guest_memory u.guest) (sym memory) kept)))
+goes_kept u t new g up same guest memory kept = grind arith
 
 begins_kept : (u t : NetLaneState) (new : List ℕ) → t.wire.wire.end_a ≡ Up → t.guest ≡ joined_net_end Initiator u.guest → t.guest_memory ≡ new → lane_crossing t ≤ lane_crossing u
-begins_kept u t new up guest memory =
-    subst (λ (x : ChannelState). untaken x t.guest_memory t.guest ≤ lane_crossing u) (sym up)
-    (subst (λ (x : NetEndState). own_untaken t.guest_memory x ≤ lane_crossing u) (sym guest) (joined_kept u.wire.wire.end_a u.guest_memory t.guest_memory u.guest))
+begins_kept u t new up guest memory = grind (arith, joined_kept)
 
 guest_crossing : (shape : NetShape) (u : PortState) (l : PortLog) (answer : NetAnswer) (t : NetLaneState) → Ready shape u l → MemoryHasRoom shape.slots u.lane → EndSteps A u.lane answer t
     → lane_crossing t ≤ lane_crossing u.lane
@@ -255,19 +230,14 @@ guest_crossing shape u l answer t ready room step = by_answer answer step
 
 -- A STEP OF THE SWITCH'S END leaves the guest, whose end may have to begin anew
 upset_less : (x : ChannelState) (memory : List ℕ) (s : NetEndState) → untaken (upset x) memory s ≤ untaken x memory s
-upset_less Up memory s = omega arith
-upset_less _ memory s = omega arith
+upset_less x memory s = grind arith
 
 behind_less : (x y : ChannelState) (memory : List ℕ) (s : NetEndState) → untaken (peer_behind x y) memory s ≤ untaken y memory s
-behind_less Up y memory s = upset_less y memory s
-behind_less _ y memory s = omega arith
+behind_less x y memory s = grind (arith, upset_less)
 
 same_kept : (u t : NetLaneState) (y : ChannelState) → t.wire.wire.end_a ≡ y → t.guest ≡ u.guest → t.guest_memory ≡ u.guest_memory → untaken y u.guest_memory u.guest ≤ lane_crossing u
     → lane_crossing t ≤ lane_crossing u
-same_kept u t y state guest memory less =
-    subst (λ (x : ChannelState). untaken x t.guest_memory t.guest ≤ lane_crossing u) (sym state)
-    (subst (λ (x : NetEndState). untaken y t.guest_memory x ≤ lane_crossing u) (sym guest)
-    (subst (λ (x : List ℕ). untaken y x u.guest ≤ lane_crossing u) (sym memory) less))
+same_kept u t y state guest memory less = grind arith
 
 pub hub_crossed : (shape : NetShape) (u : PortState) (l : PortLog) (frame : List ℕ) (t : NetLaneState) → Finds shape u l → EndSteps B u.lane (Frame frame) t → lane_crossing t + 1 ≤ lane_crossing u.lane
 hub_crossed shape u l frame t finds step =
@@ -311,12 +281,10 @@ hub_crossing shape u l answer t finds step =
 
 -- THE FRAME THAT MOVES from the out queue is none of the guest's
 moves_same : (b : Bool) (queue : List (List ℕ)) (s : PortState) → crossing (moves_first b queue s) ≡ crossing s
-moves_same true [] s = refl
-moves_same _ _ s = refl
+moves_same b queue s = grind arith
 
 before_same : (e : End) (answer : NetAnswer) (s : PortState) → crossing (before (Steps e answer) s) ≡ crossing s
-before_same A answer s = refl
-before_same B answer s = moves_same (takes_more s.lane.hub) s.queue s
+before_same e answer s = grind (arith, moves_same)
 
 -- ALONG EVERY RUN
 unforged_log : (shape : NetShape) (events : List PortEvent) (s : PortState) → IsNetShape shape → Run PortStep (fresh_port shape) events s → s.lane.wire.forged ≡ false

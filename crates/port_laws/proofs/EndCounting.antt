@@ -1,14 +1,13 @@
 -- What the counts of an end and of its log come to, taken apart and put together again.
 use Rattle.std.proofs.Common.{◌≡◌, ℕ, ◌+◌, ◌≤◌, Bool, true, false, Option, Some, None, List, [], ◌++◌, length, drop, refl, sym, subst, ap, ◌∙◌, arith, length-append, length-drop, ◌∷◌}
-use Rattle.std.specs.Prelude.{is_none, is_some}
+use Rattle.std.specs.Prelude.{is_none}
 use Rattle.std.proofs.lemmas.List.{drop-append-le, drop-drop}
 use Rattle.ldc_link.specs.declared.phase.Role.{Role}
-use Rattle.ldc_link.specs.declared.phase.Role.TheVariants.{Initiator, Responder}
 use Rattle.port_model.proofs.Refuting.{false_true}
 use Rattle.port_model.specs.EndLog.{EndLog, SessionLog, said_in, said_kind}
 use Rattle.port_model.specs.NetEndState.{NetEndState, NetSession}
-use Rattle.port_model.specs.Spoken.{GroupsInfo, Spoken, spoken}
-use Rattle.port_laws.specs.Counted.{AnswersRightly, Counts, EndCounts, GroupCounts, GuestCounts, GuestGroups, IsBehind, NoneTold, PeerCounts, RingCounts, SessionCounts, left_of, unsaid}
+use Rattle.port_model.specs.Spoken.{Spoken}
+use Rattle.port_laws.specs.Counted.{AnswersRightly, Counts, EndCounts, GuestCounts, GuestGroups, NoneTold, PeerCounts, RingCounts, SessionCounts, left_of, unsaid}
 
 -- AN OPEN SESSION, of the end and of its log
 pub record OpenCounts (role : Role) (slots : ℕ) (groups : List (List ℕ)) (published gone : ℕ) (left : Option (List ℕ)) (begun : Bool) (p : NetSession)
@@ -19,14 +18,11 @@ pub record OpenCounts (role : Role) (slots : ℕ) (groups : List (List ℕ)) (pu
 
 open_log : (role : Role) (slots : ℕ) (groups : List (List ℕ)) (published gone : ℕ) (left : Option (List ℕ)) (begun : Bool) (p : NetSession) (log : Option SessionLog)
     → Counts role slots groups published gone left begun (Some p) log → OpenCounts role slots groups published gone left begun p log
-open_log role slots groups published gone left begun p (Some v) counts = record { of_log = v; is = refl; counts = counts }
-open_log role slots groups published gone left begun p None counts = absurd counts
+open_log role slots groups published gone left begun p log counts = grind arith
 
 pub open_counts : (role : Role) (slots : ℕ) (queue : List (List ℕ)) (s : NetEndState) (l : EndLog) (p : NetSession) → EndCounts role slots queue s l → s.session ≡ Some p
     → OpenCounts role slots s.groups l.published l.gone (unsaid s) s.link.begun p l.session
-open_counts role slots queue s l p counts is =
-    open_log role slots s.groups l.published l.gone (unsaid s) s.link.begun p l.session
-    (subst (λ (x : Option NetSession). Counts role slots s.groups l.published l.gone (unsaid s) s.link.begun x l.session) is counts.session)
+open_counts role slots queue s l p counts is = grind (arith, open_log)
 
 -- bytes of its own that its link holds; and where it holds none
 pub own_left : (own : Bool) (bytes : List ℕ) → own ≡ true → 1 ≤ length bytes → left_of own bytes ≡ Some bytes
@@ -35,16 +31,14 @@ own_left true (byte ∷ bytes) is some = refl
 own_left false bytes is some = false_true is
 
 none_left : (own : Bool) → left_of own [] ≡ None
-none_left true = refl
-none_left false = refl
+none_left own = grind arith
 
 pub empty_unsaid : (s : NetEndState) → s.link.to_send ≡ [] → unsaid s ≡ None
 empty_unsaid s is = ap (left_of (is_none s.handshake.owed)) is ∙ none_left (is_none s.handshake.owed)
 
 pub open_empty : (role : Role) (slots : ℕ) (queue : List (List ℕ)) (s : NetEndState) (l : EndLog) (p : NetSession) → EndCounts role slots queue s l → s.session ≡ Some p → s.link.to_send ≡ []
     → OpenCounts role slots s.groups l.published l.gone None s.link.begun p l.session
-open_empty role slots queue s l p counts is empty =
-    subst (λ (x : Option (List ℕ)). OpenCounts role slots s.groups l.published l.gone x s.link.begun p l.session) (empty_unsaid s empty) (open_counts role slots queue s l p counts is)
+open_empty role slots queue s l p counts is empty = grind (arith, empty_unsaid, open_counts)
 
 -- none is open
 pub record ShutCounts (role : Role) (groups : List (List ℕ)) (published gone : ℕ) (log : Option SessionLog) : Type 0 where
@@ -54,19 +48,15 @@ pub record ShutCounts (role : Role) (groups : List (List ℕ)) (published gone :
 
 shut_log : (role : Role) (slots : ℕ) (groups : List (List ℕ)) (published gone : ℕ) (left : Option (List ℕ)) (begun : Bool) (log : Option SessionLog)
     → Counts role slots groups published gone left begun None log → ShutCounts role groups published gone log
-shut_log role slots groups published gone left begun None counts = record { is = refl; gone_all = counts.0; none = counts.1 }
-shut_log role slots groups published gone left begun (Some v) counts = absurd counts
+shut_log role slots groups published gone left begun log counts = grind arith
 
 pub shut_counts : (role : Role) (slots : ℕ) (queue : List (List ℕ)) (s : NetEndState) (l : EndLog) → EndCounts role slots queue s l → s.session ≡ None
     → ShutCounts role s.groups l.published l.gone l.session
-shut_counts role slots queue s l counts is =
-    shut_log role slots s.groups l.published l.gone (unsaid s) s.link.begun l.session
-    (subst (λ (x : Option NetSession). Counts role slots s.groups l.published l.gone (unsaid s) s.link.begun x l.session) is counts.session)
+shut_counts role slots queue s l counts is = grind (arith, shut_log)
 
 pub with_open : (role : Role) (slots : ℕ) (groups : List (List ℕ)) (published gone : ℕ) (left : Option (List ℕ)) (begun : Bool) (session : Option NetSession) (p : NetSession) (v : SessionLog)
     → session ≡ Some p → SessionCounts role slots groups published gone left begun p v → Counts role slots groups published gone left begun session (Some v)
-with_open role slots groups published gone left begun session p v is counts =
-    subst (λ (x : Option NetSession). Counts role slots groups published gone left begun x (Some v)) (sym is) counts
+with_open role slots groups published gone left begun session p v is counts = grind arith
 
 -- THE FRAMES, of which some leave
 pub frames_leave : (n : ℕ) (frames queue given : List (List ℕ)) (gone : ℕ) → n ≤ length frames → frames ++ queue ≡ drop gone given → drop n frames ++ queue ≡ drop (gone + n) given
@@ -97,37 +87,23 @@ end_from role slots queue s t l q v n counts same frames few next groups session
 -- the guest's counts speak of few fields
 pub guest_same : (role : Role) (p q : NetSession) (groups now : List (List ℕ)) (v w : SessionLog) → GuestCounts role p groups v → now ≡ groups → q.untold ≡ p.untold → q.telling ≡ p.telling
     → w.membership ≡ v.membership → w.told ≡ v.told → w.groups ≡ v.groups → GuestCounts role q now w
-guest_same Responder p q groups now v w counts same untold telling membership told known = same ∙ counts ∙ sym known
-guest_same Initiator p q groups now v w counts same untold telling membership told known =
-    subst (λ (x : List (List ℕ)). GroupCounts q x w) (sym same)
-    (record {
-      named = λ is. membership ∙ counts.named (sym untold ∙ is);
-      behind = λ is. subst (λ (x : Option (List (List ℕ))). IsBehind x groups) (sym membership) (counts.behind (sym untold ∙ is));
-      waits = λ is. let both = counts.waits (sym telling ∙ is) in (told ∙ both.0, ap (λ (x : Option (List (List ℕ))). is_some x) membership ∙ both.1);
-      answered = λ is fresh. told ∙ counts.answered (sym telling ∙ is) (sym untold ∙ fresh);
-    })
+guest_same role p q groups now v w counts same untold telling membership told known = grind arith
 
 -- WHAT IS SAID changes none of these
 pub said_published : (k : Spoken) (message : List ℕ) (v : SessionLog) → (said_kind k message v).published ≡ v.published
-said_published GroupsInfo message v = refl
-said_published _ message v = refl
+said_published k message v = grind arith
 
 pub said_seen : (k : Spoken) (message : List ℕ) (v : SessionLog) → (said_kind k message v).seen ≡ v.seen
-said_seen GroupsInfo message v = refl
-said_seen _ message v = refl
+said_seen k message v = grind arith
 
 pub left_published : (left : Option (List ℕ)) (v : SessionLog) → (said_in left v).published ≡ v.published
-left_published None v = refl
-left_published (Some message) v = said_published (spoken message) message v
+left_published left v = grind (arith, said_published)
 
 pub said_groups : (k : Spoken) (message : List ℕ) (v : SessionLog) → (said_kind k message v).groups ≡ v.groups
-said_groups GroupsInfo message v = refl
-said_groups _ message v = refl
+said_groups k message v = grind arith
 
 pub left_groups : (left : Option (List ℕ)) (v : SessionLog) → (said_in left v).groups ≡ v.groups
-left_groups None v = refl
-left_groups (Some message) v = said_groups (spoken message) message v
+left_groups left v = grind (arith, said_groups)
 
 pub left_seen : (left : Option (List ℕ)) (v : SessionLog) → (said_in left v).seen ≡ v.seen
-left_seen None v = refl
-left_seen (Some message) v = said_seen (spoken message) message v
+left_seen left v = grind (arith, said_seen)

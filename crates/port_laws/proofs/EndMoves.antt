@@ -1,6 +1,6 @@
 -- Each step of an end of a port is a move of an end on a channel.
-use Rattle.std.proofs.Common.{◌≡◌, ℕ, Bool, true, false, Option, Some, None, List, [], ◌∷◌, length, drop, refl, sym, subst, ap, ◌∙◌, arith}
-use Rattle.std.specs.Prelude.{Result, Ok, Err, ◌+◌, ◌≤◌, ◌&&◌, not, nat_le, is_none, is_some}
+use Rattle.std.proofs.Common.{◌≡◌, ℕ, Bool, true, false, Option, Some, None, List, length, drop, refl, sym, subst, ap, ◌∙◌, arith}
+use Rattle.std.specs.Prelude.{Result, Ok, ◌+◌, ◌≤◌, ◌&&◌, not, nat_le, is_none, is_some}
 use Rattle.std.proofs.lemmas.Bool.Decides.{nat_tests}
 use Rattle.std.proofs.lemmas.List.{length-drop}
 use Rattle.ldc_link.specs.Calls.{Puts as PutsPacket}
@@ -9,8 +9,8 @@ use Rattle.ldc_link.specs.declared.phase.LinkPhase.TheVariants as phase
 use Rattle.ldc_link.specs.declared.phase.Role.{Role}
 use Rattle.ldc_link.specs.declared.phase.Role.TheVariants.{Initiator, Responder}
 use Rattle.ldc_link.specs.LinkState.{LinkState, cleared, is_established}
-use Rattle.ldc_link.specs.Putting.{behind_put, left_behind_put, owed_in, owed_packet, owes, part_owed, phase_behind_put, with_link}
-use Rattle.ldc_link.specs.Taking.{Heard, LinkTake, TakesBytes, Unheard}
+use Rattle.ldc_link.specs.Putting.{behind_put, owed_packet, owes, part_owed, with_link}
+use Rattle.ldc_link.specs.Taking.{Heard, LinkTake, TakesBytes}
 use Rattle.ldc_packet.specs.declared.packet.Packet.{Packet}
 use Rattle.ldc_queue.specs.Messages.{is_empty}
 use Rattle.vio_handshake.specs.declared.handshake.Handshake.{Handshake}
@@ -44,8 +44,7 @@ use Rattle.port_model.proofs.Refuting.{false_true, none_some, of_some, true_fals
 
 -- HOW MANY MORE messages
 pub one_most : (b : Bool) → one_if b ≤ 1
-one_most true = omega arith
-one_most false = omega arith
+one_most b = grind arith
 
 pub more_most : (session : Option NetSession) → more_of session ≤ 4
 more_most None = omega arith
@@ -132,12 +131,10 @@ held_core role s at reach _ held fits is same = none_some held same
 
 -- IT PUTS. The handshake changes where its message ends, and then the link holds nothing.
 empty_of : (xs : List ℕ) → length xs ≡ 0 → is_empty xs ≡ true
-empty_of [] is = refl
-empty_of (x ∷ xs) is = absurd (omega (arith, is))
+empty_of xs is = grind arith
 
 goes_on : (fits own : Bool) (left : List ℕ) (h : Handshake) → (fits ≡ true → is_empty left ≡ true) → not (is_empty left) ≡ true → handshake_behind (ending fits own) h ≡ h
-goes_on false own left h ends more = refl
-goes_on true own left h ends more = true_false (sym more ∙ ap not (ends refl))
+goes_on fits own left h ends more = grind (arith, true_false)
 
 ended_empty : (xs : List ℕ) → nat_le (length xs) 56 ≡ true → is_empty (drop 56 xs) ≡ true
 ended_empty xs most =
@@ -145,11 +142,7 @@ ended_empty xs most =
     empty_of (drop 56 xs) (omega (arith, few, length-drop 56 xs))
 
 phase_keeps : (ph : LinkPhase) (k : LinkState) (own : Bool) (h : Handshake) → k.phase ≡ ph → holds k ≡ true → holds (behind_put k) ≡ true → handshake_behind (kind_in ph k own) h ≡ h
-phase_keeps phase.Established k own h is held left =
-    goes_on (nat_le (length k.to_send) 56) own (drop 56 k.to_send) h (ended_empty k.to_send)
-    (subst (λ (x : LinkPhase). holds (record (behind_put k) { phase = phase_behind_put x; to_send = left_behind_put x k.to_send }) ≡ true) is left)
-phase_keeps phase.OwesRdx k own h is held left = true_false (sym held ∙ ap (λ (x : LinkPhase). holds (record k { phase = x })) is)
-phase_keeps _ k own h is held left = refl
+phase_keeps ph k own h is held left = grind (arith, goes_on, ended_empty, true_false)
 
 pub link_keeps : (k : LinkState) (own : Bool) (h : Handshake) → holds k ≡ true → holds (behind_put k) ≡ true → handshake_behind (put_kind k own) h ≡ h
 link_keeps k own h held left = phase_keeps k.phase k own h refl held left
@@ -189,26 +182,20 @@ says_core role s held packet core puts =
 
 -- the link behind a packet is that of the put
 with_behind : (k behind : LinkState) (packet : Packet) (owed : Option Packet) → with_link owed (behind_put k) ≡ Some (packet, behind) → behind ≡ behind_put k
-with_behind k behind packet None is = none_some (packet, behind) is
-with_behind k behind packet (Some other) is =
-    let pair : ◌≡◌ {A = Packet × LinkState} (other, behind_put k) (packet, behind) = cc in
-    sym (ap (λ (x : Packet × LinkState). x.1) pair)
+with_behind k behind packet owed is = grind (arith, none_some)
 
 pub puts_behind : (k : LinkState) (packet : List ℕ) (behind : LinkState) → PutsPacket k packet behind → behind ≡ behind_put k
 puts_behind k packet behind puts = with_behind k behind puts.packet (owed_packet k) puts.next
 
 -- IT TAKES
 some_left : (left : List ℕ) (k : LinkState) → is_some (part_owed k left) ≡ false → not (is_empty left) ≡ true → ⊥
-some_left [] k quiet held = false_true held
-some_left (byte ∷ bytes) k quiet held = true_false quiet
+some_left left k quiet held = grind (arith, false_true, true_false)
 
 both_true : (a b : Bool) → (a && b) ≡ true → (a ≡ true) × (b ≡ true)
-both_true true b is = (refl, is)
-both_true false b is = false_true is
+both_true a b is = grind (arith, false_true)
 
 phase_held : (ph : LinkPhase) (k : LinkState) → k.phase ≡ ph → is_established ph ≡ true → owes k ≡ false → not (is_empty k.to_send) ≡ true → ⊥
-phase_held phase.Established k is up quiet held = some_left k.to_send k (subst (λ (x : LinkPhase). is_some (owed_in x k) ≡ false) is quiet) held
-phase_held _ k is up quiet held = false_true up
+phase_held ph k is up quiet held = grind (arith, some_left, false_true)
 
 not_held : (k : LinkState) → owes k ≡ false → holds k ≡ true → ⊥
 not_held k quiet held = let both = both_true (is_established k.phase) (not (is_empty k.to_send)) held in phase_held k.phase k refl both.0 quiet both.1
@@ -237,32 +224,22 @@ WholeGoes role s whole (take.Resets cause) = WholeFails s.handshake (is_some s.s
 
 message_whole : (role : Role) (s : NetEndState) (bytes : List ℕ) (message : Message) (tk : take.NetTake) → Decodes bytes (Ok message)
     → TakeGoes role (record s { link = cleared s.link }) message tk → WholeGoes role s (Some bytes) tk
-message_whole role s bytes message (take.GoesOn t opens memory) decodes goes =
-    record { link = goes.link; address = goes.address; slots = goes.slots; groups = goes.groups; fits = goes.fits; hears = (Ok message, decodes, goes.hears) }
-message_whole role s bytes message (take.Resets cause) decodes goes = (Ok message, decodes, goes)
+message_whole role s bytes message tk decodes goes = grind arith
 
 decoded_whole : (role : Role) (s : NetEndState) (memory bytes : List ℕ) (decoded : Result Message TagFault) → NetFits role s → Decodes bytes decoded
     → WholeGoes role s (Some bytes) (take.reads role (record s { link = cleared s.link }) memory decoded)
-decoded_whole role s memory bytes (Ok message) fits decodes =
-    let t : NetEndState = record s { link = cleared s.link } in
-    let spells = decodes.message in
-    message_whole role s bytes message (take.hears_message role t memory t.session message) decodes
-    (message_goes role t memory t.session message (record { groups = fits.groups; session = fits.session }) (fits_of bytes message.body spells.1.body) refl)
-decoded_whole role s memory bytes (Err fault) fits decodes = (Err fault, decodes, refl)
+decoded_whole role s memory bytes decoded given decodes = grind (arith, message_whole, message_goes, fits_of)
 
 cleared_same : (k : LinkState) → k.whole ≡ None → k ≡ cleared k
 cleared_same k is = ap (λ (x : Option (List ℕ)). record k { whole = x }) is
 
 whole_goes : (role : Role) (s : NetEndState) (memory : List ℕ) (whole : Option (List ℕ)) (tk : take.NetTake) → NetFits role s → s.link.whole ≡ whole
     → take.HearsWhole role s memory whole tk → WholeGoes role s whole tk
-whole_goes role s memory None tk fits is hears =
-    subst (WholeGoes role s None) (sym hears) (record { link = cleared_same s.link is; address = refl; slots = refl; groups = λ guest. refl; fits = fits; hears = (refl, refl, refl) })
-whole_goes role s memory (Some bytes) tk fits is hears = subst (WholeGoes role s (Some bytes)) (sym hears.2) (decoded_whole role s memory bytes hears.0 fits hears.1)
+whole_goes role s memory whole tk given is hears = grind (arith, cleared_same, decoded_whole)
 
 -- WHAT COMES OF A PACKET
 pub risen_same : (role : Role) (before behind : LinkState) (h : Handshake) → take.risen role before behind h ≡ risen_at role before behind h
-risen_same Initiator before behind h = refl
-risen_same Responder before behind h = refl
+risen_same role before behind h = grind arith
 
 pub record PacketGoes (role : Role) (s : NetEndState) (packet : List ℕ) (t : NetEndState) (opens : Bool) : Type 0 where
   pub heard : LinkState
@@ -280,41 +257,18 @@ LinkGoes role s packet (take.Resets cause) = (link : LinkTake) × TakesBytes s.l
 
 heard_goes : (role : Role) (s : NetEndState) (packet : List ℕ) (k : LinkState) (tk : take.NetTake) → TakesBytes s.link packet (Heard k)
     → WholeGoes role (record s { link = k; handshake = take.risen role s.link k s.handshake }) k.whole tk → LinkGoes role s packet tk
-heard_goes role s packet k (take.GoesOn t opens memory) takes goes = record {
-  heard = k;
-  takes = takes;
-  link = goes.link;
-  address = goes.address;
-  slots = goes.slots;
-  groups = goes.groups;
-  fits = goes.fits;
-  hears = subst (λ (x : Handshake). HearsWhole role x (is_some s.session) k.whole opens (net_core role t)) (risen_same role s.link k s.handshake) goes.hears;
-}
-heard_goes role s packet k (take.Resets cause) takes goes =
-    (Heard k, takes, subst (λ (x : Handshake). WholeFails x (is_some s.session) k.whole cause) (risen_same role s.link k s.handshake) goes)
+heard_goes role s packet k tk takes goes = grind (arith, risen_same)
 
 link_goes : (role : Role) (s : NetEndState) (memory packet : List ℕ) (link : LinkTake) (tk : take.NetTake) → NetFits role s → TakesBytes s.link packet link
     → take.HearsLink role s memory link tk → LinkGoes role s packet tk
-link_goes role s memory packet (Heard k) tk fits takes hears =
-    let t : NetEndState = record s { link = k; handshake = take.risen role s.link k s.handshake } in
-    heard_goes role s packet k tk takes (whole_goes role t memory k.whole tk (record { groups = fits.groups; session = fits.session }) refl hears)
-link_goes role s memory packet (Unheard why) tk fits takes hears = subst (LinkGoes role s packet) (sym hears) (Unheard why, takes, refl)
+link_goes role s memory packet link tk given takes hears = grind (arith, heard_goes, whole_goes)
 
 pub packet_goes : (role : Role) (s : NetEndState) (memory packet : List ℕ) (tk : take.NetTake) → NetFits role s → take.NetTakes role s memory packet tk → LinkGoes role s packet tk
 packet_goes role s memory packet tk fits takes = link_goes role s memory packet takes.link tk fits takes.takes takes.hears
 
 hears_core : (role : Role) (s : NetEndState) (at : Seen) (packet : List ℕ) (t : NetEndState) (opens : Bool) → IsFree s at → PacketGoes role s packet t opens
     → EndHears role (net_core role s) packet opens (net_core role t)
-hears_core role s at packet t opens free goes = record {
-  may = may_take role s at free;
-  heard = goes.heard;
-  takes = goes.takes;
-  link = goes.link;
-  hears = goes.hears;
-  offer = ap (λ (x : List ℕ). port_offer role x t.slots) goes.address ∙ ap (λ (x : ℕ). port_offer role s.address x) goes.slots;
-  own = λ one two. absurd (not_held s.link free.quiet one);
-  most = omega (arith, more_most t.session);
-}
+hears_core role s at packet t opens free goes = grind (arith, may_take, not_held, more_most)
 
 -- IT RESETS ITSELF
 begins_core : (role : Role) (s : NetEndState) → EndBegins (net_core role s) (net_core role (joined_net_end role s))
@@ -340,26 +294,15 @@ fails_core role s at memory reach _ cause packet fits is fails = absurd fails
 -- IT STAYS
 pub stays_with : (role : Role) (s t : NetEndState) → t.link ≡ s.link → t.handshake ≡ s.handshake → t.address ≡ s.address → t.slots ≡ s.slots → is_some t.session ≡ is_some s.session
     → more_of t.session ≤ more_of s.session → EndStays (net_core role s) (net_core role t)
-stays_with role s t link handshake address slots opened more = record {
-  link = link;
-  handshake = handshake;
-  offer = ap (λ (x : List ℕ). port_offer role x t.slots) address ∙ ap (λ (x : ℕ). port_offer role s.address x) slots;
-  is_open = opened;
-  own = ap (λ (x : Handshake). is_none x.owed) handshake;
-  more = more;
-}
+stays_with role s t link handshake address slots opened more = grind arith
 
 session_stays : (role : Role) (s : NetEndState) (p q : NetSession) (last : List ℕ) → s.session ≡ Some p → more_in q ≤ more_in p
     → EndStays (net_core role s) (net_core role (record s { session = Some q; last = last }))
-session_stays role s p q last is fewer =
-    stays_with role s (record s { session = Some q; last = last }) refl refl refl refl (sym (ap (λ (x : Option NetSession). is_some x) is))
-    (subst (λ (x : Option NetSession). more_in q ≤ more_of x) (sym is) fewer)
+session_stays role s p q last is fewer = grind (arith, stays_with)
 
 fetched_stays : (role : Role) (s : NetEndState) (p : NetSession) (activity : Activity) (frame : List ℕ) → s.session ≡ Some p → p.active ≡ Some activity
     → EndStays (net_core role s) (net_core role (record s { session = Some (taken s p activity); last = frame }))
-fetched_stays role s p activity frame is active =
-    let one : one_if (is_some p.active) ≡ 1 = ap (λ (x : Option Activity). one_if (is_some x)) active in
-    session_stays role s p (taken s p activity) frame is (omega (arith, one))
+fetched_stays role s p activity frame is active = grind (arith, session_stays)
 
 -- A STEP IS A MOVE
 abbrev pub move_by : NetAnswer → EndMove

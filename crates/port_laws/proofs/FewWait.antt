@@ -1,7 +1,7 @@
 -- While a guest that nobody forged is in session, and nothing was lost, at most five packets of its wait for the switch's end. They are the
 -- end of its handshake, an INFO, an ACK and its groups, each whole in one packet.
 use Rattle.std.proofs.Common.{◌≡◌, ◌≢◌, ℕ, ◌+◌, ◌*◌, ◌≤◌, ◌⊎◌, inl, inr, Bool, true, false, Option, Some, None, List, [], ◌∷◌, ◌++◌, length, drop, refl, sym, subst, ap, ◌∙◌, arith, length-append}
-use Rattle.std.specs.Prelude.{◌==◌, is_none, is_some}
+use Rattle.std.specs.Prelude.{is_none, is_some}
 use Rattle.std.proofs.lemmas.List.{append_cancel_left}
 use Rattle.ldc_link.specs.declared.phase.Role.TheVariants.{Initiator, Responder}
 use Rattle.ldc_link.specs.LinkState.{first_phase, is_established, is_up}
@@ -30,11 +30,11 @@ use Rattle.port_model.specs.NetEndState.{NetSession}
 use Rattle.port_model.specs.NetLaneState.{NetShape}
 use Rattle.port_model.specs.PortLog.{PortLog}
 use Rattle.port_model.specs.PortState.{PortState}
-use Rattle.port_model.specs.Spoken.{RangeAck, RangeInfo, Spoken, spoken, spoken_by}
+use Rattle.port_model.specs.Spoken.{RangeAck, RangeInfo, Spoken, spoken}
 use Rattle.port_laws.specs.Counted.{unsaid}
 use Rattle.port_laws.specs.NetCore.{lane_core, one_if}
-use Rattle.port_laws.specs.WaysStand.{Comes, Goes, Rests, Way, Ways, WaysStand, Works, ack_first, acks_in, info_first, infos_in, or_new}
-use Rattle.port_laws.proofs.Outbox.{EachFits, MessageFits, RangeFits, count-append, count_groups, is_groups, listed, outbox, unheard as undrawn}
+use Rattle.port_laws.specs.WaysStand.{Way, Ways, WaysStand, ack_first, acks_in, info_first, infos_in, or_new}
+use Rattle.port_laws.proofs.Outbox.{EachFits, MessageFits, RangeFits, count-append, count_groups, listed, outbox, unheard as undrawn}
 use Rattle.port_laws.proofs.PeerOpens.{Talks, mine_at, theirs_at}
 use Rattle.port_laws.proofs.PortTalks.{answers_of, asks_of, open_turns}
 use Rattle.port_laws.proofs.EndCounting.{own_left}
@@ -70,30 +70,22 @@ abbrev counted : List (List ℕ) → ℕ
 counted messages = length (infos_in messages) + length (acks_in messages) + count_groups messages
 
 range_kind : (m : List ℕ) → envelope_at m ≡ 0x0042 → (subtype_at m ≡ 1) ⊎ (subtype_at m ≡ 2) → (spoken m ≡ RangeInfo) ⊎ (spoken m ≡ RangeAck)
-range_kind m is (inl one) = inl (ap (λ (n : ℕ). spoken_by n (subtype_at m)) is ∙ ap (λ (n : ℕ). spoken_by 0x0042 n) one)
-range_kind m is (inr two) = inr (ap (λ (n : ℕ). spoken_by n (subtype_at m)) is ∙ ap (λ (n : ℕ). spoken_by 0x0042 n) two)
+range_kind m is given = grind arith
 
 info_more : (k : Spoken) (m : List ℕ) (xs : List (List ℕ)) → length xs ≤ length (info_first k m xs)
-info_more RangeInfo m xs = omega arith
-info_more _ m xs = omega arith
+info_more k m xs = grind arith
 
 ack_more : (k : Spoken) (m : List ℕ) (xs : List (List ℕ)) → length xs ≤ length (ack_first k m xs)
-ack_more RangeInfo m xs = omega arith
-ack_more _ m xs = omega arith
+ack_more k m xs = grind arith
 
 tail_counted : (m : List ℕ) (messages : List (List ℕ)) → counted messages ≤ counted (m ∷ messages)
 tail_counted m messages = omega (arith, info_more (spoken m) m (infos_in messages), ack_more (spoken m) m (acks_in messages))
 
 one_counted : (m : List ℕ) (messages : List (List ℕ)) → (spoken m ≡ RangeInfo) ⊎ (spoken m ≡ RangeAck) → counted messages + 1 ≤ counted (m ∷ messages)
-one_counted m messages (inl info) =
-    omega (arith, ap (λ (k : Spoken). length (info_first k m (infos_in messages))) info, ack_more (spoken m) m (acks_in messages))
-one_counted m messages (inr is) =
-    omega (arith, ap (λ (k : Spoken). length (ack_first k m (acks_in messages))) is, info_more (spoken m) m (infos_in messages))
+one_counted m messages given = grind (arith, ack_more, info_more)
 
 groups_counted : (m : List ℕ) (messages : List (List ℕ)) → envelope_at m ≡ 0x0101 → counted messages + 1 ≤ counted (m ∷ messages)
-groups_counted m messages is =
-    let named : is_groups m ≡ true = ap (λ (n : ℕ). n == 0x0101) is in
-    omega (arith, info_more (spoken m) m (infos_in messages), ack_more (spoken m) m (acks_in messages), ap one_if named)
+groups_counted m messages is = grind (arith, info_more, ack_more)
 
 own_few : (d : Deal) (sid : ℕ) (messages : List (List ℕ)) → EachOwn d messages → EachFits Initiator sid messages → room_of messages ≤ 111 * counted messages
 own_few d sid [] each fits = omega arith
@@ -109,28 +101,17 @@ own_few d sid (m ∷ messages) each fits =
 
 -- ONE DIRECTION has one INFO, or one ACK
 infos_few : (slots : ℕ) (v w : SessionLog) (infos acks : List (List ℕ)) → Way slots v w infos acks → length infos ≤ 1
-infos_few slots v w infos acks (Rests asking asked acked told taken none no_acks) = omega (arith, ap length none)
-infos_few slots v w infos acks (Goes info asking asked acked told taken some seq start end no_acks) = omega (arith, ap length some)
-infos_few slots v w infos acks (Works asking asked busy told none no_acks) = omega (arith, ap length none)
-infos_few slots v w infos acks (Comes ack_one asking asked acked told some none one_ack start end) = omega (arith, ap length none)
+infos_few slots v w infos acks given = grind arith
 
 acks_few : (slots : ℕ) (v w : SessionLog) (infos acks : List (List ℕ)) → Way slots v w infos acks → length acks ≤ 1
-acks_few slots v w infos acks (Rests asking asked acked told taken none no_acks) = omega (arith, ap length no_acks)
-acks_few slots v w infos acks (Goes info asking asked acked told taken some seq start end no_acks) = omega (arith, ap length no_acks)
-acks_few slots v w infos acks (Works asking asked busy told none no_acks) = omega (arith, ap length no_acks)
-acks_few slots v w infos acks (Comes ack_one asking asked acked told some none one_ack start end) = omega (arith, ap length one_ack)
+acks_few slots v w infos acks given = grind arith
 
 acks_none : (slots : ℕ) (v w : SessionLog) (infos acks : List (List ℕ)) → v.asking ≡ false → Way slots v w infos acks → length acks ≤ 0
-acks_none slots v w infos acks shut (Rests asking asked acked told taken none no_acks) = omega (arith, ap length no_acks)
-acks_none slots v w infos acks shut (Goes info asking asked acked told taken some seq start end no_acks) = omega (arith, ap length no_acks)
-acks_none slots v w infos acks shut (Works asking asked busy told none no_acks) = omega (arith, ap length no_acks)
-acks_none slots v w infos acks shut (Comes ack_one asking asked acked told some none one_ack start end) = true_false (sym asking ∙ shut)
+acks_none slots v w infos acks shut given = grind (arith, true_false)
 
 -- WHERE THE SWITCH'S END SAID ALL of its handshake it heard five of the guest's six
 five_said : (d : Deal) (n : Place) → n ≢ AllSaid → 6 ≤ length (said_at true d Responder n) → 5 ≤ length (said_at true d Initiator n)
-five_said d PeerReadyAnswered far many = omega arith
-five_said d AllSaid far many = absurd (far refl)
-five_said d _ far many = absurd (omega (arith, many))
+five_said d n far many = grind arith
 
 six_front : (d : Deal) → 6 ≤ length (said_at true d Initiator AllSaid)
 six_front d = omega arith
@@ -167,8 +148,7 @@ longer : (xs ys : List (List ℕ)) → IsFront xs ys → length xs ≤ length ys
 longer xs ys front = omega (arith, ap length front.1, length-append xs front.0)
 
 telling_few : (b : Bool) → one_if b ≤ 1
-telling_few true = omega arith
-telling_few false = omega arith
+telling_few b = grind arith
 
 module _ (shape : NetShape) (u : PortState) (l : PortLog) (p : NetSession) (finds : Finds shape u l) (ways : WaysStand u.lane l) (talk : TalkStands u.lane l) (up : IsUp A u.lane.wire.wire)
     (other_up : IsUp B u.lane.wire.wire) (session : u.lane.guest.session ≡ Some p) (whole : u.lane.wire.lossy ≡ false) (parts : PartsSaid l.transcript.client) (long : LongSaid l.transcript.client) where
@@ -236,9 +216,7 @@ module _ (shape : NetShape) (u : PortState) (l : PortLog) (p : NetSession) (find
   fits = fits_front u.lane.guest.handshake.draft.sid left.messages (listed (unsaid u.lane.guest)) (subst (EachFits Initiator u.lane.guest.handshake.draft.sid) asks between.asks_fit)
 
   groups_few : count_groups left.messages ≤ 1
-  groups_few =
-      let all = between.counted in
-      omega (arith, all, ap count_groups asks, count-append left.messages (listed (unsaid u.lane.guest)), telling_few p.telling)
+  groups_few = grind (arith, between, asks, count-append, left, telling_few)
 
   way : Ways l.shape.slots (said l.transcript.client) (heard l.transcript.client) (said l.transcript.server) (heard l.transcript.server) (or_new l.guest.session) (or_new l.hub.session)
   way = ways up other_up guest_in

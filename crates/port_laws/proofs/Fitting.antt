@@ -1,50 +1,38 @@
 -- Each event of a port's lane keeps that the addresses of both ends are short.
-use Rattle.std.proofs.Common.{◌≡◌, ℕ, ◌≤◌, Bool, true, false, Option, Some, None, List, [], ◌∷◌, ◌++◌, length, refl, sym, subst, arith}
+use Rattle.std.proofs.Common.{◌≡◌, ℕ, ◌≤◌, Bool, true, false, Option, Some, List, [], ◌∷◌, ◌++◌, length, refl, sym, subst, arith}
 use Rattle.std.specs.Prelude.{◌+◌}
 use Rattle.ldc_link.specs.declared.phase.Role.{Role}
 use Rattle.ldc_link.specs.declared.phase.Role.TheVariants.{Initiator, Responder}
-use Rattle.ldc_link.specs.Putting.{behind_put}
 use Rattle.ldc_queue.specs.declared.end.End.{End}
-use Rattle.ldc_queue.specs.declared.end.End.TheVariants.{A, B}
-use Rattle.channel_model.specs.EndPuts.{handshake_behind}
 use Rattle.channel_model.specs.Seeing.{Seen}
 use Rattle.cookie_copy.specs.Reach.{Reach}
-use Rattle.port_model.specs.Fetching.{Fetched, NotReady, fetched}
-use Rattle.port_model.specs.NetEndPutting.{answers, net_holds, net_kind, net_opens, net_put, opened_by_put}
+use Rattle.port_model.specs.Fetching.{Fetched, fetched}
+use Rattle.port_model.specs.NetEndPutting.{answers, net_holds, net_put, opened_by_put}
 use Rattle.port_model.specs.NetEndRule.{Announces, Fetches, NetRule, Publishes, Puts, Replies, Says, Tells, port_rule}
 use Rattle.port_model.specs.NetEndState.{Activity, NetEndState, NetSession, joined_net_end}
-use Rattle.port_model.specs.NetEndStep.{Already, BadLength, Blocked, Frame, Full, Given, GroupsFull, Idle, Joining, Member, NetAnswer, NetEndStep, NetGives, NetJoins, NetLeft, Published, Queued, Sent, Took, untold}
+use Rattle.port_model.specs.NetEndStep.{Blocked, Frame, Given, Idle, Joining, NetAnswer, NetEndStep, NetGives, NetJoins, NetLeft, Published, Sent, Took, untold}
 use Rattle.port_model.specs.NetEndTaking.{GoesOn}
-use Rattle.port_model.specs.NetEvent.{Asked, Gives, Injects, Joins as JoinsGroup, NetEvent, Pokes, Steps, Ticked}
+use Rattle.port_model.specs.NetEvent.{NetEvent}
 use Rattle.port_model.specs.NetLaneState.{NetLaneState}
 use Rattle.port_model.specs.NetLaneStep.{NetLaneStep, Resets}
 use Rattle.port_model.proofs.Ruling.{says_of}
-use Rattle.port_laws.specs.NetFits.{AreShort, GroupsFit, NetFits, SessionFits, SomeFits}
+use Rattle.port_laws.specs.NetFits.{AreShort, NetFits, SessionFits}
 use Rattle.port_laws.proofs.EndMoves.{packet_goes}
 use Rattle.port_model.proofs.Refuting.{none_some, of_some}
 
 -- the end with another session whose answer to groups is the same
 session_fits : (role : Role) (s t : NetEndState) (p q : NetSession) → NetFits role s → s.session ≡ Some p → t.groups ≡ s.groups → t.session ≡ Some q → q.reply ≡ p.reply → NetFits role t
-session_fits role s t p q fits is groups session reply = record {
-  groups = subst (GroupsFit role) (sym groups) fits.groups;
-  session = subst SessionFits (sym session) (subst SomeFits (sym reply) (subst SessionFits is fits.session));
-}
+session_fits role s t p q given is groups session reply = grind arith
 
 same_fits : (role : Role) (s t : NetEndState) → NetFits role s → t.groups ≡ s.groups → t.session ≡ s.session → NetFits role t
-same_fits role s t fits groups session = record {
-  groups = subst (GroupsFit role) (sym groups) fits.groups;
-  session = subst SessionFits (sym session) fits.session;
-}
+same_fits role s t given groups session = grind arith
 
 joined_fits : (role : Role) (s : NetEndState) → NetFits role s → NetFits role (joined_net_end role s)
-joined_fits Initiator s fits = record { groups = fits.groups; session = tt }
-joined_fits Responder s fits = record { groups = tt; session = tt }
+joined_fits role s given = grind arith
 
 slot_fits : (role : Role) (s : NetEndState) (p : NetSession) (activity : Activity) (last : Option ℕ) (found : Fetched) (held : NetEndState) → NetFits role s → s.session ≡ Some p
     → answers s p activity last found ≡ Some held → NetFits role held
-slot_fits role s p activity (Some last) (NotReady state) held fits is same =
-    of_some (NetFits role) _ held same (session_fits role s _ p (record p { active = None }) fits is refl refl refl)
-slot_fits role s p activity _ _ held fits is same = none_some held same
+slot_fits role s p activity last found held given is same = grind (arith, of_some, session_fits, none_some)
 
 held_fits : (role : Role) (s : NetEndState) (at : Seen) (reach : Reach) (rule : NetRule) (held : NetEndState) → NetFits role s → port_rule role s at ≡ rule
     → net_holds rule s reach ≡ Some held → NetFits role held
@@ -62,14 +50,10 @@ held_fits role s at reach (Announces p) held fits is same =
 held_fits role s at reach _ held fits is same = none_some held same
 
 opened_fits : (role : Role) (opens : Bool) (s : NetEndState) → NetFits role s → NetFits role (opened_by_put role opens s)
-opened_fits Initiator true s fits = record { groups = fits.groups; session = tt }
-opened_fits Initiator false s fits = fits
-opened_fits Responder opens s fits = fits
+opened_fits role opens s given = grind arith
 
 put_fits : (role : Role) (held : NetEndState) → NetFits role held → NetFits role (net_put role held)
-put_fits role held fits =
-    opened_fits role (net_opens held) (record held { link = behind_put held.link; handshake = handshake_behind (net_kind held) held.handshake })
-    (record { groups = fits.groups; session = fits.session })
+put_fits role held given = grind (arith, opened_fits)
 
 abbrev LeftFits : Role → NetLeft → Type 0
 LeftFits role left = NetFits role left.end
@@ -90,41 +74,24 @@ step_fits role s at memory reach (Frame frame) t fits step =
 step_fits role s at memory reach _ t fits step = subst (LeftFits role) (sym step.2) (joined_fits role s fits)
 
 pub gives_fits : (role : Role) (s : NetEndState) (given : Given) (t : NetEndState) → NetFits role s → NetGives s given t → NetFits role t
-gives_fits role s (BadLength frame) t fits gives = subst (NetFits role) (sym gives.1) fits
-gives_fits role s (Full frame) t fits gives = subst (NetFits role) (sym gives.2) fits
-gives_fits role s (Queued id frame) t fits gives = subst (NetFits role) (sym gives.4) (same_fits role s _ fits refl refl)
+gives_fits role s given t given_2 gives = grind (arith, same_fits)
 
 one_more : (groups : List (List ℕ)) (address : List ℕ) → AreShort groups → length address ≤ 6 → AreShort (groups ++ address ∷ [])
 one_more [] address short few = (few, tt)
 one_more (group ∷ groups) address short few = (short.0, one_more groups address short.1 few)
 
 untold_fits : (session : Option NetSession) → SessionFits session → SessionFits (untold session)
-untold_fits None fits = tt
-untold_fits (Some p) fits = fits
+untold_fits session given = grind arith
 
 pub joins_fits : (s : NetEndState) (joining : Joining) (t : NetEndState) → NetFits Initiator s → NetJoins s joining t → NetFits Initiator t
-joins_fits s (Already address) t fits joins = subst (NetFits Initiator) (sym joins.1) fits
-joins_fits s (GroupsFull address) t fits joins = subst (NetFits Initiator) (sym joins.2) fits
-joins_fits s (Member address) t fits joins =
-    let six = joins.2 in
-    subst (NetFits Initiator) (sym joins.3) (record { groups = one_more s.groups address fits.groups (omega (arith, six)); session = untold_fits s.session fits.session })
+joins_fits s joining t given joins = grind (arith, one_more, untold_fits)
 
 -- AN EVENT
 abbrev pub BothFit : NetLaneState → Type 0
 BothFit s = NetFits Initiator s.guest × NetFits Responder s.hub
 
 resets_fit : (e : End) (event : NetEvent) (s : NetLaneState) (lost : ℕ) (t : NetLaneState) → BothFit s → Resets e event s lost t → BothFit t
-resets_fit A event s lost t fits resets = subst BothFit (sym resets.1) (joined_fits Initiator s.guest fits.0, fits.1)
-resets_fit B event s lost t fits resets = subst BothFit (sym resets.1) (fits.0, joined_fits Responder s.hub fits.1)
+resets_fit e event s lost t given resets = grind (arith, joined_fits)
 
 pub event_fits : (s : NetLaneState) (event : NetEvent) (t : NetLaneState) → NetLaneStep s event t → BothFit s → BothFit t
-event_fits s (Steps A answer) t step fits = subst BothFit (sym step.is) (step_fits Initiator s.guest _ s.guest_memory _ answer step.left fits.0 step.step, fits.1)
-event_fits s (Steps B answer) t step fits = subst BothFit (sym step.is) (fits.0, step_fits Responder s.hub _ s.hub_memory _ answer step.left fits.1 step.step)
-event_fits s (Asked e lost) t step fits = resets_fit e (Asked e lost) s lost t fits step
-event_fits s (Ticked queued lost) t step fits = resets_fit A (Ticked queued lost) s lost t fits step.1
-event_fits s (Gives A given) t step fits = subst BothFit (sym step.1) (gives_fits Initiator s.guest given t.guest fits.0 step.0, fits.1)
-event_fits s (Gives B given) t step fits = subst BothFit (sym step.1) (fits.0, gives_fits Responder s.hub given t.hub fits.1 step.0)
-event_fits s (JoinsGroup joining) t step fits = subst BothFit (sym step.1) (joins_fits s.guest joining t.guest fits.0 step.0, fits.1)
-event_fits s (Injects e packet) t step fits = subst BothFit (sym step.2) fits
-event_fits s (Pokes A at bytes) t step fits = subst BothFit (sym step.1) fits
-event_fits s _ t step fits = subst BothFit (sym step.1) fits
+event_fits s event t step given = grind (arith, step_fits, resets_fit, gives_fits, joins_fits)

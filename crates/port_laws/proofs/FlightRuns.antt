@@ -16,7 +16,7 @@ use Rattle.channel_laws.specs.EndCore.{EndCore}
 use Rattle.channel_laws.specs.LaneCore.{LaneCore, end_of, transcript_behind}
 use Rattle.channel_laws.specs.PacketsLeft.{packets_left}
 use Rattle.port_model.proofs.Ruling.{says_of}
-use Rattle.port_model.specs.NetEndPutting.{net_opens, opened_by_put}
+use Rattle.port_model.specs.NetEndPutting.{opened_by_put}
 use Rattle.port_model.specs.NetEndRule.{Takes}
 use Rattle.port_model.specs.NetEndState.{NetEndState, NetSession}
 use Rattle.port_model.specs.NetEndStep.{NetLeft, Sent, Took}
@@ -31,11 +31,11 @@ use Rattle.port_laws.specs.NetCore.{lane_core, more_of, one_if}
 use Rattle.port_laws.specs.PortCore.{port_core, port_event, port_events}
 use Rattle.port_laws.proofs.CoreLaws.{offers_match, sizes_fit}
 use Rattle.port_laws.proofs.FlightSums.{FewFly, Known, Spends, TakeSpends, step_few}
-use Rattle.port_laws.proofs.MessageDoes.{Acks, Asks, Declines, MessageDoes, Names, Told}
+use Rattle.port_laws.proofs.MessageDoes.{MessageDoes}
 use Rattle.port_laws.proofs.PortCounts.{PortCounts, Ready, counts_step, port_counts, ready_before}
 use Rattle.port_laws.proofs.PortRuns.{before_core, fresh_port_core, port_fits_behind, port_step_core}
 use Rattle.port_laws.proofs.RuleFrames.{end_acts}
-use Rattle.port_laws.proofs.TookWhat.{Fails, Opens, Reads, Stays, TookWhat, took_what}
+use Rattle.port_laws.proofs.TookWhat.{TookWhat, took_what}
 
 -- BY A PACKET that it takes an end may begin one message more, and two where its session opens
 abbrev Rises : Option NetSession → Option NetSession → Type 0
@@ -50,27 +50,14 @@ same_rises session = omega arith
 
 does_rise : (role : Role) (s : NetEndState) (p : NetSession) (memory : List ℕ) (subtype : Subtype) (b : MsgBody) (t : NetEndState) (new : List ℕ) → s.session ≡ Some p
     → MessageDoes role s p memory subtype b t new → Rises (Some p) t.session
-does_rise role s p memory subtype b t new is (Asks seq ident start end state kind body place stays to) = subst (λ (x : NetEndState). Rises (Some p) x.session) (sym to) (omega arith)
-does_rise role s p memory subtype b t new is (Acks seq ident start end state kind body begins inside most undone stays to) = subst (λ (x : NetEndState). Rises (Some p) x.session) (sym to) (omega arith)
-does_rise role s p memory subtype b t new is (Names set count addresses groups reply answer hub kind body stays to) = subst (λ (x : NetEndState). Rises (Some p) x.session) (sym to) (omega arith)
-does_rise role s p memory subtype b t new is (Told set count addresses guest kind body telling stays to) = subst (λ (x : NetEndState). Rises (Some p) x.session) (sym to) (omega arith)
-does_rise role s p memory subtype b t new is (Declines h declined stays to) =
-    subst (λ (x : NetEndState). Rises (Some p) x.session) (sym to) (subst (Rises (Some p)) (sym is) (same_rises (Some p)))
+does_rise role s p memory subtype b t new is given = grind (arith, same_rises)
 
 take_rises : (role : Role) (s : NetEndState) (memory : List ℕ) (take : NetTake) → TookWhat role s memory take → RisesBy s take
-take_rises role s memory take (Stays k h is) = subst (RisesBy s) (sym is) (same_rises s.session)
-take_rises role s memory take (Opens k h role_is none is) =
-    subst (RisesBy s) (sym is) (subst (λ (o : Option NetSession). 2 + 2 * one_if (is_some o) ≤ more_of o + 1 + 2) (sym none) (omega arith))
-take_rises role s memory take (Fails cause is) = subst (RisesBy s) (sym is) tt
-take_rises role s memory (GoesOn t opens new) (Reads k h p m session does) =
-    subst (λ (o : Option NetSession). Rises o t.session) (sym session)
-    (does_rise role (record s { link = k; handshake = h }) p memory m.subtype m.body t new session does.does)
-take_rises role s memory (Resets cause) (Reads k h p m session does) = tt
+take_rises role s memory take given = grind (arith, same_rises, does_rise)
 
 -- THE END after its step
 left_end : (e : End) (left : NetLeft) (u : NetLaneState) (event : NetEvent) → net_end e (record (with_left e left u) { wire = net_wire event u }) ≡ left.end
-left_end A left u event = refl
-left_end B left u event = refl
+left_end e left u event = grind arith
 
 end_left : (e : End) (u : NetLaneState) (packet : List ℕ) (opens : Bool) (t : NetLaneState) → (step : EndSteps e u (Took packet opens) t) → net_end e t ≡ step.left.end
 end_left e u packet opens t step = ap (net_end e) step.is ∙ left_end e step.left u (Steps e (Took packet opens))
@@ -86,22 +73,17 @@ took_rises shape e u l packet opens t ready step =
 
 -- a guest's session opens with two messages to begin
 opened_more : (b : Bool) (s : NetEndState) → b ≡ true → more_of (opened_by_put Initiator b s).session ≤ 2
-opened_more true s opens = omega arith
-opened_more false s opens = absurd (cc opens)
+opened_more b s opens = grind arith
 
 sent_more : (u : NetLaneState) (packet : List ℕ) (opens : Bool) (t : NetLaneState) → EndSteps A u (Sent packet opens) t → opens ≡ true → more_of t.guest.session ≤ 2
-sent_more u packet opens t step yes_one =
-    let now : t.guest ≡ step.left.end = ap (λ (x : NetLaneState). x.guest) step.is in
-    let end : t.guest ≡ _ = now ∙ ap (λ (x : NetLeft). x.end) step.step.is in
-    subst (λ (x : NetEndState). more_of x.session ≤ 2) (sym end) (opened_more (net_opens step.step.held) _ (sym step.step.opens_is ∙ yes_one))
+sent_more u packet opens t step yes_one = grind (arith, opened_more)
 
 -- AN EVENT
 abbrev CoreRises : EndCore → EndCore → Type 0
 CoreRises c t = t.more + 2 * one_if c.is_open ≤ c.more + 1 + 2 * one_if t.is_open
 
 core_rises : (e : End) (u t : NetLaneState) → Rises (net_end e u).session (net_end e t).session → CoreRises (end_of e (lane_core u)) (end_of e (lane_core t))
-core_rises A u t rises = rises
-core_rises B u t rises = rises
+core_rises e u t rises = grind arith
 
 take_spends : (shape : NetShape) (s : PortState) (l : PortLog) (e : End) (packet : List ℕ) (opens : Bool) (t : PortState) → IsNetShape shape → PortCounts shape s l → s.lane.wire.forged ≡ false
     → PortStep s (OnLane (Steps e (Took packet opens))) t → TakeSpends (end_of e (port_core s)) (end_of e (port_core t))

@@ -1,6 +1,6 @@
 -- How many packets wait on a channel that nobody forged, and are still to be put: both ends begin with 24 of their own, and each session with
 -- at most two more, for what it asks. An answer takes the place of the packet that it answers. What happens to the channel keeps it so.
-use Rattle.std.proofs.Common.{◌≡◌, ℕ, ◌+◌, ◌*◌, ◌≤◌, Bool, true, false, List, [], ◌∷◌, ◌++◌, length, drop, refl, sym, subst, ap, ◌∙◌, arith, length-append, length-drop, Option, Some}
+use Rattle.std.proofs.Common.{◌≡◌, ℕ, ◌+◌, ◌*◌, ◌≤◌, Bool, true, false, List, [], ◌∷◌, ◌++◌, length, drop, refl, sym, ap, ◌∙◌, arith, length-append, length-drop, Option, Some}
 use Rattle.std.specs.Prelude.{slice_get, ⊤}
 use Rattle.ldc_link.specs.declared.phase.Role.{Role}
 use Rattle.ldc_link.specs.declared.phase.Role.TheVariants.{Initiator, Responder}
@@ -11,15 +11,15 @@ use Rattle.ldc_queue.specs.Transcript.{Turn}
 use Rattle.ldc_queue.specs.Wire.{peer_behind, queue_behind, upset}
 use Rattle.vio_tag.specs.declared.cause.Cause.{Cause}
 use Rattle.channel_model.specs.TranscriptLog.{TranscriptLog}
-use Rattle.channel_model.specs.WireEvent.{Blocked, ByStep, Giver, Injected, Joined, Lost, Poked, Reset, Sent, Took, giver}
+use Rattle.channel_model.specs.WireEvent.{Blocked, Giver, Injected, Joined, Lost, Poked, Reset, Sent, Took, giver}
 use Rattle.channel_model.specs.WireLog.{WireLog, lossy_behind, wire_moved}
 use Rattle.channel_laws.proofs.EndStanding.{held_stands}
 use Rattle.channel_laws.proofs.Lifting.{EndsAll, begins_anew, resets_anew}
 use Rattle.channel_laws.proofs.PacketsLeft.{anew_packets, answering_shut, says_left, says_packets, stays_packets, waits_left}
 use Rattle.channel_laws.specs.EndCore.{EndCore}
-use Rattle.channel_laws.specs.EndStep.{EndAnew, EndSays, EndStays, EndStep, EndWaits, Holding, Holds, HoldsOn, HoldsOwn}
+use Rattle.channel_laws.specs.EndStep.{EndAnew, EndSays, EndStays, EndStep, EndWaits, Holding, Holds}
 use Rattle.channel_laws.specs.LaneCore.{Closes, CoreEvent, CoreStep, LaneCore, OnChannel, reset_move, wire_after}
-use Rattle.channel_laws.specs.PacketsLeft.{first_packets, own_in, packets_left}
+use Rattle.channel_laws.specs.PacketsLeft.{own_in, packets_left}
 use Rattle.channel_laws.specs.Standing.{EndStands, HandshakeStands}
 use Rattle.port_model.proofs.Refuting.{true_false}
 use Rattle.port_laws.specs.NetCore.{one_if}
@@ -43,21 +43,17 @@ few_swaps : (f g : ℕ) (x y : ChannelState) (w : ℕ) (lossy : Bool) (n p m q :
 few_swaps f g x y w lossy n p m q few = omega (arith, few)
 
 few_acts : (f g : ℕ) (x y : ChannelState) (w v : ℕ) (lossy : Bool) (n k p r m q : ℕ) → x ≡ Up → v + k + 2 * p ≤ w + n + 2 * r → Few f g x y w lossy n p m q → Few f g x y v lossy k r m q
-few_acts f g Up y w v lossy n k p r m q up moves few = omega (arith, moves, few)
-few_acts f g _ y w v lossy n k p r m q up moves few = absurd (cc up)
+few_acts f g x y w v lossy n k p r m q up moves few = grind arith
 
 few_rests : (f g : ℕ) (x y : ChannelState) (w : ℕ) (lossy : Bool) (n k p r m q : ℕ) → k ≤ n → r ≡ p → Few f g x y w lossy n p m q → Few f g x y w lossy k r m q
-few_rests f g Up y w lossy n k p r m q less same few = omega (arith, less, same, few)
-few_rests f g _ y w lossy n k p r m q less same few = few
+few_rests f g x y w lossy n k p r m q less same few = grind arith
 
 upset_first : (y : ChannelState) (g m : ℕ) → live_count (upset y) g m ≡ g
-upset_first Resetting g m = refl
-upset_first _ g m = refl
+upset_first y g m = grind arith
 
 few_begins : (f g : ℕ) (x y : ChannelState) (a b : List (List ℕ)) (lossy : Bool) (n k p r m q : ℕ) → k ≡ f → Few f g x y (length a + length b) lossy n p m q
     → Few f g Up (peer_behind x y) (length (queue_behind x a) + length (queue_behind x b)) (lossy_behind x lossy) k r m q
-few_begins f g Up y a b lossy n k p r m q first few = omega (arith, first, upset_first y g m)
-few_begins f g _ y a b lossy n k p r m q first few = omega (arith, first, few)
+few_begins f g x y a b lossy n k p r m q first few = grind (arith, upset_first)
 
 few_shuts : (f g : ℕ) (y : ChannelState) (k r m q : ℕ) → Few f g Down (upset y) 0 false k r m q
 few_shuts f g y k r m q = omega (arith, upset_first y g m)
@@ -70,17 +66,14 @@ pub stays_spent : (c t : EndCore) → EndStays c t → spent t ≤ spent c
 stays_spent c t stays = omega (arith, stays_packets c t stays, stays.more)
 
 holds_open : (c held : EndCore) (what : Holding) → Holds c what held → held.is_open ≡ c.is_open
-holds_open c held HoldsOn is = ap (λ (x : EndCore). x.is_open) is
-holds_open c held _ offers = offers.is_open
+holds_open c held what is = grind arith
 
 waits_spent : (role : Role) (c t : EndCore) (turns : List Turn) → EndStands role c turns → EndWaits c t → spent t + 2 * one_if c.is_open ≤ spent c + 2 * one_if t.is_open
-waits_spent role c t turns stands waits =
-    omega (arith, waits_left role c t turns stands waits, ap one_if (holds_open c t waits.what waits.holds))
+waits_spent role c t turns stands waits = grind (arith, waits_left, holds_open)
 
 -- a message of its session is none by which that opens
 shut_own : (c held : EndCore) (what : Holding) → c.is_open ≡ false → Holds c what held → own_in what ≡ 0
-shut_own c held (HoldsOwn message) shut offers = true_false (sym offers.opened ∙ shut)
-shut_own c held _ shut holds = refl
+shut_own c held what shut offers = grind (arith, true_false)
 
 pub says_spent : (role : Role) (c t : EndCore) (turns : List Turn) (packet : List ℕ) (opens : Bool) → EndStands role c turns → (says : EndSays role c packet opens t) → (role ≡ Initiator → opens ≡ true → t.more ≤ 2)
     → spent t + 1 + 2 * one_if c.is_open ≤ spent c + 2 * one_if t.is_open
@@ -112,14 +105,10 @@ first_of Initiator = 11
 first_of Responder = 13
 
 pub anew_spent : (role : Role) (c t : EndCore) → HandshakeStands role c.offer c.handshake → c.offer.both_rings ≡ true → t.more ≡ 0 → EndAnew role c t → spent t ≡ first_of role
-anew_spent Initiator c t stands both none begins =
-    omega (arith, none, anew_packets Initiator c t stands begins, ap (λ (b : Bool). first_packets b Initiator) both)
-anew_spent Responder c t stands both none begins =
-    omega (arith, none, anew_packets Responder c t stands begins, ap (λ (b : Bool). first_packets b Responder) both)
+anew_spent role c t stands both none begins = grind (arith, anew_packets)
 
 resets_none : (g : Giver) (role : Role) (c t : EndCore) (cause : Cause) (packet : Option (List ℕ)) → EndStep role c (reset_move g cause packet) t → t.more ≡ 0
-resets_none ByStep role c t cause packet step = step.1.more
-resets_none _ role c t cause packet step = step.more
+resets_none g role c t cause packet step = grind arith
 
 -- BOTH ENDS
 abbrev pub FewFly : WireLog → EndCore → EndCore → Type 0
@@ -132,36 +121,26 @@ FromB w a b =
     Few 13 11 w.wire.end_b w.wire.end_a (length w.wire.to_a + length w.wire.to_b) w.lossy (spent b) (one_if b.is_open) (spent a) (one_if a.is_open)
 
 from_b : (w : WireLog) (a b : EndCore) → FewFly w a b → FromB w a b
-from_b w a b few =
-    few_swaps 11 13 w.wire.end_a w.wire.end_b (length w.wire.to_a + length w.wire.to_b) w.lossy (spent a) (one_if a.is_open) (spent b) (one_if b.is_open) few
+from_b w a b few = grind (arith, few_swaps)
 
 to_a : (w : WireLog) (a b : EndCore) → FromB w a b → FewFly w a b
 to_a w a b few =
     few_swaps 13 11 w.wire.end_b w.wire.end_a (length w.wire.to_a + length w.wire.to_b) w.lossy (spent b) (one_if b.is_open) (spent a) (one_if a.is_open) few
 
 a_rests : (w : WireLog) (a t b : EndCore) → EndStays a t → FewFly w a b → FewFly w t b
-a_rests w a t b stays few =
-    few_rests 11 13 w.wire.end_a w.wire.end_b (length w.wire.to_a + length w.wire.to_b) w.lossy (spent a) (spent t) (one_if a.is_open) (one_if t.is_open) (spent b) (one_if b.is_open)
-    (stays_spent a t stays) (ap one_if stays.is_open) few
+a_rests w a t b stays few = grind (arith, few_rests, stays_spent)
 
 b_rests : (w : WireLog) (a b t : EndCore) → EndStays b t → FewFly w a b → FewFly w a t
-b_rests w a b t stays few =
-    to_a w a t
-    (few_rests 13 11 w.wire.end_b w.wire.end_a (length w.wire.to_a + length w.wire.to_b) w.lossy (spent b) (spent t) (one_if b.is_open) (one_if t.is_open) (spent a) (one_if a.is_open)
-    (stays_spent b t stays) (ap one_if stays.is_open) (from_b w a b few))
+b_rests w a b t stays few = grind (arith, to_a, few_rests, stays_spent, from_b)
 
 -- one end acts, behind which so many packets wait
 a_acts : (w : WireLog) (n : ℕ) (a t b : EndCore) → w.wire.end_a ≡ Up → n + spent t + 2 * one_if a.is_open ≤ length w.wire.to_a + length w.wire.to_b + spent a + 2 * one_if t.is_open → FewFly w a b
     → Few 11 13 w.wire.end_a w.wire.end_b n w.lossy (spent t) (one_if t.is_open) (spent b) (one_if b.is_open)
-a_acts w n a t b up moves few =
-    few_acts 11 13 w.wire.end_a w.wire.end_b (length w.wire.to_a + length w.wire.to_b) n w.lossy (spent a) (spent t) (one_if a.is_open) (one_if t.is_open) (spent b) (one_if b.is_open) up moves few
+a_acts w n a t b up moves few = grind (arith, few_acts)
 
 b_acts : (w : WireLog) (n : ℕ) (a b t : EndCore) → w.wire.end_b ≡ Up → n + spent t + 2 * one_if b.is_open ≤ length w.wire.to_a + length w.wire.to_b + spent b + 2 * one_if t.is_open → FewFly w a b
     → Few 11 13 w.wire.end_a w.wire.end_b n w.lossy (spent a) (one_if a.is_open) (spent t) (one_if t.is_open)
-b_acts w n a b t up moves few =
-    few_swaps 13 11 w.wire.end_b w.wire.end_a n w.lossy (spent t) (one_if t.is_open) (spent a) (one_if a.is_open)
-    (few_acts 13 11 w.wire.end_b w.wire.end_a (length w.wire.to_a + length w.wire.to_b) n w.lossy (spent b) (spent t) (one_if b.is_open) (one_if t.is_open) (spent a) (one_if a.is_open) up moves
-    (from_b w a b few))
+b_acts w n a b t up moves few = grind (arith, few_swaps, few_acts, from_b)
 
 -- one begins anew
 a_begins : (w : WireLog) (a t b : EndCore) → spent t ≡ 11 → FewFly w a b → FewFly (wire_moved w (Joined A 0)) t b
@@ -175,8 +154,7 @@ b_begins w a b t first few =
     (from_b w a b few))
 
 pub first_gone : (packet : List ℕ) (packets : List (List ℕ)) → slice_get packets 0 ≡ Some packet → length (drop 1 packets) + 1 ≡ length packets
-first_gone packet [] is = absurd (cc is)
-first_gone packet (one ∷ packets) is = omega (arith, length-drop 1 (one ∷ packets))
+first_gone packet packets is = grind (arith, length-drop)
 
 -- AN EVENT. By a packet that it takes an end spends no more than one beside it, and a guest's session opens with two messages to begin.
 abbrev pub TakeSpends : EndCore → EndCore → Type 0
@@ -251,13 +229,8 @@ event_few s t _ known step spends clean few = b_rests s.wire t.a s.b t.b step.b 
 
 -- nobody had forged before
 was_clean : (w : WireLog) (event : CoreEvent) → (wire_after w event).forged ≡ false → w.forged ≡ false
-was_clean w (OnChannel (Injected e packet)) clean = true_false clean
-was_clean w (OnChannel (Poked e at bytes)) clean = true_false clean
-was_clean w _ clean = clean
+was_clean w event clean = grind (arith, true_false)
 
 pub step_few : (s t : LaneCore) (event : CoreEvent) → Known s → CoreStep s event t → (s.wire.forged ≡ false → Spends s event t) → (s.wire.forged ≡ false → FewFly s.wire s.a s.b)
     → t.wire.forged ≡ false → FewFly t.wire t.a t.b
-step_few s t event known step spends few clean =
-    let here : (wire_after s.wire event).forged ≡ false = sym (ap (λ (w : WireLog). w.forged) step.wire) ∙ clean in
-    let was : s.wire.forged ≡ false = was_clean s.wire event here in
-    subst (λ (w : WireLog). FewFly w t.a t.b) (sym step.wire) (event_few s t event known step (spends was) here (few was))
+step_few s t event known step spends few clean = grind (arith, was_clean, event_few)

@@ -66,13 +66,7 @@ pub record MayForm (role : Role) (sid : ℕ) (s : NetEndState) (p : NetSession) 
   pub empty : owes s.link ≡ false → s.link.to_send ≡ []
 
 forms_it : (s : NetEndState) (at : Seen) (p q : NetSession) (message : Message) → IsFreeIn s at p → (owes s.link ≡ false → s.link.to_send ≡ []) → FormsIt s (holding_own message q s) (canonical message) q
-forms_it s at p q message free empty = record {
-  now = own_left (is_none s.handshake.owed) (canonical message) (ap (λ (x : Option Message). is_none x) free.free.owed) (omega (arith, length_canonical message));
-  none = empty_unsaid s (empty free.free.quiet);
-  session = refl;
-  groups = refl;
-  handshake = refl;
-}
+forms_it s at p q message free empty = grind (arith, own_left, length_canonical, empty_unsaid)
 
 slot_formed : (role : Role) (sid : ℕ) (s : NetEndState) (at : Seen) (p : NetSession) (activity : Activity) (last : Option ℕ) (found : Fetched) (held : NetEndState) → AllAgreed s.handshake sid → sid < 2 ^ 32
     → (owes s.link ≡ false → s.link.to_send ≡ []) → IsFreeIn s at p → answers s p activity last found ≡ Some held → Formed role sid s p held
@@ -169,11 +163,7 @@ sends_own role slots queue s l turns at memory reach packet opens t q acting ste
 -- AN END THAT OPENS by a packet holds nothing of its session then
 opens_empty : (role : Role) (held : NetEndState) (turns : List Turn) (packet : List ℕ) → net_opens held ≡ true → PutWhat role (net_core role held) turns packet (net_opens held) (net_core role (net_put role held))
     → (net_put role held).link.to_send ≡ []
-opens_empty role held turns packet opens (PutControl next gone link says same shut is_open) = true_false (sym opens ∙ shut)
-opens_empty role held turns packet opens (PutReady r at is link says same shut is_open) = true_false (sym opens ∙ shut)
-opens_empty role held turns packet opens (PutMore at link says same shut is_open) = true_false (sym opens ∙ shut)
-opens_empty role held turns packet opens (PutOwn own at link says same shut is_open) = true_false (sym opens ∙ shut)
-opens_empty role held turns packet opens (PutHandshake own at link says same opens_is is_open) = ap (λ (x : LinkState). x.to_send) link ∙ short_left held.link turns packet says
+opens_empty role held turns packet opens given = grind (arith, true_false, short_left)
 
 pub opens_unsaid : (role : Role) (slots : ℕ) (queue : List (List ℕ)) (s : NetEndState) (l : EndLog) (turns : List Turn) (at : Seen) (memory : List ℕ) (reach : Reach) (packet : List ℕ) (opens : Bool)
     (t : NetLeft) → Acting role slots queue s l turns → NetSends role s at memory reach packet opens t → opens ≡ true → unsaid t.end ≡ None

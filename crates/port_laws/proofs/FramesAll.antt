@@ -1,23 +1,21 @@
 -- On a port that nobody forged each frame that an end was given was taken by the other, is held, or is one of those that the end says are
 -- lost. So where none is lost and none is held, the frames that were taken are those that were given.
-use Rattle.std.proofs.Common.{◌≡◌, ℕ, zero, suc, ◌+◌, ◌≤◌, true, false, Option, Some, None, List, [], ◌∷◌, ◌++◌, length, drop, refl, sym, subst, ap, ◌∙◌, arith, length-append, length-drop}
+use Rattle.std.proofs.Common.{◌≡◌, ℕ, zero, suc, ◌+◌, ◌≤◌, false, Option, Some, None, List, [], ◌∷◌, ◌++◌, length, drop, refl, sym, subst, ap, ◌∙◌, arith, length-append, length-drop}
 use Rattle.std.specs.Prelude.{slice_get}
 use Rattle.std.proofs.lemmas.Option.{slice_get_within}
 use Rattle.ldc_queue.specs.declared.end.ChannelState.{ChannelState}
-use Rattle.ldc_queue.specs.declared.end.ChannelState.TheVariants.{Down, Resetting, Up}
+use Rattle.ldc_queue.specs.declared.end.ChannelState.TheVariants.{Up}
 use Rattle.ldc_queue.specs.declared.end.End.{End}
 use Rattle.ldc_queue.specs.declared.end.End.TheVariants.{A, B}
 use Rattle.ldc_queue.specs.Transcript.{Turn}
 use Rattle.ldc_queue.specs.Wire.{peer_behind, peer_of, state_of}
 use Rattle.runs.specs.Lawful.{log_of}
 use Rattle.runs.specs.Run.{Run}
-use Rattle.channel_model.specs.Messages.{ended_by, opening_sid}
-use Rattle.channel_model.specs.Sayings.{half_heard, half_said}
 use Rattle.channel_model.specs.TranscriptLog.{transcript_of}
 use Rattle.channel_model.specs.WireLog.{WireLog}
 use Rattle.port_model.proofs.Refuting.{none_some, true_false}
-use Rattle.port_model.specs.EndLog.{EndLog, SessionLog, change, heard_in, more_published, more_taken, opened_log, said_in}
-use Rattle.port_model.specs.NetEndStep.{Blocked, Frame, Idle, Joined, NetAnswer, NetLeft, Published, Reset, Sent, Took}
+use Rattle.port_model.specs.EndLog.{EndLog, SessionLog, change, opened_log}
+use Rattle.port_model.specs.NetEndStep.{Frame, NetAnswer, NetLeft}
 use Rattle.port_model.specs.NetEvent.{Asked, CalmTick, Gives, Injects, Loses, NetEvent, Pokes, Steps, Ticked, on_wire}
 use Rattle.port_model.specs.NetLaneState.{IsNetShape, NetLaneState, NetShape}
 use Rattle.port_model.specs.NetLaneStep.{NetLaneStep, moved_on}
@@ -27,7 +25,7 @@ use Rattle.port_laws.specs.InOrder.{InOrder, frames_taken, took}
 use Rattle.port_laws.specs.Lost.{frames_lost, lost_at, lost_by}
 use Rattle.port_laws.specs.NetCore.{lane_core}
 use Rattle.port_laws.specs.RingStands.{taken_by, taken_of}
-use Rattle.port_laws.proofs.FramesOnce.{Bounds, Change, Moves, Once, Opened, Stayed, bounds, changed, event_moves, fresh_once, given_same, guest_takes_in_order, heard_taken, hub_takes_in_order, none_acked, once_step}
+use Rattle.port_laws.proofs.FramesOnce.{Bounds, Moves, Once, bounds, changed, event_moves, fresh_once, given_same, guest_takes_in_order, heard_taken, hub_takes_in_order, none_acked, once_step}
 use Rattle.port_laws.proofs.PortCounts.{before_queue, before_wire}
 use Rattle.port_laws.proofs.PortTalks.{PortTalks, port_talks}
 use Rattle.port_laws.proofs.RingActs.{Acts, Finds, LogNow, acts_up_at, goes_same, left_taken, log_now}
@@ -43,75 +41,41 @@ frames_in _ = 0
 
 took_one : (e : End) (answer : NetAnswer) → frames_in answer ≤ length (took e (OnLane (Steps e answer)))
 unfolding frames_in
-took_one A (Frame frame) = omega arith
-took_one B (Frame frame) = omega arith
-took_one A _ = omega arith
-took_one B _ = omega arith
+took_one e answer = grind arith
 
 -- THE STATES of both ends
 behind_less : (x y : ChannelState) (o : Option SessionLog) → taken_by (peer_behind x y) o ≤ taken_by y o
-behind_less Up Up o = omega arith
-behind_less _ _ o = omega arith
+behind_less x y o = grind arith
 
 theirs_less : (answer : NetAnswer) (x y : ChannelState) (o : Option SessionLog) → taken_by (theirs_now answer x y) o ≤ taken_by y o
-theirs_less (Joined lost) x y o = behind_less x y o
-theirs_less (Reset cause packet lost) x y o = behind_less x y o
-theirs_less _ x y o = omega arith
+theirs_less answer x y o = grind (arith, behind_less)
 
 none_taken : (x : ChannelState) → taken_by x None ≡ 0
-none_taken Up = refl
-none_taken _ = refl
+none_taken x = grind arith
 
 one_more : (n : ℕ) (x : ChannelState) (f : SessionLog → SessionLog) (o : Option SessionLog) → ((w : SessionLog) → (f w).taken ≤ w.taken + n) → taken_by x (change f o) ≤ taken_by x o + n
-one_more n Up f (Some w) less = less w
-one_more n _ f _ less = omega arith
+one_more n x f o less = grind arith
 
 opened_none : (x : ChannelState) (sid n : ℕ) → taken_by x (Some (opened_log sid)) ≤ n
-opened_none Up sid n = omega arith
-opened_none _ sid n = omega arith
+opened_none x sid n = grind arith
 
 mine_less : (slots : ℕ) (turns : List Turn) (answer : NetAnswer) (x : ChannelState) (l : EndLog) → taken_by (mine_now answer x) (after_answer slots turns answer l).session ≤ taken_by x l.session + frames_in answer
 unfolding frames_in
-mine_less slots turns (Joined lost) x l = omega arith
-mine_less slots turns (Reset cause packet lost) x l = omega arith
-mine_less slots turns (Took packet true) x l = opened_none x (opening_sid (half_heard turns) packet) (taken_by x l.session + 0)
-mine_less slots turns (Took packet false) x l =
-    let message = ended_by (half_heard turns) packet in one_more 0 x (heard_in slots message) l.session (λ w. omega (arith, heard_taken slots message w))
-mine_less slots turns (Sent packet true) x l = opened_none x (opening_sid (half_said turns) packet) (taken_by x l.session + 0)
-mine_less slots turns (Sent packet false) x l = let message = ended_by (half_said turns) packet in one_more 0 x (said_in message) l.session (λ w. omega (arith, left_taken message w))
-mine_less slots turns Blocked x l = omega arith
-mine_less slots turns Idle x l = omega arith
-mine_less slots turns (Published id) x l = one_more 0 x more_published l.session (λ w. omega arith)
-mine_less slots turns (Frame frame) x l = one_more 1 x more_taken l.session (λ w. omega arith)
+mine_less slots turns answer x l = grind (arith, opened_none, one_more, heard_taken, left_taken)
 
 -- THE LOG of the end itself: a session that opens published nothing; and where none is open after it, no more is gone than is lost
 never_changed : (f : SessionLog → SessionLog) (o : Option SessionLog) (v : SessionLog) (P : Type 0) → o ≡ None → change f o ≡ Some v → P
 never_changed f o v P none is = let made = changed f o v is in none_some made.0 (sym none ∙ made.1)
 
 opened_zero : (slots : ℕ) (turns : List Turn) (answer : NetAnswer) (l : EndLog) (v : SessionLog) → l.session ≡ None → (after_answer slots turns answer l).session ≡ Some v → v.published ≡ 0
-opened_zero slots turns (Took packet true) l v none is = let same : opened_log (opening_sid (half_heard turns) packet) ≡ v = cc is in sym (ap (λ (x : SessionLog). x.published) same)
-opened_zero slots turns (Took packet false) l v none is = never_changed (heard_in slots (ended_by (half_heard turns) packet)) l.session v (v.published ≡ 0) none is
-opened_zero slots turns (Sent packet true) l v none is = let same : opened_log (opening_sid (half_said turns) packet) ≡ v = cc is in sym (ap (λ (x : SessionLog). x.published) same)
-opened_zero slots turns (Sent packet false) l v none is = never_changed (said_in (ended_by (half_said turns) packet)) l.session v (v.published ≡ 0) none is
-opened_zero slots turns Blocked l v none is = none_some v (sym none ∙ is)
-opened_zero slots turns Idle l v none is = none_some v (sym none ∙ is)
-opened_zero slots turns (Published id) l v none is = never_changed more_published l.session v (v.published ≡ 0) none is
-opened_zero slots turns (Frame frame) l v none is = never_changed more_taken l.session v (v.published ≡ 0) none is
-opened_zero slots turns _ l v none is = none_some v is
+opened_zero slots turns answer l v none is = grind (arith, never_changed, none_some)
 
 shut_before : (f : SessionLog → SessionLog) (o : Option SessionLog) → ((v : SessionLog) → change f o ≡ Some v → ⊥) → o ≡ None
-shut_before f None never = refl
-shut_before f (Some w) never = absurd (never (f w) refl)
+shut_before f o never = grind arith
 
 own_gone : (slots : ℕ) (turns : List Turn) (answer : NetAnswer) (l : EndLog) → (Goes answer → (v : SessionLog) → (after_answer slots turns answer l).session ≡ Some v → ⊥)
     → (after_answer slots turns answer l).gone ≤ l.gone + lost_by answer
-own_gone slots turns (Took packet true) l never = absurd (never tt (opened_log (opening_sid (half_heard turns) packet)) refl)
-own_gone slots turns (Took packet false) l never =
-    let message = ended_by (half_heard turns) packet in
-    let none = none_acked slots message l.session (shut_before (heard_in slots message) l.session (never tt)) in
-    omega (arith, none)
-own_gone slots turns (Sent packet true) l never = omega arith
-own_gone slots turns _ l never = omega arith
+own_gone slots turns answer l never = grind (arith, none_acked, shut_before)
 
 -- WHAT AN EVENT ADDS: so many frames at most are taken of an end's by it, or said to be lost
 record Adds (e d : End) (s t : NetLaneState) (l m : PortLog) (more : ℕ) : Type 0 where
@@ -151,55 +115,20 @@ own_adds shape e u t l answer left more acts less = record {
 
 taker_adds : (shape : NetShape) (d : End) (u t : PortState) (l : PortLog) (answer : NetAnswer) (left : NetLeft) (more : ℕ) → Acts shape d u t l answer left → frames_in answer ≤ more
     → Adds (peer_of d) d u.lane t.lane l (after l (OnLane (Steps d answer))) more
-taker_adds shape d u t l answer left more acts less =
-    let m : PortLog = after l (OnLane (Steps d answer)) in
-    let log = log_now d l answer in
-    let x : ChannelState = state_of d u.lane.wire.wire in
-    record {
-      gone = λ never. omega (arith, ap (λ (z : EndLog). z.gone) log.theirs);
-      taken =
-          let is : taken_of d t.lane m ≡ taken_by (mine_now answer x) (after_answer l.shape.slots (transcript_of d l.transcript) answer (log_of_end d l)).session =
-          ap (λ (z : ChannelState). taken_by z (log_of_end d m).session) (ap (λ (w : WireLog). state_of d w.wire) acts.now.wire ∙ (wire_now d u.lane answer).mine)
-          ∙ ap (λ (z : EndLog). taken_by (mine_now answer x) z.session) log.mine in
-          let most = mine_less l.shape.slots (transcript_of d l.transcript) answer x (log_of_end d l) in
-          omega (arith, is, most, less);
-      opened = λ v none is. none_some v (sym none ∙ (sym (ap (λ (z : EndLog). z.session) log.theirs) ∙ is));
-    }
+taker_adds shape d u t l answer left more acts less = grind (arith, log_now, wire_now, mine_less, none_some)
 
 -- it begins anew, not by a step; or the other does
 anew_adds : (e d : End) (s t : NetLaneState) (l m : PortLog) (more : ℕ) → (log_of_end e m).session ≡ None → (log_of_end e m).gone ≡ (log_of_end e l).gone + more
     → log_of_end d m ≡ log_of_end d l → state_of d t.wire.wire ≡ peer_behind (state_of e s.wire.wire) (state_of d s.wire.wire) → Adds e d s t l m more
-anew_adds e d s t l m more shut gone theirs peer = record {
-  gone = λ never. omega (arith, gone);
-  taken =
-      let same : taken_of d t m ≡ taken_by (peer_behind (state_of e s.wire.wire) (state_of d s.wire.wire)) (log_of_end d l).session =
-      ap (λ (x : ChannelState). taken_by x (log_of_end d m).session) peer ∙ ap (λ (x : EndLog). taken_by (peer_behind (state_of e s.wire.wire) (state_of d s.wire.wire)) x.session) theirs in
-      let most = behind_less (state_of e s.wire.wire) (state_of d s.wire.wire) (log_of_end d l).session in
-      omega (arith, same, most);
-  opened = λ v none is. none_some v (sym shut ∙ is);
-}
+anew_adds e d s t l m more shut gone theirs peer = grind (arith, behind_less, none_some)
 
 other_anew : (e d : End) (s t : NetLaneState) (l m : PortLog) → log_of_end e m ≡ log_of_end e l → (log_of_end d m).session ≡ None → Adds e d s t l m 0
-other_anew e d s t l m same shut = record {
-  gone = λ never. omega (arith, ap (λ (x : EndLog). x.gone) same);
-  taken =
-      let is : taken_of d t m ≡ 0 = ap (λ (o : Option SessionLog). taken_by (state_of d t.wire.wire) o) shut ∙ none_taken (state_of d t.wire.wire) in
-      omega (arith, is);
-  opened = λ v none is. none_some v (sym none ∙ (sym (ap (λ (x : EndLog). x.session) same) ∙ is));
-}
+other_anew e d s t l m same shut = grind (arith, none_taken, none_some)
 
 -- or neither of them
 still_adds : (e d : End) (s t : NetLaneState) (l m : PortLog) → state_of d t.wire.wire ≡ state_of d s.wire.wire → (log_of_end e m).session ≡ (log_of_end e l).session
     → (log_of_end e m).gone ≡ (log_of_end e l).gone → (log_of_end d m).session ≡ (log_of_end d l).session → Adds e d s t l m 0
-still_adds e d s t l m state session gone peer = record {
-  gone = λ never. omega (arith, gone);
-  taken = omega (
-    arith,
-    ap (λ (x : ChannelState). taken_by x (log_of_end d m).session) state,
-    ap (λ (o : Option SessionLog). taken_by (state_of d s.wire.wire) o) peer,
-  );
-  opened = λ v none is. none_some v (sym none ∙ (sym session ∙ is));
-}
+still_adds e d s t l m state session gone peer = grind (arith, none_some)
 
 event_adds : (shape : NetShape) (d : End) (u t : PortState) (l : PortLog) (event : NetEvent) → OfQueue u event → Finds shape u l → NetLaneStep u.lane event t.lane → (moved_on l.wire (on_wire event)).forged ≡ false
     → Kept shape t (after l (OnLane event)) → PortTalks shape (lane_core t.lane) (after l (OnLane event))
@@ -247,44 +176,11 @@ record Arrived (e d : End) (s : NetLaneState) (l : PortLog) (n : ℕ) : Type 0 w
   here : (v : SessionLog) → state_of e s.wire.wire ≡ Up → (log_of_end e l).session ≡ Some v → (log_of_end e l).gone + taken_of d s l ≤ n + v.seen
 
 arrives : (e d : End) (s t : NetLaneState) (l m : PortLog) (n more : ℕ) → Bounds e d t m → Moves e d s t l m → Adds e d s t l m more → Arrived e d s l n → Arrived e d t m (n + more)
-arrives e d s t l m n more now moves adds had = record { all = by_state (state_of e t.wire.wire) (log_of_end e m).session refl refl; here = here }
-  where
-    here : (v : SessionLog) → state_of e t.wire.wire ≡ Up → (log_of_end e m).session ≡ Some v → (log_of_end e m).gone + taken_of d t m ≤ (n + more) + v.seen
-    here v up is = by_change (moves.changes v up is)
-      where
-        by_change : Change e d s t l m v → (log_of_end e m).gone + taken_of d t m ≤ (n + more) + v.seen
-        by_change (Opened none gone) =
-            let few = (now.within v up is).1 in
-            omega (arith, few, adds.opened v none is, gone, had.all)
-        by_change (Stayed w before_up before_log gone taken) =
-            let was = had.here w before_up before_log in
-            let most = adds.taken in
-            omega (arith, was, most, gone)
-
-    open_now : (v : SessionLog) → state_of e t.wire.wire ≡ Up → (log_of_end e m).session ≡ Some v → (log_of_end e m).gone ≤ n + more
-    open_now v up is =
-        let both = here v up is in
-        let first = (now.within v up is).0 in
-        omega (arith, both, first)
-
-    shut_now : (state_of e t.wire.wire ≡ Up → (v : SessionLog) → (log_of_end e m).session ≡ Some v → ⊥) → (log_of_end e m).gone ≤ n + more
-    shut_now never = let most = adds.gone never in let was = had.all in omega (arith, most, was)
-
-    by_state : (x : ChannelState) (o : Option SessionLog) → state_of e t.wire.wire ≡ x → (log_of_end e m).session ≡ o → (log_of_end e m).gone ≤ n + more
-    by_state Up (Some v) up is = open_now v up is
-    by_state x None state none = shut_now (λ up v is. none_some v (sym none ∙ is))
-    by_state Down (Some v) state some = shut_now (λ up w is. (let never : Down ≡ Up = sym state ∙ up in absurd (cc never)))
-    by_state Resetting (Some v) state some = shut_now (λ up w is. (let never : Resetting ≡ Up = sym state ∙ up in absurd (cc never)))
+arrives e d s t l m n more now moves adds had = grind (arith, none_some)
 
 -- the wire and the log alone matter
 arrived_as : (e d : End) (s u : NetLaneState) (l : PortLog) (n : ℕ) → u.wire ≡ s.wire → Arrived e d s l n → Arrived e d u l n
-arrived_as e d s u l n same had = record {
-  all = had.all;
-  here = λ v up is.
-      (let was = had.here v (ap (λ (w : WireLog). state_of e w.wire) (sym same) ∙ up) is in
-      let taken : taken_of d u l ≡ taken_of d s l = ap (λ (w : WireLog). taken_by (state_of d w.wire) (log_of_end d l).session) same in
-      omega (arith, was, taken));
-}
+arrived_as e d s u l n same had = grind arith
 
 -- ALONG A RUN: by the frames that each end took, and that the other says are lost
 record All (shape : NetShape) (s : PortState) (l : PortLog) (by_end : End → List (List ℕ)) (lost : End → ℕ) : Type 0 where
@@ -297,8 +193,7 @@ counts_add xs more lost new = omega (arith, length-append xs more)
 module _ (shape : NetShape) (is : IsNetShape shape) where
   received : (d : End) (s : PortState) (l : PortLog) (frame : List ℕ) (t : PortState) (n : ℕ) → t.lane.wire ≡ s.lane.wire → Arrived (peer_of d) d s.lane l n
       → Arrived (peer_of d) d t.lane (after l (Receives frame)) (n + (length (took d (Receives frame)) + lost_at (peer_of d) (Receives frame)))
-  received A s l frame t n wire arrived = let there = arrived_as B A s.lane t.lane l n wire arrived in record { all = omega (arith, there.all); here = λ v up is. omega (arith, there.here v up is) }
-  received B s l frame t n wire arrived = let there = arrived_as A B s.lane t.lane l n wire arrived in record { all = omega (arith, there.all); here = λ v up is. omega (arith, there.here v up is) }
+  received d s l frame t n wire arrived = grind (arith, arrived_as)
 
   event_arrives : (d : End) (s : PortState) (l : PortLog) (event : PortEvent) (t : PortState) (by_end now : End → List (List ℕ)) (n : ℕ) → Once shape s l by_end → Once shape t (after l event) now
       → PortStep s event t → (after l event).wire.forged ≡ false → (l.wire.forged ≡ false → Arrived (peer_of d) d s.lane l n)
@@ -351,11 +246,7 @@ module _ (shape : NetShape) (is : IsNetShape shape) where
       }
 
   fresh_all : All shape (fresh_port shape) (no_events shape) (λ d. []) (λ d. 0)
-  fresh_all = record { once = fresh_once shape is; arrived = fresh_arrived }
-    where
-      fresh_arrived : (d : End) → false ≡ false → Arrived (peer_of d) d (fresh_port shape).lane (no_events shape) (0 + 0)
-      fresh_arrived A clean = record { all = omega arith; here = λ v up none. none_some v none }
-      fresh_arrived B clean = record { all = omega arith; here = λ v up none. none_some v none }
+  fresh_all = grind (arith, fresh_once, none_some)
 
   ended : (events : List PortEvent) (s : PortState) → Run PortStep (fresh_port shape) events s
       → Ended s (log_of after (no_events shape) events) (λ d. (0 + length (frames_taken d events)) + (0 + frames_lost (peer_of d) events))
@@ -395,9 +286,7 @@ in_order_all n (frame ∷ frames) given within order all =
 
 -- THE LAWS
 held_count : (frames given : List (List ℕ)) (gone n : ℕ) → frames ≡ drop gone given → gone ≤ n → length given ≤ n + length frames
-held_count frames given gone n is less =
-    let long = length-drop gone given in
-    omega (arith, ap (λ (l : List (List ℕ)). length l) is, long, less)
+held_count frames given gone n is less = grind (arith, length-drop)
 
 pub guest_counted : (shape : NetShape) (events : List PortEvent) (s : PortState) → IsNetShape shape → Run PortStep (fresh_port shape) events s → s.lane.wire.forged ≡ false
     → length (log_of after (no_events shape) events).guest.given ≤ (length (frames_taken B events) + frames_lost A events) + length s.lane.guest.frames
@@ -416,8 +305,7 @@ hub_counted shape events s is run clean =
     held_count (s.lane.hub.frames ++ s.queue) l.hub.given l.hub.gone (length (frames_taken A events) + frames_lost B events) (hub_holds shape events s is run) (omega (arith, less))
 
 all_taken : (taken given held : List (List ℕ)) (lost : ℕ) → InOrder 0 taken given → length given ≤ (length taken + lost) + length held → lost ≡ 0 → held ≡ [] → taken ≡ given
-all_taken taken given held lost order all none empty =
-    in_order_all 0 taken given (omega arith) order (omega (arith, all, none, ap (λ (l : List (List ℕ)). length l) empty))
+all_taken taken given held lost order all none empty = grind (arith, in_order_all)
 
 pub guest_all : (shape : NetShape) (events : List PortEvent) (s : PortState) → IsNetShape shape → Run PortStep (fresh_port shape) events s → s.lane.wire.forged ≡ false
     → frames_lost A events ≡ 0 → s.lane.guest.frames ≡ [] → frames_taken B events ≡ (log_of after (no_events shape) events).guest.given

@@ -16,15 +16,14 @@ use Rattle.channel_model.specs.Sayings.{half_heard, half_said}
 use Rattle.channel_model.specs.TranscriptLog.{transcript_of}
 use Rattle.channel_model.specs.WireLog.{WireLog}
 use Rattle.port_model.proofs.Refuting.{none_some, true_false}
-use Rattle.port_model.specs.EndLog.{EndLog, SessionLog, acked_by, acked_in, change, heard_in, heard_kind, lost_in, more_published, more_taken, said_in}
+use Rattle.port_model.specs.EndLog.{EndLog, SessionLog, acked_in, change, heard_in, lost_in, more_published, more_taken, said_in}
 use Rattle.port_model.specs.NetEndState.{NetEndState, NetSession, unseen}
-use Rattle.port_model.specs.NetEndStep.{Blocked, Frame, Given, Idle, Joined, NetAnswer, NetLeft, Published, Queued, Reset, Sent, Took}
+use Rattle.port_model.specs.NetEndStep.{Frame, Given, Joined, NetAnswer, NetLeft, Published, Queued, Reset, Sent, Took}
 use Rattle.port_model.specs.NetEvent.{Asked, CalmTick, Gives, Injects, Loses, NetEvent, Pokes, Steps, Ticked, on_wire}
 use Rattle.port_model.specs.NetLaneState.{IsNetShape, NetLaneState, NetShape, memory_of, net_end, role_at}
 use Rattle.port_model.specs.NetLaneStep.{EndSteps, NetLaneStep, moved_on}
 use Rattle.port_model.specs.PortLog.{PortLog, after, after_answer, after_given, log_of_end, no_events}
 use Rattle.port_model.specs.PortState.{OfQueue, OnLane, PortEvent, PortState, PortStep, Receives, before, fresh_port}
-use Rattle.port_model.specs.Spoken.{RangeInfo, Spoken, spoken}
 use Rattle.port_laws.specs.Counted.{unsaid}
 use Rattle.port_laws.specs.NetCore.{lane_core}
 use Rattle.port_laws.specs.InOrder.{InOrder, frames_taken, took}
@@ -142,58 +141,27 @@ place_most Up (Some v) gone published taken open_is = let at = open_is v refl re
 place_most _ _ gone published taken open_is = omega arith
 
 shut_place : (x : ChannelState) (session : Option SessionLog) (gone published taken : ℕ) → session ≡ None → place_by x session gone published taken ≤ published
-shut_place Up (Some v) gone published taken none = none_some v (sym none)
-shut_place _ _ gone published taken none = omega arith
+shut_place x session gone published taken none = grind (arith, none_some)
 
 place_less : (n : ℕ) (x : ChannelState) (session : Option SessionLog) (gone published taken : ℕ) → n ≤ published → ((v : SessionLog) → x ≡ Up → session ≡ Some v → n ≤ gone + (taken - v.seen))
     → n ≤ place_by x session gone published taken
-place_less n Up (Some v) gone published taken most inside = inside v refl refl
-place_less n _ _ gone published taken most inside = most
+place_less n x session gone published taken most inside = grind arith
 
 rises : (e d : End) (s t : NetLaneState) (l m : PortLog) → Bounds e d s l → Bounds e d t m → Moves e d s t l m → place e d s l ≤ place e d t m
-rises e d s t l m was now moves =
-    place_less (place e d s l) (state_of e t.wire.wire) (log_of_end e m).session (log_of_end e m).gone (log_of_end e m).published (taken_of d t m) (omega (arith, most, moves.grows)) inside
-  where
-    most : place e d s l ≤ (log_of_end e l).published
-    most =
-        place_most (state_of e s.wire.wire) (log_of_end e l).session (log_of_end e l).gone (log_of_end e l).published (taken_of d s l)
-        (λ v up log. let at = was.within v up log in (at.1, at.0, was.counted v log))
-
-    inside : (v : SessionLog) → state_of e t.wire.wire ≡ Up → (log_of_end e m).session ≡ Some v → place e d s l ≤ (log_of_end e m).gone + (taken_of d t m - v.seen)
-    inside v up log = by_change (moves.changes v up log)
-      where
-        by_change : Change e d s t l m v → place e d s l ≤ (log_of_end e m).gone + (taken_of d t m - v.seen)
-        by_change (Opened none gone) =
-            let less = shut_place (state_of e s.wire.wire) (log_of_end e l).session (log_of_end e l).gone (log_of_end e l).published (taken_of d s l) none in
-            omega (arith, less, was.shut none, gone)
-        by_change (Stayed w before_up before_log gone taken) =
-            let is : place e d s l ≡ (log_of_end e l).gone + (taken_of d s l - w.seen) =
-            ap (λ (x : ChannelState). place_by x (log_of_end e l).session (log_of_end e l).gone (log_of_end e l).published (taken_of d s l)) before_up
-            ∙ ap (λ (o : Option SessionLog). place_by Up o (log_of_end e l).gone (log_of_end e l).published (taken_of d s l)) before_log in
-            let first = was.within w before_up before_log in
-            let then_ = now.within v up log in
-            omega (arith, is, first.0, then_.0, gone, taken)
+rises e d s t l m was now moves = grind (arith, place_less, place_most, shut_place)
 
 -- A STEP OF AN END, by its own log
 pub changed : (f : SessionLog → SessionLog) (session : Option SessionLog) (v : SessionLog) → change f session ≡ Some v → (w : SessionLog) × (session ≡ Some w) × (f w ≡ v)
-changed f None v is = none_some v is
-changed f (Some w) v is = let same : f w ≡ v = cc is in (w, refl, same)
+changed f session v is = grind (arith, none_some)
 
 heard_seen : (slots : ℕ) (message : Option (List ℕ)) (w : SessionLog) → (heard_in slots message w).seen ≡ w.seen + acked_in slots message (Some w)
-heard_seen slots None w = omega arith
-heard_seen slots (Some message) w = by_kind (spoken message)
-  where
-    by_kind : (k : Spoken) → (heard_kind slots k message w).seen ≡ w.seen + acked_by slots k message
-    by_kind RangeInfo = omega arith
-    by_kind _ = omega arith
+heard_seen slots message w = grind arith
 
 pub heard_taken : (slots : ℕ) (message : Option (List ℕ)) (w : SessionLog) → (heard_in slots message w).taken ≡ w.taken
-heard_taken slots None w = refl
-heard_taken slots (Some message) w = kind_taken (spoken message) slots message w
+heard_taken slots message w = grind (arith, kind_taken)
 
 pub none_acked : (slots : ℕ) (message : Option (List ℕ)) (session : Option SessionLog) → session ≡ None → acked_in slots message session ≡ 0
-none_acked slots (Some message) (Some w) none = none_some w (sym none)
-none_acked slots _ _ none = refl
+none_acked slots message session none = grind (arith, none_some)
 
 -- how the end's own log changes
 record OwnChange (l m : EndLog) (v : SessionLog) (w : SessionLog) : Type 0 where
@@ -230,27 +198,14 @@ own_log slots turns (Reset cause packet lost) l v goes shut is = absurd goes
 own_log slots turns _ l v goes shut is = LogStayed v (record { was = is; gone = refl })
 
 own_grows : (slots : ℕ) (turns : List Turn) (answer : NetAnswer) (l : EndLog) → l.published ≤ (after_answer slots turns answer l).published
-own_grows slots turns (Took packet true) l = omega arith
-own_grows slots turns (Sent packet true) l = omega arith
-own_grows slots turns _ l = omega arith
+own_grows slots turns answer l = grind arith
 
 -- how many frames it took
 change_taken : (f : SessionLog → SessionLog) (n : ℕ) (session : Option SessionLog) → ((w : SessionLog) → w.taken + n ≤ (f w).taken) → taken_in session ≤ taken_in (change f session)
-change_taken f n None more = omega arith
-change_taken f n (Some w) more = let one = more w in omega (arith, one)
+change_taken f n session more = grind arith
 
 taken_grows : (slots : ℕ) (turns : List Turn) (answer : NetAnswer) (l : EndLog) → Goes answer → (opens_by answer ≡ true → l.session ≡ None) → taken_in l.session ≤ taken_in (after_answer slots turns answer l).session
-taken_grows slots turns (Took packet false) l goes shut =
-    change_taken (heard_in slots (ended_by (half_heard turns) packet)) 0 l.session (λ w. omega (arith, heard_taken slots (ended_by (half_heard turns) packet) w))
-taken_grows slots turns (Sent packet false) l goes shut =
-    change_taken (said_in (ended_by (half_said turns) packet)) 0 l.session (λ w. omega (arith, left_taken (ended_by (half_said turns) packet) w))
-taken_grows slots turns Blocked l goes shut = omega arith
-taken_grows slots turns Idle l goes shut = omega arith
-taken_grows slots turns (Published id) l goes shut = change_taken more_published 0 l.session (λ w. omega arith)
-taken_grows slots turns (Frame frame) l goes shut = change_taken more_taken 1 l.session (λ w. omega arith)
-taken_grows slots turns (Joined lost) l goes shut = absurd goes
-taken_grows slots turns (Reset cause packet lost) l goes shut = absurd goes
-taken_grows slots turns _ l goes shut = omega (arith, ap taken_in (shut refl))
+taken_grows slots turns answer l goes shut = grind (arith, change_taken, heard_taken, left_taken)
 
 -- THE END ITSELF makes a step
 acts_none : (shape : NetShape) (e : End) (u t : PortState) (l : PortLog) (answer : NetAnswer) (left : NetLeft) → Acts shape e u t l answer left → opens_by answer ≡ true → (log_of_end e l).session ≡ None
@@ -307,9 +262,7 @@ anew_moves e d s t l m same behind = record {
 }
 
 begins_or_goes : (answer : NetAnswer) (x y : ChannelState) → (theirs_now answer x y ≡ peer_behind x y) ⊎ Goes answer
-begins_or_goes (Joined lost) x y = inl refl
-begins_or_goes (Reset cause packet lost) x y = inl refl
-begins_or_goes _ x y = inr tt
+begins_or_goes answer x y = grind arith
 
 taker_moves : (shape : NetShape) (d : End) (u t : PortState) (l : PortLog) (answer : NetAnswer) (left : NetLeft) → Acts shape d u t l answer left
     → Moves (peer_of d) d u.lane t.lane l (after l (OnLane (Steps d answer)))
@@ -366,8 +319,7 @@ same_moves e d s t l m state peer_state same peer = record {
 }
 
 pub given_same : (given : Given) (l : EndLog) → SameLog l (after_given given l)
-given_same (Queued id frame) l = record { session = refl; gone = refl; published = refl }
-given_same _ l = record { session = refl; gone = refl; published = refl }
+given_same given l = grind arith
 
 still : (e d : End) (s t : NetLaneState) (l m : PortLog) → state_of e t.wire.wire ≡ state_of e s.wire.wire → state_of d t.wire.wire ≡ state_of d s.wire.wire → log_of_end e m ≡ log_of_end e l
     → log_of_end d m ≡ log_of_end d l → Moves e d s t l m
@@ -431,8 +383,7 @@ event_given B l _ = same_given l.hub.given
 
 -- A FRAME THAT IS TAKEN is the next, and the place rises
 next_place : (x : ChannelState) (session : Option SessionLog) (gone published taken : ℕ) (w : SessionLog) → x ≡ Up → session ≡ Some w → place_by x session gone published taken ≡ gone + (taken - w.seen)
-next_place x session gone published taken w up log =
-    ap (λ (y : ChannelState). place_by y session gone published taken) up ∙ ap (λ (o : Option SessionLog). place_by Up o gone published taken) log
+next_place x session gone published taken w up log = grind arith
 
 record Next (e d : End) (s t : NetLaneState) (l m : PortLog) (frame : List ℕ) : Type 0 where
   get : slice_get (log_of_end e l).given (place e d s l) ≡ Some frame
@@ -467,10 +418,7 @@ next_of shape d u l frame t finds step =
 
 -- ONE MORE EVENT
 goes_below : (n k : ℕ) (frames new given behind : List (List ℕ)) → new ≡ [] → n ≤ k → Grown given behind → Below 0 n frames given → Below 0 k (frames ++ new) behind
-goes_below n k frames new given behind none less grown below =
-    subst (λ (xs : List (List ℕ)). Below 0 k (frames ++ xs) behind) (sym none)
-    (subst (λ (xs : List (List ℕ)). Below 0 k xs behind) (sym (append-nil frames))
-    (subst (Below 0 k frames) (sym grown.1) (below_given 0 k frames given grown.0 (below_more 0 n k frames given less below))))
+goes_below n k frames new given behind none less grown below = grind (arith, Below, append-nil, below_given, below_more)
 
 last_below : (n k : ℕ) (frames new given behind : List (List ℕ)) (frame : List ℕ) → new ≡ frame ∷ [] → slice_get given n ≡ Some frame → n + 1 ≤ k → Grown given behind → Below 0 n frames given
     → Below 0 k (frames ++ new) behind
@@ -485,15 +433,10 @@ record TakesOne (d : End) (event : NetEvent) : Type 0 where
   took_is : took d (OnLane event) ≡ frame ∷ []
 
 takes_one : (d : End) (event : NetEvent) → (took d (OnLane event) ≡ []) ⊎ TakesOne d event
-takes_one A (Steps A (Frame frame)) = inr (record { frame = frame; event_is = refl; took_is = refl })
-takes_one B (Steps B (Frame frame)) = inr (record { frame = frame; event_is = refl; took_is = refl })
-takes_one A _ = inl refl
-takes_one B _ = inl refl
+takes_one d event = grind arith
 
 before_place : (e d : End) (event : NetEvent) (s : PortState) (l : PortLog) → place e d (before event s).lane l ≡ place e d s.lane l
-before_place e d event s l =
-    ap (λ (w : WireLog). place_by (state_of e w.wire) (log_of_end e l).session (log_of_end e l).gone (log_of_end e l).published (taken_by (state_of d w.wire) (log_of_end d l).session))
-    (before_wire event s)
+before_place e d event s l = grind (arith, before_wire)
 
 frame_next : (shape : NetShape) → IsNetShape shape → (d : End) (s : PortState) (l : PortLog) (event : NetEvent) (t : PortState) → (one : TakesOne d event) → Kept shape s l → PortStep s (OnLane event) t
     → l.wire.forged ≡ false → Next (peer_of d) d (before event s).lane t.lane l (after l (OnLane event)) one.frame
@@ -562,12 +505,10 @@ received_given A l frame = same_given l.guest.given
 received_given B l frame = (frame ∷ [], refl)
 
 received_place : (d : End) (s : NetLaneState) (l : PortLog) (frame : List ℕ) → place (peer_of d) d s (after l (Receives frame)) ≡ place (peer_of d) d s l
-received_place A s l frame = refl
-received_place B s l frame = refl
+received_place d s l frame = grind arith
 
 received_none : (d : End) (frame : List ℕ) → took d (Receives frame) ≡ []
-received_none A frame = refl
-received_none B frame = refl
+received_none d frame = grind arith
 
 pub once_step : (shape : NetShape) → IsNetShape shape → (s : PortState) (l : PortLog) (event : PortEvent) (t : PortState) (by_end : End → List (List ℕ)) → Once shape s l by_end → PortStep s event t
     → Once shape t (after l event) (λ d. by_end d ++ took d event)
@@ -583,10 +524,7 @@ once_step shape is s l (Receives frame) t by_end had step = record {
 
 -- ALONG A RUN
 same_once : (shape : NetShape) (s : PortState) (l : PortLog) (by_end now : End → List (List ℕ)) → ((d : End) → by_end d ≡ now d) → Once shape s l by_end → Once shape s l now
-same_once shape s l by_end now same had = record {
-  kept = had.kept;
-  in_order = λ d clean. subst (λ (xs : List (List ℕ)). Below 0 (place (peer_of d) d s.lane l) xs (log_of_end (peer_of d) l).given) (same d) (had.in_order d clean);
-}
+same_once shape s l by_end now same had = grind (arith, Below)
 
 along : (shape : NetShape) → IsNetShape shape → (events : List PortEvent) (s t : PortState) (l : PortLog) (by_end : End → List (List ℕ)) → Once shape s l by_end → Run PortStep s events t
     → Once shape t (log_of after l events) (λ d. by_end d ++ frames_taken d events)

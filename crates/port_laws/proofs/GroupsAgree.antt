@@ -1,27 +1,24 @@
 -- The groups of a guest are those that it joined.
-use Rattle.std.proofs.Common.{◌≡◌, ℕ, Bool, true, false, Option, Some, List, [], ◌∷◌, ◌++◌, length, refl, subst, ap, ◌∙◌}
-use Rattle.std.specs.Prelude.{◌<◌}
+use Rattle.std.proofs.Common.{◌≡◌, ℕ, Bool, Option, Some, List, refl, ap, ◌∙◌, arith}
 use Rattle.ldc_link.specs.declared.phase.Role.TheVariants.{Initiator}
 use Rattle.ldc_queue.specs.declared.end.End.{End}
-use Rattle.ldc_queue.specs.declared.end.End.TheVariants.{A, B}
 use Rattle.runs.specs.Lawful.{Lawful, run_lawful}
 use Rattle.runs.specs.Run.{Run}
 use Rattle.channel_model.specs.Seeing.{Seen}
 use Rattle.cookie_copy.specs.Reach.{Reach}
 use Rattle.port_model.proofs.Moving.{before_keeps}
-use Rattle.port_model.specs.Fetching.{Fetched, NotReady, fetched}
+use Rattle.port_model.specs.Fetching.{Fetched}
 use Rattle.port_model.specs.FrameLaws.{JoiningAt, MayJoin}
-use Rattle.port_model.specs.Groups.{is_in}
 use Rattle.port_model.specs.NetEndPutting.{answers, net_holds, net_opens, opened_by_put}
-use Rattle.port_model.specs.NetEndRule.{Fetches, Idles, Joins as JoinsRule, NetRule, Publishes, Puts, Takes, port_rule}
+use Rattle.port_model.specs.NetEndRule.{NetRule, port_rule}
 use Rattle.port_model.specs.NetEndState.{Activity, NetEndState, NetSession}
-use Rattle.port_model.specs.NetEndStep.{Already, BadLength, Blocked, Frame, Full, Given, GroupsFull, Idle, Joining, Member, NetAnswer, NetEndStep, NetGives, NetJoins, NetLeft, Published, Queued, Sent, Took}
+use Rattle.port_model.specs.NetEndStep.{Blocked, Frame, Given, Idle, Joining, NetAnswer, NetEndStep, NetGives, NetJoins, NetLeft, Published, Sent, Took}
 use Rattle.port_model.specs.NetEndTaking.{GoesOn}
-use Rattle.port_model.specs.NetEvent.{Asked, Gives, Injects, Joins, NetEvent, Pokes, Steps, Ticked}
+use Rattle.port_model.specs.NetEvent.{NetEvent}
 use Rattle.port_model.specs.NetLaneState.{NetLaneState, NetShape}
 use Rattle.port_model.specs.NetLaneStep.{NetLaneStep, Resets}
 use Rattle.port_model.specs.PortLog.{PortLog, after, members_after, no_events}
-use Rattle.port_model.specs.PortState.{OnLane, PortEvent, PortState, PortStep, Receives, before, fresh_port}
+use Rattle.port_model.specs.PortState.{OnLane, PortEvent, PortState, PortStep, before, fresh_port}
 use Rattle.port_model.proofs.Refuting.{none_some, of_some}
 use Rattle.port_laws.specs.NetFits.{NetFits}
 use Rattle.port_laws.proofs.EndMoves.{packet_goes}
@@ -34,21 +31,13 @@ abbrev Same : NetEndState → NetEndState → Type 0
 Same s t = t.groups ≡ s.groups
 
 slot_same : (s : NetEndState) (p : NetSession) (activity : Activity) (last : Option ℕ) (found : Fetched) (held : NetEndState) → answers s p activity last found ≡ Some held → Same s held
-slot_same s p activity (Some last) (NotReady state) held same = of_some (Same s) _ held same refl
-slot_same s p activity _ _ held same = none_some held same
+slot_same s p activity last found held same = grind (arith, of_some, none_some)
 
 held_same : (s : NetEndState) (reach : Reach) (rule : NetRule) (held : NetEndState) → net_holds rule s reach ≡ Some held → Same s held
-held_same s reach Puts held same = of_some (Same s) s held same refl
-held_same s reach (Fetches p activity) held same = slot_same s p activity activity.last (fetched s reach p.place) held same
-held_same s reach JoinsRule held same = none_some held same
-held_same s reach (Takes packet) held same = none_some held same
-held_same s reach (Publishes p frame) held same = none_some held same
-held_same s reach Idles held same = none_some held same
-held_same s reach _ held same = of_some (Same s) _ held same refl
+held_same s reach rule held same = grind (arith, of_some, slot_same, none_some)
 
 opened_same : (opens : Bool) (s : NetEndState) → Same s (opened_by_put Initiator opens s)
-opened_same true s = refl
-opened_same false s = refl
+opened_same opens s = grind arith
 
 step_same : (s : NetEndState) (at : Seen) (memory : List ℕ) (reach : Reach) (answer : NetAnswer) (t : NetLeft) → NetFits Initiator s → NetEndStep Initiator s at memory reach answer t → Same s t.end
 step_same s at memory reach (Took packet opens) t fits step = (packet_goes Initiator s memory packet (GoesOn t.end opens t.own) fits step.1).groups refl
@@ -65,36 +54,17 @@ abbrev pub GroupsAre : NetLaneState → List (List ℕ) → Type 0
 GroupsAre s members = s.guest.groups ≡ members
 
 resets_same : (e : End) (event : NetEvent) (s : NetLaneState) (lost : ℕ) (t : NetLaneState) → Resets e event s lost t → t.guest.groups ≡ s.guest.groups
-resets_same A event s lost t resets = ap (λ (x : NetLaneState). x.guest.groups) resets.1
-resets_same B event s lost t resets = ap (λ (x : NetLaneState). x.guest.groups) resets.1
+resets_same e event s lost t resets = grind arith
 
 gives_same : (s : NetEndState) (given : Given) (t : NetEndState) → NetGives s given t → Same s t
-gives_same s (BadLength frame) t gives = ap (λ (x : NetEndState). x.groups) gives.1
-gives_same s (Full frame) t gives = ap (λ (x : NetEndState). x.groups) gives.2
-gives_same s (Queued id frame) t gives = ap (λ (x : NetEndState). x.groups) gives.4
+gives_same s given t gives = grind arith
 
 pub event_groups : (s : NetLaneState) (event : NetEvent) (t : NetLaneState) (members : List (List ℕ)) → BothFit s → NetLaneStep s event t → GroupsAre s members → GroupsAre t (members_after event members)
-event_groups s (Steps A answer) t members fits step are =
-    ap (λ (x : NetLaneState). x.guest.groups) step.is ∙ step_same s.guest _ s.guest_memory _ answer step.left fits.0 step.step ∙ are
-event_groups s (Steps B answer) t members fits step are = ap (λ (x : NetLaneState). x.guest.groups) step.is ∙ are
-event_groups s (Asked e lost) t members fits step are = resets_same e (Asked e lost) s lost t step ∙ are
-event_groups s (Ticked queued lost) t members fits step are = resets_same A (Ticked queued lost) s lost t step.1 ∙ are
-event_groups s (Gives A given) t members fits step are = gives_same s.guest given t.guest step.0 ∙ are
-event_groups s (Joins (Member address)) t members fits step are =
-    ap (λ (x : NetEndState). x.groups) step.0.3 ∙ ap (λ (groups : List (List ℕ)). groups ++ address ∷ []) are
-event_groups s (Joins (Already address)) t members fits step are = ap (λ (x : NetEndState). x.groups) step.0.1 ∙ are
-event_groups s (Joins (GroupsFull address)) t members fits step are = ap (λ (x : NetEndState). x.groups) step.0.2 ∙ are
-event_groups s (Injects e packet) t members fits step are = ap (λ (x : NetLaneState). x.guest.groups) step.2 ∙ are
-event_groups s (Pokes A at bytes) t members fits step are = ap (λ (x : NetLaneState). x.guest.groups) step.1 ∙ are
-event_groups s _ t members fits step are = ap (λ (x : NetLaneState). x.guest.groups) step.1 ∙ are
+event_groups s event t members given step are = grind (arith, step_same, resets_same, gives_same)
 
 -- A JOIN stands by them
 may_join : (members : List (List ℕ)) (s t : NetEndState) (joining : Joining) → s.groups ≡ members → NetJoins s joining t → MayJoin members joining
-may_join members s t (Already address) are joins = subst (λ (x : List (List ℕ)). is_in x address ≡ true) are joins.0
-may_join members s t (GroupsFull address) are joins =
-    (subst (λ (x : List (List ℕ)). is_in x address ≡ false) are joins.0, subst (λ (x : List (List ℕ)). length x ≡ 7) are joins.1)
-may_join members s t (Member address) are joins =
-    (subst (λ (x : List (List ℕ)). is_in x address ≡ false) are joins.0, subst (λ (x : List (List ℕ)). length x < 7) are joins.1)
+may_join members s t joining are joins = grind arith
 
 -- THE PORT
 record Agrees (s : PortState) (l : PortLog) : Type 0 where
@@ -105,22 +75,10 @@ before_groups : (event : NetEvent) (s : PortState) → (before event s).lane.gue
 before_groups event s = before_keeps (λ (x : PortState). x.lane.guest ≡ s.lane.guest) event s (λ frame frames. refl) refl
 
 joins_at : (s : PortState) (l : PortLog) (event : NetEvent) (t : PortState) → GroupsAre s.lane l.members → NetLaneStep (before event s).lane event t.lane → JoiningAt l (OnLane event)
-joins_at s l (Joins joining) t are step = may_join l.members s.lane.guest t.lane.guest joining are step.0
-joins_at s l _ t are step = tt
+joins_at s l event t are step = grind (arith, may_join)
 
 port_joins_step : (s : PortState) (l : PortLog) (event : PortEvent) (t : PortState) → Agrees s l → PortStep s event t → JoiningAt l event × Agrees t (after l event)
-port_joins_step s l (OnLane event) t agrees step = (
-  joins_at s l event t agrees.groups step.1,
-  record {
-    fits = port_fits s (OnLane event) t step agrees.fits;
-    groups = event_groups (before event s).lane event t.lane l.members (before_fits event s agrees.fits) step.1
-        (ap (λ (x : NetEndState). x.groups) (before_groups event s) ∙ agrees.groups);
-  },
-)
-port_joins_step s l (Receives frame) t agrees step = (
-  tt,
-  record { fits = port_fits s (Receives frame) t step agrees.fits; groups = ap (λ (x : PortState). x.lane.guest.groups) step.2 ∙ agrees.groups },
-)
+port_joins_step s l event t agrees step = grind (arith, joins_at, port_fits, event_groups, before_fits, before_groups)
 
 pub port_joins : (shape : NetShape) (events : List PortEvent) (s : PortState) → Run PortStep (fresh_port shape) events s → Lawful JoiningAt after (no_events shape) events
 port_joins shape events s run =

@@ -1,11 +1,11 @@
 -- The switch's end learns a guest's groups as the guest tells them: each list goes on from the one before, and repeats none.
-use Rattle.std.proofs.Common.{◌≡◌, ℕ, zero, suc, ◌≤◌, Bool, true, false, Some, None, List, [], ◌∷◌, ◌++◌, length, drop, refl, sym, subst, ap, ◌∙◌, arith, append_assoc}
+use Rattle.std.proofs.Common.{◌≡◌, ℕ, zero, suc, ◌≤◌, Bool, true, false, Some, List, [], ◌∷◌, ◌++◌, length, drop, refl, sym, subst, ap, ◌∙◌, arith, append_assoc}
 use Rattle.std.specs.Prelude.{◌||◌, nat_eq, take, if◌then◌else◌, ⊤}
 use Rattle.std.specs.Cmp.Lexicographic.{pointwise}
 use Rattle.std.proofs.lemmas.Bool.{le-leb}
 use Rattle.std.proofs.lemmas.List.{append-nil, length-take, take-append-drop}
 use Rattle.port_model.proofs.GroupSets.{same_address}
-use Rattle.port_model.specs.Groups.{at_most_seven, groups_after, is_in, set_groups, with_groups}
+use Rattle.port_model.specs.Groups.{groups_after, is_in, with_groups}
 use Rattle.port_model.specs.Spoken.{addresses_of, count_of, set_of, seven_of}
 use Rattle.port_laws.proofs.Outbox.{TellsSome}
 
@@ -29,12 +29,10 @@ fresh_past first (x ∷ xs) ys fresh = subst (λ (zs : List (List ℕ)). Fresh z
 
 -- THOSE THAT ARE KNOWN stay, and others are added in order
 or_first : (a b : Bool) → a ≡ true → (a || b) ≡ true
-or_first true b is = refl
-or_first false b is = absurd (cc is)
+or_first a b is = grind arith
 
 or_second : (a b : Bool) → b ≡ true → (a || b) ≡ true
-or_second true b is = refl
-or_second false b is = is
+or_second a b is = grind arith
 
 in_it : (xs : List (List ℕ)) (address : List ℕ) (ys : List (List ℕ)) → is_in (xs ++ address ∷ ys) address ≡ true
 in_it [] address ys = or_first (pointwise nat_eq address address) _ (same_address address)
@@ -77,12 +75,4 @@ learns_front groups known many fresh front few =
 -- so what a guest tells is known then
 pub learnt : (groups known : List (List ℕ)) (m : List ℕ) → Fresh [] groups → known ≡ take (length known) groups → TellsSome groups (length known) m
     → groups_after (set_of m) (count_of m) (seven_of m) known ≡ Some (addresses_of m)
-learnt groups known m fresh front tells =
-    let all : with_groups known (addresses_of m) ≡ addresses_of m =
-    ap (with_groups known) tells.is ∙ learns_front groups known tells.many fresh front tells.more ∙ sym tells.is in
-    let few = tells.few in
-    let seven : length (addresses_of m) ≤ 7 = omega (arith, few, length-take (count_of m) (seven_of m)) in
-    ap (λ (b : Bool). if b then set_groups (set_of m) (addresses_of m) known else None) (le-leb (count_of m) 7 few)
-    ∙ ap (λ (n : ℕ). set_groups n (addresses_of m) known) tells.set
-    ∙ ap at_most_seven all
-    ∙ ap (λ (b : Bool). if b then Some (addresses_of m) else None) (le-leb (length (addresses_of m)) 7 seven)
+learnt groups known m fresh front tells = grind (arith, learns_front, length-take, le-leb)

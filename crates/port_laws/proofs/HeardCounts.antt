@@ -1,32 +1,30 @@
 -- A message of its session that an end takes is counted by its log as the end counts it.
-use Rattle.std.proofs.Common.{◌≡◌, ℕ, zero, suc, ◌+◌, ◌-◌, ◌*◌, ◌≤◌, true, false, Option, Some, None, List, [], length, drop, refl, sym, subst, ap, ◌∙◌, inl, inr, arith, length-drop}
-use Rattle.std.specs.Prelude.{◌%◌}
+use Rattle.std.proofs.Common.{◌≡◌, ℕ, zero, suc, ◌+◌, ◌-◌, ◌*◌, ◌≤◌, true, false, Option, Some, None, List, [], length, drop, refl, sym, subst, ap, ◌∙◌, arith, length-drop}
 use Rattle.std.specs.List.{AllByRecursion}
 use Rattle.std.proofs.lemmas.List.{length-take}
 use Rattle.ldc_packet.specs.declared.packet.Subtype.{Subtype}
 use Rattle.ldc_packet.specs.declared.packet.Subtype.TheVariants.{Ack, Info}
 use Rattle.ldc_packet.specs.Spelling.{subtype_code}
 use Rattle.ldc_link.specs.declared.phase.Role.{Role}
-use Rattle.ldc_link.specs.declared.phase.Role.TheVariants.{Initiator, Responder}
+use Rattle.ldc_link.specs.declared.phase.Role.TheVariants.{Responder}
 use Rattle.ldc_link.specs.LinkState.{LinkState}
 use Rattle.vio_handshake.specs.Rules.{is_declined}
 use Rattle.vio_tag.specs.declared.message.Message.{Message}
 use Rattle.vio_tag.specs.declared.message.MsgBody.{MsgBody}
-use Rattle.vio_tag.specs.declared.message.MsgBody.TheVariants.{DringData, DringUnreg, Mcast, Plain}
+use Rattle.vio_tag.specs.declared.message.MsgBody.TheVariants.{DringData, Mcast}
 use Rattle.vio_tag.specs.Form.{HasForm, IsWellFormed}
 use Rattle.vio_tag.specs.Spelling.{HasLength, SpellsBody, SpellsMessage, addresses_at, envelope_code}
 use Rattle.channel_model.specs.Messages.{end_of, start_of}
-use Rattle.channel_model.specs.Ranges.{wrapped}
 use Rattle.dring.specs.Slots.{range_length}
 use Rattle.port_model.proofs.Refuting.{false_true}
-use Rattle.port_model.specs.EndLog.{EndLog, SessionLog, acked_by, acked_in, answer_code, answer_to, change, groups_fields, heard_in, heard_kind, hears_log, list_after, range_of}
+use Rattle.port_model.specs.EndLog.{EndLog, SessionLog, acked_by, answer_code, answer_to, groups_fields, heard_kind, hears_log, list_after, range_of}
 use Rattle.port_model.specs.Groups.{groups_after}
 use Rattle.port_model.specs.FramesStand.{CountsStand, FramesStand}
 use Rattle.port_model.specs.NetEndState.{Activity, GroupsReply, NetEndState, NetSession}
 use Rattle.port_model.specs.NetEndTaking.{active, replying}
 use Rattle.port_model.specs.RuleFacts.{IfOpen}
 use Rattle.port_model.specs.Spoken.{GroupsAck, GroupsInfo, Other, RangeAck, RangeInfo, Spoken, count_of, set_of, seven_of, spoken, spoken_by}
-use Rattle.port_laws.specs.Counted.{ActiveCounts, AnswersFor, AnswersRightly, EndCounts, GroupCounts, GuestCounts, GuestGroups, IsAnswer, IsBehind, LastCounts, PeerCounts, RingCounts, SessionCounts, unsaid}
+use Rattle.port_laws.specs.Counted.{ActiveCounts, AnswersFor, AnswersRightly, EndCounts, GuestCounts, GuestGroups, IsAnswer, PeerCounts, RingCounts, SessionCounts, unsaid}
 use Rattle.port_laws.proofs.EndCounting.{OpenCounts, empty_unsaid, end_from, guest_same, open_empty}
 use Rattle.port_laws.proofs.LettingGo.{spoken_same}
 use Rattle.port_laws.proofs.MessageDoes.{Acks, Asks, Declines, IsKept, MessageDoes, Names, Told, reply_code}
@@ -34,14 +32,10 @@ use Rattle.port_laws.proofs.ShortMessages.{read_long}
 
 -- THE KIND of a message by its fields
 spoken_of : (bytes : List ℕ) (m : Message) (s : Subtype) (b : MsgBody) → SpellsMessage bytes m → m.subtype ≡ s → m.body ≡ b → spoken bytes ≡ spoken_by (envelope_code b) (subtype_code s)
-spoken_of bytes m s b spells kind body =
-    spoken_same bytes m spells ∙ ap (λ (x : MsgBody). spoken_by (envelope_code x) (subtype_code m.subtype)) body ∙ ap (λ (x : Subtype). spoken_by (envelope_code b) (subtype_code x)) kind
+spoken_of bytes m s b spells kind body = grind (arith, spoken_same)
 
 declined_kind : (s : Subtype) (b : MsgBody) → HasForm b → is_declined s b ≡ true → spoken_by (envelope_code b) (subtype_code s) ≡ Other
-declined_kind Info (DringUnreg ident) form is = refl
-declined_kind Info (Plain envelope) (inl form) is = ap (λ (n : ℕ). spoken_by n 1) form
-declined_kind Info (Plain envelope) (inr form) is = ap (λ (n : ℕ). spoken_by n 1) form
-declined_kind s b form is = false_true is
+declined_kind s b form is = grind (arith, false_true)
 
 -- what the log makes of a message of a kind
 abbrev heard_as : ℕ → List ℕ → SessionLog → EndLog → Spoken → EndLog
@@ -49,21 +43,12 @@ heard_as slots bytes v l k = record l { session = Some (heard_kind slots k bytes
 
 heard_log : (slots : ℕ) (bytes : List ℕ) (v : SessionLog) (l : EndLog) (k : Spoken) (P : EndLog → Type 0) → l.session ≡ Some v → spoken bytes ≡ k → P (heard_as slots bytes v l k)
     → P (hears_log slots (Some bytes) l)
-heard_log slots bytes v l k P is kind holds =
-    subst (λ (x : Option SessionLog). P (record l { session = change (heard_in slots (Some bytes)) x; gone = l.gone + acked_in slots (Some bytes) x })) (sym is)
-    (subst (λ (x : Spoken). P (heard_as slots bytes v l x)) (sym kind) holds)
+heard_log slots bytes v l k P is kind holds = grind arith
 
 -- no frames leave
 ring_same : (p q : NetSession) (published gone : ℕ) (v w : SessionLog) → RingCounts p published gone v → q.base ≡ p.base → q.published ≡ p.published → q.seen ≡ p.seen → q.infos ≡ p.infos
     → q.asking ≡ p.asking → w.published ≡ v.published → w.seen ≡ v.seen → w.infos ≡ v.infos → w.asking ≡ v.asking → RingCounts q published (gone + 0) w
-ring_same p q published gone v w ring base all seen infos asking here seen_here infos_here asking_here = record {
-  all = omega (arith, ring.all, base, all);
-  left = omega (arith, ring.left, base, seen);
-  here = here ∙ ring.here ∙ sym all;
-  seen = seen_here ∙ ring.seen ∙ sym seen;
-  infos = infos_here ∙ ring.infos ∙ sym infos;
-  asking = asking_here ∙ ring.asking ∙ sym asking;
-}
+ring_same p q published gone v w ring base all seen infos asking here seen_here infos_here asking_here = grind arith
 
 active_none : (slots : ℕ) (v : SessionLog) (activity : Option Activity) → activity ≡ None → ActiveCounts slots v activity → (v.asked ≡ v.acks) × (v.answered ≡ v.taken)
 active_none slots v activity is counts = subst (ActiveCounts slots v) is counts
@@ -76,18 +61,7 @@ asks_counts : (role : Role) (slots : ℕ) (queue : List (List ℕ)) (s t : NetEn
     → SessionCounts role slots s.groups l.published l.gone None s.link.begun p v → p.active ≡ None → unsaid t ≡ None → p.place ≡ start → p.seq ≡ seq
     → t.slots ≡ s.slots → t.frames ≡ s.frames → t.next_id ≡ s.next_id → t.groups ≡ s.groups → t.session ≡ Some (active p seq start) → EndCounts role slots queue t (heard_as slots bytes v l RangeInfo)
 asks_counts role slots queue s t l p v bytes seq start counts opened none left place seq_is same frames next groups session =
-    let before = active_none slots v p.active none opened.peer.active in
-    end_from role slots queue s t l (active p seq start) (heard_kind slots RangeInfo bytes v) 0 counts same frames (omega arith) next (groups_as role s.groups t.groups groups counts.groups)
-    session left (ring_same p (active p seq start) l.published l.gone v (heard_kind slots RangeInfo bytes v) opened.ring refl refl refl refl refl refl refl refl refl)
-    (record {
-      seq = asks_seq p.seq v.asked opened.peer.seq;
-      place = opened.peer.place;
-      active = (ap (λ (x : ℕ). x + 1) before.0, sym place ∙ opened.peer.place ∙ ap (λ (x : ℕ). x % slots) (sym before.1), before.1, sym seq_is ∙ opened.peer.seq);
-    })
-    (guest_same role p (active p seq start) s.groups t.groups v (heard_kind slots RangeInfo bytes v) opened.guest groups refl refl refl refl refl) opened.reply
-  where
-    asks_seq : (n asked : ℕ) → n ≡ wrapped (asked + 1) → wrapped (n + 1) ≡ wrapped (asked + 1 + 1)
-    asks_seq n asked is = omega (arith, is)
+    grind (arith, active_none, end_from, groups_as, ring_same, guest_same)
 
 -- the session after an ACK of so many slots
 abbrev acked_session : NetSession → ℕ → NetSession
@@ -123,62 +97,30 @@ groups_free role groups is = subst (λ (x : Role). GuestGroups x groups) (sym is
 
 peer_same : (slots : ℕ) (p q : NetSession) (v w : SessionLog) → PeerCounts slots p v → q.seq ≡ p.seq → q.place ≡ p.place → q.active ≡ p.active → w.asked ≡ v.asked → w.acks ≡ v.acks → w.taken ≡ v.taken
     → w.answered ≡ v.answered → PeerCounts slots q w
-peer_same slots p q v w peer seq place activity asked acks taken answered = record {
-  seq = seq ∙ peer.seq ∙ ap (λ (n : ℕ). wrapped (n + 1)) (sym asked);
-  place = place ∙ peer.place ∙ ap (λ (n : ℕ). n % slots) (sym taken);
-  active = subst (ActiveCounts slots w) (sym activity) (same_active p.active peer.active);
-}
-  where
-    same_active : (a : Option Activity) → ActiveCounts slots v a → ActiveCounts slots w a
-    same_active None counts = (asked ∙ counts.0 ∙ sym acks, answered ∙ counts.1 ∙ sym taken)
-    same_active (Some a) counts =
-        (asked ∙ counts.0 ∙ ap (λ (n : ℕ). n + 1) (sym acks), counts.1 ∙ ap (λ (n : ℕ). n % slots) (sym answered), same_last a.last counts.2, counts.3 ∙ ap wrapped (sym asked))
-      where
-        same_last : (last : Option ℕ) → LastCounts slots v last → LastCounts slots w last
-        same_last None is = answered ∙ is ∙ sym taken
-        same_last (Some n) is = (omega (arith, is.0, answered, taken), is.1 ∙ ap (λ (n : ℕ). (n - 1) % slots) (sym taken))
+peer_same slots p q v w peer seq place activity asked acks taken answered = grind arith
 
 names_counts : (role : Role) (slots : ℕ) (queue : List (List ℕ)) (s t : NetEndState) (l : EndLog) (p q : NetSession) (v : SessionLog) (bytes : List ℕ) → EndCounts role slots queue s l
     → SessionCounts role slots s.groups l.published l.gone None s.link.begun p v → unsaid t ≡ None → role ≡ Responder → q ≡ record p { reply = q.reply }
     → AnswersRightly q.reply (heard_kind slots GroupsInfo bytes v).owed → t.groups ≡ (heard_kind slots GroupsInfo bytes v).groups → t.slots ≡ s.slots → t.frames ≡ s.frames → t.next_id ≡ s.next_id → t.session ≡ Some q → EndCounts role slots queue t (heard_as slots bytes v l GroupsInfo)
 names_counts role slots queue s t l p q v bytes counts opened left hub is answer known same frames next session =
-    end_from role slots queue s t l q (heard_kind slots GroupsInfo bytes v) 0 counts same frames (omega arith) next (groups_free role t.groups hub) session left
-    (ring_same p q l.published l.gone v (heard_kind slots GroupsInfo bytes v) opened.ring (ap (λ (x : NetSession). x.base) is) (ap (λ (x : NetSession). x.published) is)
-    (ap (λ (x : NetSession). x.seen) is) (ap (λ (x : NetSession). x.infos) is) (ap (λ (x : NetSession). x.asking) is) refl refl refl refl)
-    (peer_same slots p q v (heard_kind slots GroupsInfo bytes v) opened.peer (ap (λ (x : NetSession). x.seq) is) (ap (λ (x : NetSession). x.place) is) (ap (λ (x : NetSession). x.active) is) refl refl refl refl)
-    (hub_knows role q t.groups (heard_kind slots GroupsInfo bytes v) hub known) answer
+    grind (arith, end_from, groups_free, ring_same, peer_same, hub_knows)
 
 guest_told : (role : Role) (p : NetSession) (groups now : List (List ℕ)) (v w : SessionLog) → GuestCounts role p groups v → now ≡ groups → w.membership ≡ v.membership → w.told ≡ true → w.groups ≡ v.groups
     → GuestCounts role (record p { telling = false }) now w
-guest_told Responder p groups now v w counts same membership told known = same ∙ counts ∙ sym known
-guest_told Initiator p groups now v w counts same membership told known =
-    subst (λ (x : List (List ℕ)). GroupCounts (record p { telling = false }) x w) (sym same)
-    (record {
-      named = λ is. membership ∙ counts.named is;
-      behind = λ is. subst (λ (x : Option (List (List ℕ))). IsBehind x groups) (sym membership) (counts.behind is);
-      waits = λ is. false_true is;
-      answered = λ is fresh. told;
-    })
+guest_told role p groups now v w counts same membership told known = grind (arith, false_true)
 
 told_counts : (role : Role) (slots : ℕ) (queue : List (List ℕ)) (s t : NetEndState) (l : EndLog) (p : NetSession) (v : SessionLog) (bytes : List ℕ) → EndCounts role slots queue s l
     → SessionCounts role slots s.groups l.published l.gone None s.link.begun p v → unsaid t ≡ None
     → t.slots ≡ s.slots → t.frames ≡ s.frames → t.next_id ≡ s.next_id → t.groups ≡ s.groups → t.session ≡ Some (record p { telling = false })
     → EndCounts role slots queue t (heard_as slots bytes v l GroupsAck)
-told_counts role slots queue s t l p v bytes counts opened left same frames next groups session =
-    end_from role slots queue s t l (record p { telling = false }) (heard_kind slots GroupsAck bytes v) 0 counts same frames (omega arith) next (groups_as role s.groups t.groups groups counts.groups) session left
-    (ring_same p (record p { telling = false }) l.published l.gone v (heard_kind slots GroupsAck bytes v) opened.ring refl refl refl refl refl refl refl refl refl)
-    (peer_same slots p (record p { telling = false }) v (heard_kind slots GroupsAck bytes v) opened.peer refl refl refl refl refl refl refl)
-    (guest_told role p s.groups t.groups v (heard_kind slots GroupsAck bytes v) opened.guest groups refl refl refl) opened.reply
+told_counts role slots queue s t l p v bytes counts opened left same frames next groups session = grind (arith, end_from, groups_as, ring_same, peer_same, guest_told)
 
 -- a message that is none of these, and no message
 pub stays_counts : (role : Role) (slots : ℕ) (queue : List (List ℕ)) (s t : NetEndState) (l : EndLog) (p : NetSession) (v : SessionLog) → EndCounts role slots queue s l
     → SessionCounts role slots s.groups l.published l.gone None s.link.begun p v → unsaid t ≡ None
     → t.slots ≡ s.slots → t.frames ≡ s.frames → t.next_id ≡ s.next_id → t.groups ≡ s.groups → t.session ≡ Some p
     → EndCounts role slots queue t (record l { session = Some v; gone = l.gone + 0 })
-stays_counts role slots queue s t l p v counts opened left same frames next groups session =
-    end_from role slots queue s t l p v 0 counts same frames (omega arith) next (groups_as role s.groups t.groups groups counts.groups) session left
-    (ring_same p p l.published l.gone v v opened.ring refl refl refl refl refl refl refl refl refl) opened.peer
-    (guest_same role p p s.groups t.groups v v opened.guest groups refl refl refl refl refl) opened.reply
+stays_counts role slots queue s t l p v counts opened left same frames next groups session = grind (arith, end_from, groups_as, ring_same, guest_same)
 
 -- GROUPS that it was named: the list that comes of them, and the answer that it owes
 record Named (bytes : List ℕ) (known groups : List (List ℕ)) (reply : GroupsReply) : Type 0 where
@@ -190,12 +132,10 @@ six_at zero at bytes within = tt
 six_at (suc n) at bytes within = (omega (arith, length-take 6 (drop at bytes), length-drop at bytes, within), six_at n (at + 6) bytes (omega (arith, within)))
 
 code_of : (behind : Option (List (List ℕ))) → subtype_code (reply_code behind) ≡ answer_code behind
-code_of None = refl
-code_of (Some groups) = refl
+code_of behind = grind arith
 
 is_answer : (behind : Option (List (List ℕ))) → IsAnswer (reply_code behind)
-is_answer None = tt
-is_answer (Some groups) = tt
+is_answer behind = grind arith
 
 named_counts : (bytes : List ℕ) (held known : List (List ℕ)) (set count : ℕ) (addresses groups : List (List ℕ)) (reply : GroupsReply) → length bytes ≡ 56 → SpellsBody bytes (Mcast set count addresses)
     → held ≡ known → IsKept held set count addresses groups reply → Named bytes known groups reply
@@ -226,8 +166,7 @@ pub record Hearing (role : Role) (slots : ℕ) (queue : List (List ℕ)) (s : Ne
 
 opened_of : (role : Role) (slots : ℕ) (queue : List (List ℕ)) (s : NetEndState) (l : EndLog) (p : NetSession) → Hearing role slots queue s l p
     → OpenCounts role slots s.groups l.published l.gone None s.link.begun p l.session
-opened_of role slots queue s l p hearing =
-    open_empty role slots queue s l p hearing.counts hearing.session hearing.empty
+opened_of role slots queue s l p hearing = grind (arith, open_empty)
 
 pub heard_counts : (role : Role) (slots : ℕ) (queue : List (List ℕ)) (s : NetEndState) (l : EndLog) (p : NetSession) (memory bytes : List ℕ) (m : Message) (t : NetEndState) (new : List ℕ)
     → Hearing role slots queue s l p → IsWellFormed m → SpellsMessage bytes m → MessageDoes role s p memory m.subtype m.body t new → EndCounts role slots queue t (hears_log slots (Some bytes) l)

@@ -2,11 +2,9 @@
 use Rattle.std.proofs.Common.{◌≡◌, ℕ, ◌^◌, ◌<◌, ◌⊎◌, true, false, Option, Some, None, List, [], ◌∷◌, ◌++◌, length, inl, inr, refl, sym, subst, ap, ◌∙◌, arith}
 use Rattle.std.specs.Prelude.{Result, Ok, Err}
 use Rattle.ldc_link.specs.declared.phase.Role.{Role}
-use Rattle.ldc_link.specs.declared.phase.Role.TheVariants.{Initiator, Responder}
 use Rattle.ldc_link.specs.LinkState.{LinkState, cleared, is_up}
 use Rattle.ldc_link.specs.Taking.{Heard as HeardBy, LinkTake, TakesBytes, Unheard}
 use Rattle.ldc_packet.specs.declared.packet.Subtype.{Subtype}
-use Rattle.ldc_packet.specs.declared.packet.Subtype.TheVariants.{Info}
 use Rattle.ldc_packet.specs.Spelling.{subtype_code}
 use Rattle.ldc_queue.specs.declared.end.ChannelState.TheVariants.{Up}
 use Rattle.ldc_queue.specs.Transcript.{Heard, Turn}
@@ -115,13 +113,11 @@ record Tagged (s : Subtype) (body : MsgBody) (m : List ℕ) : Type 0 where
 
 range_tagged : (s : Subtype) (n seq ident start end state : ℕ) → Tagged s (DringData seq ident start end state) (range_bytes s n seq ident start end state)
 unfolding canonical
-range_tagged Info n seq ident start end state = record { kind = refl; subtype = refl; envelope = refl }
-range_tagged _ n seq ident start end state = record { kind = refl; subtype = refl; envelope = refl }
+range_tagged s n seq ident start end state = grind arith
 
 groups_tagged : (s : Subtype) (n set count : ℕ) (addresses : List (List ℕ)) → Tagged s (Mcast set count addresses) (groups_bytes s n set count addresses)
 unfolding canonical
-groups_tagged Info n set count addresses = record { kind = refl; subtype = refl; envelope = refl }
-groups_tagged _ n set count addresses = record { kind = refl; subtype = refl; envelope = refl }
+groups_tagged s n set count addresses = grind arith
 
 pub record OwnRead (bytes : List ℕ) (sid : ℕ) : Type 0 where
   pub message : Message
@@ -187,20 +183,7 @@ pub record AllAgreed (h : Handshake) (sid : ℕ) : Type 0 where
   pub owed : h.owed ≡ None
 
 agreed_at : (d : Deal) (r : Role) (h : Handshake) → h ≡ handshake_at true d r AllSaid → AllAgreed h d.sid
-agreed_at d Initiator h is = record {
-  knows = ap (λ (x : Handshake). x.sid) is;
-  own = ap (λ (x : Handshake). x.draft.ident_own) is;
-  peer = ap (λ (x : Handshake). x.draft.ident_peer) is;
-  draft = ap (λ (x : Handshake). x.draft.sid) is;
-  owed = ap (λ (x : Handshake). x.owed) is;
-}
-agreed_at d Responder h is = record {
-  knows = ap (λ (x : Handshake). x.sid) is;
-  own = ap (λ (x : Handshake). x.draft.ident_own) is;
-  peer = ap (λ (x : Handshake). x.draft.ident_peer) is;
-  draft = ap (λ (x : Handshake). x.draft.sid) is;
-  owed = ap (λ (x : Handshake). x.owed) is;
-}
+agreed_at d r h is = grind arith
 
 pub mine_agreed : (asks answers : Offer) (role : Role) (s : Sides) → (talks : Talks asks answers role s) → s.mine.state ≡ Up → s.mine.core.is_open ≡ true
     → AllAgreed s.mine.core.handshake talks.meets.handshakes.sid

@@ -1,5 +1,5 @@
 -- A step of the switch's end that is idle leaves the whole port as it was: a frame that moves to the end from the out queue is published.
-use Rattle.std.proofs.Common.{◌≡◌, ℕ, ◌≤◌, Bool, true, false, Option, Some, None, List, [], ◌∷◌, length, refl, subst, ap, ◌∙◌, arith, length-append}
+use Rattle.std.proofs.Common.{◌≡◌, ℕ, ◌≤◌, Bool, true, false, Option, Some, List, [], ◌∷◌, length, refl, ap, ◌∙◌, arith, length-append}
 use Rattle.std.specs.Prelude.{is_some, nat_lt}
 use Rattle.std.proofs.lemmas.Bool.{and_parts}
 use Rattle.ldc_link.specs.declared.phase.Role.TheVariants.{Responder}
@@ -15,7 +15,6 @@ use Rattle.port_model.specs.NetEvent.{CalmTick, Steps}
 use Rattle.port_model.specs.NetLaneState.{IsNetShape, NetLaneState, NetShape, seen_at, with_left}
 use Rattle.port_model.specs.PortLog.{PortLog, after, no_events}
 use Rattle.port_model.specs.PortState.{OnLane, PortEvent, PortState, PortStep, fresh_port, moved, moves_first, takes_more}
-use Rattle.port_model.specs.RuleFacts.{IfOpen, MayListen}
 use Rattle.port_laws.proofs.PortCounts.{ready_before}
 use Rattle.port_laws.proofs.StepCounts.{counts_stand}
 use Rattle.port_laws.proofs.RingRuns.{port_kept}
@@ -23,15 +22,11 @@ use Rattle.port_laws.proofs.RuleFrames.{end_stood}
 use Rattle.port_laws.proofs.RuleIdle.{past_end, rule_left}
 
 some_session : (session : Option NetSession) → is_some session ≡ true → (p : NetSession) × (session ≡ Some p)
-some_session (Some p) is = (p, refl)
-some_session None is = absurd (cc is)
+some_session session is = grind arith
 
 -- an idle end in session published all that it holds
 idle_long : (s : PortState) (p : NetSession) → port_rule Responder s.lane.hub (seen_at B s.lane) ≡ Idles → s.lane.hub.session ≡ Some p → length s.lane.hub.frames ≤ unseen_in p
-idle_long s p idles is =
-    let says = says_of Responder s.lane.hub (seen_at B s.lane) Idles idles in
-    let listens : MayListen p = subst (λ (x : Option NetSession). IfOpen x MayListen) is says.2 in
-    past_end s.lane.hub.frames (unseen_in p) (rule_left Responder s.lane.hub (seen_at B s.lane) p says.0 says.1 is listens idles).published
+idle_long s p idles is = grind (arith, says_of, past_end, rule_left)
 
 moves_none : (b : Bool) (queue : List (List ℕ)) (s : PortState) → takes_more s.lane.hub ≡ b → s.queue ≡ queue → FramesStand s.lane.hub
     → port_rule Responder (moves_first b queue s).lane.hub (seen_at B (moves_first b queue s).lane) ≡ Idles → moves_first b queue s ≡ s

@@ -1,12 +1,12 @@
 -- Each event of a port's lane is one of two ends on a channel.
-use Rattle.std.proofs.Common.{◌≡◌, ◌≢◌, ℕ, ◌≤◌, Bool, true, false, Option, Some, None, List, [], ◌∷◌, refl, sym, subst, ap, ◌∙◌, arith}
-use Rattle.std.specs.Prelude.{◌++◌, ◌&&◌, is_none, is_some, slice_get}
+use Rattle.std.proofs.Common.{◌≡◌, ◌≢◌, ℕ, ◌≤◌, Bool, true, false, Option, Some, None, List, [], ◌∷◌, refl, sym, subst, ap, arith}
+use Rattle.std.specs.Prelude.{is_some, slice_get}
 use Rattle.std.proofs.lemmas.Bool.Decides.{nat_tests}
 use Rattle.cookie_copy.specs.Faults.{is_up}
 use Rattle.ldc_link.specs.declared.phase.Role.{Role}
 use Rattle.ldc_link.specs.declared.phase.Role.TheVariants.{Initiator, Responder}
 use Rattle.ldc_queue.specs.declared.end.ChannelState.{ChannelState}
-use Rattle.ldc_queue.specs.declared.end.ChannelState.TheVariants.{Resetting, Up}
+use Rattle.ldc_queue.specs.declared.end.ChannelState.TheVariants.{Up}
 use Rattle.ldc_queue.specs.declared.end.End.{End}
 use Rattle.ldc_queue.specs.declared.end.End.TheVariants.{A, B}
 use Rattle.ldc_queue.specs.Wire.{Wire, peer_behind, state_of, waiting_for}
@@ -15,16 +15,16 @@ use Rattle.vio_tag.specs.declared.cause.Cause.{Cause}
 use Rattle.channel_model.specs.Seeing.{Seen}
 use Rattle.cookie_copy.specs.Reach.{Reach}
 use Rattle.channel_model.specs.WireAt.{DeclinesAt, IsUp, MayCarry, MayReset}
-use Rattle.channel_model.specs.WireEvent.{ByStep, Declined, Giver, PokeRefused, WireEvent, giver}
+use Rattle.channel_model.specs.WireEvent.{ByStep, Declined, Giver, WireEvent, giver}
 use Rattle.channel_model.specs.WireLog.{WireLog}
 use Rattle.channel_laws.specs.EndCore.{EndMove, Fails, Stays}
 use Rattle.channel_laws.specs.EndStep.{EndBegins, EndStays, EndStep}
 use Rattle.channel_laws.proofs.EndsAtRest.{none_waits}
 use Rattle.channel_laws.specs.LaneCore.{AnswerStands, CoreStands, CoreStep, move_of, reset_move, wire_after}
 use Rattle.port_model.specs.NetEndPutting.{net_holds}
-use Rattle.port_model.specs.NetEndRule.{Announces, Fetches, Idles, Joins, NetRule, Publishes, Puts, Replies, Says, Takes, Tells, port_rule}
-use Rattle.port_model.specs.NetEndState.{NetEndState, NetSession, joined_net_end, with_frame}
-use Rattle.port_model.specs.NetEndStep.{Already, BadLength, Blocked, Frame, Full, Given, GroupsFull, Idle, Joined, Joining, Member, NetAnswer, NetEndStep, NetFails, NetGives, NetJoins, NetLeft, Published, Queued, Reset, Sent, Took, untold}
+use Rattle.port_model.specs.NetEndRule.{Fetches, Idles, Joins, NetRule, Takes, port_rule}
+use Rattle.port_model.specs.NetEndState.{NetEndState, NetSession, joined_net_end}
+use Rattle.port_model.specs.NetEndStep.{Blocked, Frame, Given, Idle, Joined, Joining, NetAnswer, NetEndStep, NetFails, NetGives, NetJoins, NetLeft, Published, Reset, Sent, Took, untold}
 use Rattle.port_model.specs.NetEvent.{Asked, Declines, Gives, Injects, Joins as JoinsGroup, Loses, NetEvent, Pokes, Steps, Ticked, on_wire}
 use Rattle.port_model.specs.NetLaneState.{NetLaneState, NetShape, fresh_net, net_end, reach_of, role_at, seen_at, memory_of}
 use Rattle.port_model.specs.NetLaneStep.{NetLaneStep, Resets, declined_at, moved_on, net_wire, sizes_of}
@@ -38,26 +38,17 @@ use Rattle.port_model.proofs.Refuting.{false_true, none_some, true_false}
 
 -- THE WIRE
 pub wire_same : (l : WireLog) (event : Option WireEvent) → moved_on l event ≡ wire_after l (event_core event)
-wire_same l None = refl
-wire_same l (Some event) = refl
+wire_same l event = grind arith
 
 -- WHERE AN ANSWER STANDS
 up_of : (state : ChannelState) → is_up state ≡ true → state ≡ Up
-up_of Up is = refl
-up_of _ is = false_true is
+up_of state is = grind (arith, false_true)
 
 not_up : (state : ChannelState) → is_up state ≡ false → state ≢ Up
-not_up Up is = true_false is
-not_up _ is = λ up. false_true (ap is_up up)
+not_up state is = grind (arith, true_false, false_true)
 
 pub holds_up : (role : Role) (s : NetEndState) (at : Seen) (reach : Reach) (rule : NetRule) (held : NetEndState) → port_rule role s at ≡ rule → net_holds rule s reach ≡ Some held → is_up at.state ≡ true
-holds_up role s at reach Puts held is same = (says_of role s at Puts is).0
-holds_up role s at reach (Says message) held is same = (says_of role s at (Says message) is).0
-holds_up role s at reach (Replies p reply) held is same = (says_of role s at (Replies p reply) is).0.free.up
-holds_up role s at reach (Fetches p activity) held is same = (says_of role s at (Fetches p activity) is).0.free.up
-holds_up role s at reach (Tells p) held is same = (says_of role s at (Tells p) is).0.in_session.free.up
-holds_up role s at reach (Announces p) held is same = (says_of role s at (Announces p) is).0.in_session.free.up
-holds_up role s at reach _ held is same = none_some held same
+holds_up role s at reach rule held is same = grind (arith, says_of, none_some)
 
 carries_none : (e : End) (w : Wire) (packet : Option (List ℕ)) → packet ≡ None → MayCarry packet e w
 carries_none e w packet is = subst (λ (x : Option (List ℕ)). MayCarry x e w) (sym is) tt
@@ -107,29 +98,18 @@ reset_is cause packet is = ap (λ (x : Giver). reset_move x cause packet) is
 
 moves_own : (e : End) (s : NetLaneState) (answer : NetAnswer) (left : NetLeft)
     → NetEndStep (role_at e) (net_end e s) (seen_at e s) (memory_of e s) (reach_of e s) answer left → move_of e (core_event (Steps e answer)) ≡ move_by answer
-moves_own A s (Reset cause packet lost) left step = reset_is cause packet (net_resets_own Initiator (port_rule Initiator s.guest (seen_at A s)) s.guest s.guest_memory (reach_of A s) cause packet step.0)
-moves_own B s (Reset cause packet lost) left step = reset_is cause packet (net_resets_own Responder (port_rule Responder s.hub (seen_at B s)) s.hub s.hub_memory (reach_of B s) cause packet step.0)
-moves_own _ s _ left step = refl
+moves_own e s answer left step = grind (arith, reset_is, net_resets_own)
 
 moves_b : (answer : NetAnswer) → move_of B (core_event (Steps A answer)) ≡ Stays
-moves_b (Reset cause packet lost) = refl
-moves_b _ = refl
+moves_b answer = grind arith
 
 moves_a : (answer : NetAnswer) → move_of A (core_event (Steps B answer)) ≡ Stays
-moves_a (Reset cause packet lost) = refl
-moves_a _ = refl
+moves_a answer = grind arith
 
 -- an end that stays, whatever was its channel end's state
 pub stays_at : (role : Role) (begun now : Bool) (s t : NetEndState) → now ≡ begun → EndStays (net_core role s) (net_core role t)
     → EndStays (net_core_at role begun s) (net_core_at role now t)
-stays_at role begun now s t same stays = record {
-  link = stays.link;
-  handshake = stays.handshake;
-  offer = stays.offer;
-  is_open = stays.is_open;
-  own = ap (λ (b : Bool). b && is_none t.handshake.owed) same ∙ ap (λ (b : Bool). begun && b) stays.own;
-  more = stays.more;
-}
+stays_at role begun now s t same stays = grind arith
 
 same_stays : (role : Role) (s : NetEndState) → EndStays (net_core role s) (net_core role s)
 same_stays role s = stays_with role s s refl refl refl refl refl (omega arith)
@@ -139,27 +119,21 @@ still role begun s = stays_at role begun begun s s refl (same_stays role s)
 
 still_by : (role : Role) (begun now : Bool) (s : NetEndState) (move : EndMove) → move ≡ Stays → now ≡ begun
     → EndStep role (net_core_at role begun s) move (net_core_at role now s)
-still_by role begun now s move is same =
-    subst (λ (x : EndMove). EndStep role (net_core_at role begun s) x (net_core_at role now s)) (sym is) (stays_at role begun now s s same (same_stays role s))
+still_by role begun now s move is same = grind (arith, stays_at, same_stays)
 
 -- and one that is up before and behind a move
 moved_up : (role : Role) (s t : NetEndState) (before now : Bool) (move other : EndMove) → move ≡ other → before ≡ true → now ≡ true
     → EndStep role (net_core role s) other (net_core role t) → EndStep role (net_core_at role before s) move (net_core_at role now t)
-moved_up role s t before now move other is up_before up_now step =
-    subst (λ (x : EndMove). EndStep role (net_core_at role before s) x (net_core_at role now t)) (sym is)
-    (subst (λ (b : Bool). EndStep role (net_core_at role b s) other (net_core_at role now t)) (sym up_before)
-    (subst (λ (b : Bool). EndStep role (net_core_at role true s) other (net_core_at role b t)) (sym up_now) step))
+moved_up role s t before now move other is up_before up_now step = grind arith
 
 begins : (role : Role) (begun now : Bool) (s : NetEndState) → EndBegins (net_core_at role begun s) (net_core_at role now (joined_net_end role s))
 begins role begun now s = record { link = refl; handshake = refl; offer = refl; closed = refl; more = refl }
 
 joined_moves : (role : Role) (begun now : Bool) (s t : NetEndState) → t ≡ joined_net_end role s → EndBegins (net_core_at role begun s) (net_core_at role now t)
-joined_moves role begun now s t is =
-    subst (λ (x : NetEndState). EndBegins (net_core_at role begun s) (net_core_at role now x)) (sym is) (begins role begun now s)
+joined_moves role begun now s t is = grind (arith, begins)
 
 peer_begun : (x y : ChannelState) → is_begun (peer_behind x y) ≡ is_begun y
-peer_begun Up Resetting = refl
-peer_begun _ _ = refl
+peer_begun x y = grind arith
 
 abbrev Embeds : NetLaneState → NetEvent → NetLaneState → Type 0
 Embeds s event t = CoreStep (lane_core s) (core_event event) (lane_core t)
@@ -170,25 +144,18 @@ begun_up e s up = ap is_begun up
 
 published_up : (e : End) (s : NetLaneState) (id : ℕ) (left : NetLeft)
     → NetEndStep (role_at e) (net_end e s) (seen_at e s) (memory_of e s) (reach_of e s) (Published id) left → IsUp e s.wire.wire
-published_up e s id left step =
-    up_of (state_of e s.wire.wire) (says_of (role_at e) (net_end e s) (seen_at e s) (Publishes step.session step.frame) step.rule).0.in_session.free.up
+published_up e s id left step = grind (arith, up_of, says_of)
 
 frame_up : (e : End) (s : NetLaneState) (frame : List ℕ) (left : NetLeft)
     → NetEndStep (role_at e) (net_end e s) (seen_at e s) (memory_of e s) (reach_of e s) (Frame frame) left → IsUp e s.wire.wire
-frame_up e s frame left step =
-    up_of (state_of e s.wire.wire) (says_of (role_at e) (net_end e s) (seen_at e s) (Fetches step.session step.activity) step.rule).0.free.up
+frame_up e s frame left step = grind (arith, up_of, says_of)
 
 reset_up : (e : End) (s : NetLaneState) (cause : Cause) (packet : Option (List ℕ)) (lost : ℕ) (left : NetLeft)
     → NetEndStep (role_at e) (net_end e s) (seen_at e s) (memory_of e s) (reach_of e s) (Reset cause packet lost) left → IsUp e s.wire.wire
 reset_up e s cause packet lost left step = (fails_stand e s (port_rule (role_at e) (net_end e s) (seen_at e s)) cause packet refl step.0).0
 
 begun_now : (e : End) (s : NetLaneState) (answer : NetAnswer) → IsUp e s.wire.wire → is_begun (state_of e (net_wire (Steps e answer) s).wire) ≡ true
-begun_now A s (Joined lost) up = refl
-begun_now A s (Reset cause packet lost) up = refl
-begun_now B s (Joined lost) up = refl
-begun_now B s (Reset cause packet lost) up = refl
-begun_now A s _ up = begun_up A s up
-begun_now B s _ up = begun_up B s up
+begun_now e s answer up = grind (arith, begun_up)
 
 abbrev Moves : End → NetLaneState → NetAnswer → NetLeft → Type 0
 Moves e s answer left =
@@ -214,76 +181,34 @@ end_moves e s (Reset cause packet lost) left fits step = up_moves e s (Reset cau
 end_moves e s answer left fits step = up_moves e s answer left fits step (answer_stands e s answer left step).0
 
 hub_begun : (s : NetLaneState) (answer : NetAnswer) → is_begun (net_wire (Steps A answer) s).wire.end_b ≡ is_begun s.wire.wire.end_b
-hub_begun s (Joined lost) = peer_begun s.wire.wire.end_a s.wire.wire.end_b
-hub_begun s (Reset cause packet lost) = peer_begun s.wire.wire.end_a s.wire.wire.end_b
-hub_begun s _ = refl
+hub_begun s answer = grind (arith, peer_begun)
 
 guest_begun : (s : NetLaneState) (answer : NetAnswer) → is_begun (net_wire (Steps B answer) s).wire.end_a ≡ is_begun s.wire.wire.end_a
-guest_begun s (Joined lost) = peer_begun s.wire.wire.end_b s.wire.wire.end_a
-guest_begun s (Reset cause packet lost) = peer_begun s.wire.wire.end_b s.wire.wire.end_a
-guest_begun s _ = refl
+guest_begun s answer = grind (arith, peer_begun)
 
 -- A RESET that no step gave, of either end
 asked_core : (e : End) (s : NetLaneState) (lost : ℕ) (t : NetLaneState) → Resets e (Asked e lost) s lost t → Embeds s (Asked e lost) t
-asked_core A s lost t resets =
-    subst (Embeds s (Asked A lost)) (sym resets.1)
-    (record {
-      entries = refl;
-      stands = refl;
-      wire = refl;
-      a = begins Initiator (is_begun s.wire.wire.end_a) true s.guest;
-      b = stays_at Responder (is_begun s.wire.wire.end_b) (is_begun (peer_behind s.wire.wire.end_a s.wire.wire.end_b)) s.hub s.hub
-          (peer_begun s.wire.wire.end_a s.wire.wire.end_b) (same_stays Responder s.hub);
-    })
-asked_core B s lost t resets =
-    subst (Embeds s (Asked B lost)) (sym resets.1)
-    (record {
-      entries = refl;
-      stands = refl;
-      wire = refl;
-      a = stays_at Initiator (is_begun s.wire.wire.end_a) (is_begun (peer_behind s.wire.wire.end_b s.wire.wire.end_a)) s.guest s.guest
-          (peer_begun s.wire.wire.end_b s.wire.wire.end_a) (same_stays Initiator s.guest);
-      b = begins Responder (is_begun s.wire.wire.end_b) true s.hub;
-    })
+asked_core e s lost t resets = grind (arith, begins, stays_at, peer_begun, same_stays)
 
 ticked_core : (s : NetLaneState) (queued lost : ℕ) (t : NetLaneState) → Resets A (Ticked queued lost) s lost t → Embeds s (Ticked queued lost) t
-ticked_core s queued lost t resets =
-    subst (Embeds s (Ticked queued lost)) (sym resets.1)
-    (record {
-      entries = refl;
-      stands = refl;
-      wire = refl;
-      a = begins Initiator (is_begun s.wire.wire.end_a) true s.guest;
-      b = stays_at Responder (is_begun s.wire.wire.end_b) (is_begun (peer_behind s.wire.wire.end_a s.wire.wire.end_b)) s.hub s.hub
-          (peer_begun s.wire.wire.end_a s.wire.wire.end_b) (same_stays Responder s.hub);
-    })
+ticked_core s queued lost t resets = grind (arith, begins, stays_at, peer_begun, same_stays)
 
 -- WHAT IS ASKED leaves link, handshake and session
 gives_stays : (role : Role) (s : NetEndState) (given : Given) (t : NetEndState) → NetGives s given t → EndStays (net_core role s) (net_core role t)
-gives_stays role s (BadLength frame) t gives = subst (λ (x : NetEndState). EndStays (net_core role s) (net_core role x)) (sym gives.1) (same_stays role s)
-gives_stays role s (Full frame) t gives = subst (λ (x : NetEndState). EndStays (net_core role s) (net_core role x)) (sym gives.2) (same_stays role s)
-gives_stays role s (Queued id frame) t gives =
-    subst (λ (x : NetEndState). EndStays (net_core role s) (net_core role x)) (sym gives.4) (stays_with role s (with_frame frame s) refl refl refl refl refl (omega arith))
+gives_stays role s given t gives = grind (arith, same_stays, stays_with)
 
 untold_open : (session : Option NetSession) → is_some (untold session) ≡ is_some session
-untold_open None = refl
-untold_open (Some p) = refl
+untold_open session = grind arith
 
 untold_more : (session : Option NetSession) → more_of (untold session) ≤ more_of session
-untold_more None = omega arith
-untold_more (Some p) = omega arith
+untold_more session = grind arith
 
 joins_stays : (s : NetEndState) (joining : Joining) (t : NetEndState) → NetJoins s joining t → EndStays (net_core Initiator s) (net_core Initiator t)
-joins_stays s (Already address) t joins = subst (λ (x : NetEndState). EndStays (net_core Initiator s) (net_core Initiator x)) (sym joins.1) (same_stays Initiator s)
-joins_stays s (GroupsFull address) t joins = subst (λ (x : NetEndState). EndStays (net_core Initiator s) (net_core Initiator x)) (sym joins.2) (same_stays Initiator s)
-joins_stays s (Member address) t joins =
-    subst (λ (x : NetEndState). EndStays (net_core Initiator s) (net_core Initiator x)) (sym joins.3)
-    (stays_with Initiator s (record s { groups = s.groups ++ address ∷ []; session = untold s.session }) refl refl refl refl (untold_open s.session) (untold_more s.session))
+joins_stays s joining t joins = grind (arith, same_stays, stays_with, untold_open, untold_more)
 
 -- WHAT CAME TO NOTHING
 declined_stands : (d : Declined) (s : NetLaneState) → DeclinesAt (sizes_of (declined_at d) s) s.wire d → AnswerStands s.shape.entries s.wire d
-declined_stands (PokeRefused e at count) s stands = tt
-declined_stands _ s stands = stands
+declined_stands d s stands = grind arith
 
 -- AN EVENT
 abbrev guest_up : NetLaneState → Bool

@@ -1,19 +1,16 @@
 -- What a message that an end takes does to the counts of its frames: an ACK lets those go that it names, and nothing
 -- else does.
-use Rattle.std.proofs.Common.{◌≡◌, ℕ, ◌+◌, Bool, true, false, Some, None, List, refl, sym, subst, ap, ◌∙◌, inl, inr, arith}
+use Rattle.std.proofs.Common.{◌≡◌, ℕ, ◌+◌, Bool, true, false, Some, None, List, refl, sym, subst, ap, ◌∙◌, arith}
 use Rattle.ldc_link.specs.declared.phase.Role.{Role}
-use Rattle.ldc_link.specs.declared.phase.Role.TheVariants.{Initiator, Responder}
 use Rattle.ldc_packet.specs.declared.packet.Subtype.{Subtype}
-use Rattle.ldc_packet.specs.declared.packet.Subtype.TheVariants.{Ack, Info, Nack}
 use Rattle.ldc_packet.specs.Spelling.{subtype_code}
 use Rattle.vio_handshake.specs.declared.handshake.Handshake.{Handshake}
-use Rattle.vio_handshake.specs.Rules.{Faults, Goes, GoesOpen, HandshakeTake, handshake_take, is_declined}
+use Rattle.vio_handshake.specs.Rules.{HandshakeTake, handshake_take, is_declined}
 use Rattle.vio_tag.specs.declared.message.Message.{Message}
 use Rattle.vio_tag.specs.declared.message.MsgBody.{MsgBody}
-use Rattle.vio_tag.specs.declared.message.MsgBody.TheVariants.{DringData, DringUnreg, Plain}
+use Rattle.vio_tag.specs.declared.message.MsgBody.TheVariants.{DringData}
 use Rattle.vio_tag.specs.Form.{HasForm, IsWellFormed}
-use Rattle.vio_tag.specs.Spelling.{SpellsBody, SpellsMessage, envelope_code, subtype_at}
-use Rattle.vio_bytes.specs.Place.{number_at}
+use Rattle.vio_tag.specs.Spelling.{SpellsBody, SpellsMessage, envelope_code}
 use Rattle.dring.specs.Slots.{range_length}
 use Rattle.port_laws.proofs.MessageDoes.{Acks, Asks, Declines, MessageDoes, Names, TakeDoes, Told, message_does}
 use Rattle.port_laws.specs.LetsGo.{InOrder, LetsGo, TakeLetsGo, TakeLetsNoneGo, acks}
@@ -25,22 +22,11 @@ use Rattle.port_model.specs.Spoken.{Spoken, spoken, spoken_by}
 
 -- WHAT AN ACK NAMES, by the bytes of the message
 pub spoken_same : (bytes : List ℕ) (message : Message) → SpellsMessage bytes message → spoken bytes ≡ spoken_by (envelope_code message.body) (subtype_code message.subtype)
-spoken_same bytes message spells =
-    ap (λ (n : ℕ). spoken_by n (subtype_at bytes)) spells.envelope ∙ ap (spoken_by (envelope_code message.body)) spells.subtype
+spoken_same bytes message spells = grind arith
 
 body_acks : (slots : ℕ) (bytes : List ℕ) (subtype : Subtype) (b : MsgBody) → HasForm b → SpellsBody bytes b
     → acked_by slots (spoken_by (envelope_code b) (subtype_code subtype)) bytes ≡ acks slots b subtype
-body_acks slots bytes Ack (DringData seq ident start end state) form spells =
-    let starts : start ≡ number_at 4 24 bytes = spells.2 in
-    let ends : end ≡ number_at 4 28 bytes = spells.3 in
-    sym (ap (λ (n : ℕ). range_length slots n end) starts ∙ ap (λ (n : ℕ). range_length slots (number_at 4 24 bytes) n) ends)
-body_acks slots bytes Info (Plain envelope) (inl is) spells = ap (λ (n : ℕ). acked_by slots (spoken_by n 1) bytes) is
-body_acks slots bytes Info (Plain envelope) (inr is) spells = ap (λ (n : ℕ). acked_by slots (spoken_by n 1) bytes) is
-body_acks slots bytes Ack (Plain envelope) (inl is) spells = ap (λ (n : ℕ). acked_by slots (spoken_by n 2) bytes) is
-body_acks slots bytes Ack (Plain envelope) (inr is) spells = ap (λ (n : ℕ). acked_by slots (spoken_by n 2) bytes) is
-body_acks slots bytes Nack (Plain envelope) (inl is) spells = ap (λ (n : ℕ). acked_by slots (spoken_by n 4) bytes) is
-body_acks slots bytes Nack (Plain envelope) (inr is) spells = ap (λ (n : ℕ). acked_by slots (spoken_by n 4) bytes) is
-body_acks slots bytes _ _ form spells = refl
+body_acks slots bytes subtype b form spells = grind arith
 
 pub message_acks : (slots : ℕ) (bytes : List ℕ) (message : Message) → IsWellFormed message → SpellsMessage bytes message
     → acked_by slots (spoken bytes) bytes ≡ acks slots message.body message.subtype
@@ -49,15 +35,12 @@ message_acks slots bytes message form spells =
 
 -- IN SESSION
 declined_none : (slots : ℕ) (subtype : Subtype) (b : MsgBody) → is_declined subtype b ≡ true → acks slots b subtype ≡ 0
-declined_none slots Info (DringUnreg ident) is = refl
-declined_none slots Info (Plain envelope) is = refl
-declined_none slots subtype b is = false_true is
+declined_none slots subtype b is = grind (arith, false_true)
 
 -- the same session, and all frames
 same_seen : (s : NetEndState) (p q : NetSession) (t : NetEndState) (opens : Bool) → t.session ≡ Some q → q.base ≡ p.base → q.published ≡ p.published → q.seen ≡ p.seen → t.frames ≡ s.frames
     → t.next_id ≡ s.next_id → opens ≡ false → LetsGo s p 0 t opens
-same_seen s p q t opens session base published seen frames next shut =
-    record { after = q; session = session; base = base; published = published; seen = omega arith; within = omega arith; frames = frames; next = next; shut = shut }
+same_seen s p q t opens session base published seen frames next shut = grind arith
 
 kind_seen : (role : Role) (s : NetEndState) (p : NetSession) (memory : List ℕ) (subtype : Subtype) (b : MsgBody) (t : NetEndState) (opens : Bool) (new : List ℕ) → InOrder s p → opens ≡ false
     → MessageDoes role s p memory subtype b t new → LetsGo s p (acks s.slots b subtype) t opens
@@ -104,13 +87,10 @@ message_seen role s p memory message order =
 
 -- WITHOUT A SESSION nothing of the frames changes, and one may open
 opens_none : (role : Role) (s : NetEndState) (memory : List ℕ) (h : Handshake) → s.session ≡ None → TakeLetsNoneGo s (opens_by_take role (record s { handshake = h }) memory)
-opens_none Initiator s memory h is = record { frames = refl; next = refl; session = is }
-opens_none Responder s memory h is = record { frames = refl; next = refl; session = refl }
+opens_none role s memory h is = grind arith
 
 handshake_none : (role : Role) (s : NetEndState) (memory : List ℕ) (take : HandshakeTake) → s.session ≡ None → TakeLetsNoneGo s (by_handshake role s memory take)
-handshake_none role s memory (Goes h) is = record { frames = refl; next = refl; session = is }
-handshake_none role s memory (GoesOpen h) is = opens_none role s memory h is
-handshake_none role s memory (Faults cause) is = tt
+handshake_none role s memory take is = grind (arith, opens_none)
 
 pub message_none : (role : Role) (s : NetEndState) (memory : List ℕ) (message : Message) → s.session ≡ None → TakeLetsNoneGo s (hears_message role s memory None message)
 message_none role s memory message is = handshake_none role s memory (handshake_take s.handshake message) is

@@ -1,7 +1,7 @@
 -- What always holds of the log of an end of a port by itself: the sessions that it opened begin with the open one, and each frame that it was
 -- given is one. And the tables of a port stay.
-use Rattle.std.proofs.Common.{◌≡◌, ℕ, zero, suc, ◌+◌, Bool, true, false, Option, Some, None, List, [], ◌∷◌, ◌++◌, length, drop, inl, inr, refl, sym, ap, ◌∙◌, subst, arith, length-append}
-use Rattle.std.specs.Prelude.{nat_le, slice_get, ⊤}
+use Rattle.std.proofs.Common.{◌≡◌, ℕ, zero, suc, ◌+◌, Bool, true, Option, Some, None, List, [], ◌∷◌, ◌++◌, length, drop, refl, sym, ap, ◌∙◌, arith, length-append}
+use Rattle.std.specs.Prelude.{slice_get, ⊤}
 use Rattle.std.proofs.lemmas.Bool.{and_parts, cases_lt, leb-true}
 use Rattle.std.proofs.lemmas.Option.{slice_get_within}
 use Rattle.ldc_queue.specs.declared.end.End.TheVariants.{A, B}
@@ -11,14 +11,14 @@ use Rattle.channel_model.specs.Messages.{ended_by}
 use Rattle.channel_model.specs.Sayings.{half_heard, half_said}
 use Rattle.channel_model.specs.TranscriptLog.{transcript_of}
 use Rattle.port_model.specs.EndLog.{EndLog, OpenedLog, SessionLog, change, ends_log, gives_log, heard_in, heard_kind, more_published, more_taken, opens_log, published_in, said_in, said_kind}
-use Rattle.port_model.specs.NetEndStep.{Blocked, Frame, Given, Idle, NetAnswer, NetGives, Published, Queued, Sent, Took}
+use Rattle.port_model.specs.NetEndStep.{Blocked, Frame, Given, Idle, NetAnswer, NetGives, Published, Sent, Took}
 use Rattle.port_model.specs.NetEndState.{NetEndState}
-use Rattle.port_model.specs.NetEvent.{Asked, Gives, Injects, NetEvent, Pokes, Steps, Ticked}
+use Rattle.port_model.specs.NetEvent.{Asked, Gives, NetEvent, Steps, Ticked}
 use Rattle.port_model.specs.NetLaneState.{NetLaneState, NetShape, fresh_table}
 use Rattle.port_model.specs.NetLaneStep.{NetLaneStep}
 use Rattle.port_model.specs.PortLog.{PortLog, after, after_answer, after_given, no_events}
 use Rattle.port_model.specs.PortState.{OnLane, Receives}
-use Rattle.port_model.specs.Spoken.{GroupsInfo, Spoken, spoken}
+use Rattle.port_model.specs.Spoken.{Spoken}
 use Rattle.port_laws.proofs.RingMoves.{get_front}
 use Rattle.port_laws.proofs.SessionsHeard.{get_last, get_more}
 
@@ -45,35 +45,26 @@ record SameHead (f : SessionLog → SessionLog) : Type 0 where
   published : (v : SessionLog) → (f v).published ≡ v.published
 
 head_change : (f : SessionLog → SessionLog) (log : Option SessionLog) (opened : List OpenedLog) (published : ℕ) → SameHead f → HeadIn log opened published → HeadIn (change f log) opened published
-head_change f None opened published same head = tt
-head_change f (Some v) [] published same head = head
-head_change f (Some v) (one ∷ rest) published same head = (head.0 ∙ sym (same.sid v), head.1 ∙ sym (same.published v), head.2)
+head_change f log opened published same head = grind arith
 
 kind_sid : (k : Spoken) (slots : ℕ) (message : List ℕ) (v : SessionLog) → ((heard_kind slots k message v).sid ≡ v.sid) × ((heard_kind slots k message v).published ≡ v.published)
-kind_sid GroupsInfo slots message v = (refl, refl)
-kind_sid _ slots message v = (refl, refl)
+kind_sid k slots message v = grind arith
 
 heard_same : (slots : ℕ) (ended : Option (List ℕ)) → SameHead (heard_in slots ended)
-heard_same slots None = record { sid = λ v. refl; published = λ v. refl }
-heard_same slots (Some message) = record { sid = λ v. (kind_sid (spoken message) slots message v).0; published = λ v. (kind_sid (spoken message) slots message v).1 }
+heard_same slots ended = grind (arith, kind_sid)
 
 saying_sid : (k : Spoken) (message : List ℕ) (v : SessionLog) → ((said_kind k message v).sid ≡ v.sid) × ((said_kind k message v).published ≡ v.published)
-saying_sid GroupsInfo message v = (refl, refl)
-saying_sid _ message v = (refl, refl)
+saying_sid k message v = grind arith
 
 said_same : (ended : Option (List ℕ)) → SameHead (said_in ended)
-said_same None = record { sid = λ v. refl; published = λ v. refl }
-said_same (Some message) = record { sid = λ v. (saying_sid (spoken message) message v).0; published = λ v. (saying_sid (spoken message) message v).1 }
+said_same ended = grind (arith, saying_sid)
 
 opens_head : (opens : Bool) (sid : ℕ) (l : EndLog) → EndLogStands l → EndLogStands (opens_log opens sid l)
-opens_head true sid l stands = record { head = (refl, refl, omega arith); given = stands.given }
-opens_head false sid l stands = stands
+opens_head opens sid l stands = grind arith
 
 publishes_head : (log : Option SessionLog) (opened : List OpenedLog) (published : ℕ) → HeadIn log opened published
     → HeadIn (change more_published log) (published_in opened) (published + 1)
-publishes_head None opened published head = tt
-publishes_head (Some v) [] published head = head
-publishes_head (Some v) (one ∷ rest) published head = (head.0, ap (λ (n : ℕ). n + 1) head.1, omega (arith, head.2))
+publishes_head log opened published head = grind arith
 
 answer_log : (slots : ℕ) (turns : List Turn) (answer : NetAnswer) (l : EndLog) → EndLogStands l → EndLogStands (after_answer slots turns answer l)
 answer_log slots turns (Took packet opens) l stands =
@@ -91,28 +82,16 @@ answer_log slots turns _ l stands = record { head = tt; given = stands.given }
 
 -- A FRAME MORE
 pub frame_of : (frame : List ℕ) → is_frame_length (length frame) ≡ true → IsFrame frame
-frame_of frame is =
-    let both = and_parts (nat_le 14 (length frame)) (nat_le (length frame) 1514) is in
-    record { least = leb-true 14 (length frame) both.0; most = leb-true (length frame) 1514 both.1 }
+frame_of frame is = grind (arith, and_parts, leb-true)
 
 each_more : (given : List (List ℕ)) (frame : List ℕ) → EachGiven given → IsFrame frame → EachGiven (given ++ frame ∷ [])
-each_more given frame each is n one get =
-    let within = slice_get_within (given ++ frame ∷ []) n one get in
-    elim (cases_lt n (length given)) [
-      | inl less ↦ each n one (get_front given (frame ∷ []) n one less get)
-      | inr past ↦ (
-          let last : length given ≡ n = omega (arith, past, within, length-append given (frame ∷ [])) in
-          let both : Some frame ≡ Some one = sym (get_last given n frame last) ∙ get in
-          let same : frame ≡ one = cc both in
-          subst IsFrame same is)
-    ]
+each_more given frame each is n one get = grind (arith, slice_get_within, cases_lt, get_front, length-append, get_last)
 
 gives_stands : (frame : List ℕ) (l : EndLog) → EndLogStands l → IsFrame frame → EndLogStands (gives_log frame l)
 gives_stands frame l stands is = record { head = stands.head; given = each_more l.given frame stands.given is }
 
 given_log : (s : NetEndState) (given : Given) (t : NetEndState) (l : EndLog) → NetGives s given t → EndLogStands l → EndLogStands (after_given given l)
-given_log s (Queued id frame) t l gives stands = gives_stands frame l stands (frame_of frame gives.0)
-given_log s _ t l gives stands = stands
+given_log s given t l gives stands = grind (arith, gives_stands, frame_of)
 
 ends_stands : (lost : ℕ) (l : EndLog) → EndLogStands l → EndLogStands (ends_log lost l)
 ends_stands lost l stands = record { head = tt; given = stands.given }
@@ -138,8 +117,7 @@ get_drop (suc k) [] n = refl
 get_drop (suc k) (one ∷ frames) n = let next : suc k + n ≡ suc (k + n) = omega arith in get_drop k frames n ∙ sym (ap (slice_get (one ∷ frames)) next)
 
 pub held_given : (frames queue given : List (List ℕ)) (gone n : ℕ) (frame : List ℕ) → frames ++ queue ≡ drop gone given → slice_get frames n ≡ Some frame → slice_get given (gone + n) ≡ Some frame
-held_given frames queue given gone n frame is get =
-    sym (get_drop gone given n) ∙ sym (ap (λ (xs : List (List ℕ)). slice_get xs n) is) ∙ get_more frames queue n frame get
+held_given frames queue given gone n frame is get = grind (arith, get_drop, get_more)
 
 -- THE TABLES
 pub record TablesStand (shape : NetShape) (s : NetLaneState) : Type 0 where
@@ -150,14 +128,7 @@ tables_as : (shape : NetShape) (s t : NetLaneState) → t.guest_table ≡ s.gues
 tables_as shape s t guest hub stands = record { guest = guest ∙ stands.guest; hub = hub ∙ stands.hub }
 
 pub tables_event : (shape : NetShape) (u : NetLaneState) (event : NetEvent) (t : NetLaneState) → NetLaneStep u event t → TablesStand shape u → TablesStand shape t
-tables_event shape u (Steps A answer) t step = tables_as shape u t (ap (λ (x : NetLaneState). x.guest_table) step.is) (ap (λ (x : NetLaneState). x.hub_table) step.is)
-tables_event shape u (Steps B answer) t step = tables_as shape u t (ap (λ (x : NetLaneState). x.guest_table) step.is) (ap (λ (x : NetLaneState). x.hub_table) step.is)
-tables_event shape u (Ticked queued lost) t step = tables_as shape u t (ap (λ (x : NetLaneState). x.guest_table) step.1.1) (ap (λ (x : NetLaneState). x.hub_table) step.1.1)
-tables_event shape u (Injects e packet) t step = tables_as shape u t (ap (λ (x : NetLaneState). x.guest_table) step.2) (ap (λ (x : NetLaneState). x.hub_table) step.2)
-tables_event shape u (Asked A lost) t step = tables_as shape u t (ap (λ (x : NetLaneState). x.guest_table) step.1) (ap (λ (x : NetLaneState). x.hub_table) step.1)
-tables_event shape u (Gives A given) t step = tables_as shape u t (ap (λ (x : NetLaneState). x.guest_table) step.1) (ap (λ (x : NetLaneState). x.hub_table) step.1)
-tables_event shape u (Pokes A at bytes) t step = tables_as shape u t (ap (λ (x : NetLaneState). x.guest_table) step.1) (ap (λ (x : NetLaneState). x.hub_table) step.1)
-tables_event shape u _ t step = tables_as shape u t (ap (λ (x : NetLaneState). x.guest_table) step.1) (ap (λ (x : NetLaneState). x.hub_table) step.1)
+tables_event shape u event t step = grind (arith, tables_as)
 
 pub fresh_logs : (shape : NetShape) → LogsStand (no_events shape)
 fresh_logs shape = record { guest = record { head = tt; given = λ n frame get. absurd (cc get) }; hub = record { head = tt; given = λ n frame get. absurd (cc get) } }

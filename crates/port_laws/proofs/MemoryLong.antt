@@ -1,5 +1,5 @@
 -- Each event of a port leaves both memories as long as they were, also where somebody forges packets and memory.
-use Rattle.std.proofs.Common.{◌≡◌, ℕ, zero, suc, ◌+◌, ◌≤◌, ◌<◌, Bool, true, false, Some, List, [], ◌∷◌, length, inl, refl, sym, ap, ◌∙◌, subst, arith}
+use Rattle.std.proofs.Common.{◌≡◌, ℕ, zero, suc, ◌+◌, ◌≤◌, ◌<◌, Bool, true, Some, List, [], ◌∷◌, length, inl, refl, sym, ap, ◌∙◌, subst, arith}
 use Rattle.std.specs.Prelude.{◌%◌, ◌*◌, map, slice_get, ⊤}
 use Rattle.std.proofs.lemmas.List.{length-replicate}
 use Rattle.std.proofs.lemmas.Nat.{mod_below}
@@ -87,14 +87,10 @@ cleared_long : (slots : ℕ) (memory : List ℕ) → 64 * slots ≤ length memor
 cleared_long slots memory room = length-put_at 0 (free_slots 64 slots) memory (omega (arith, room, length-free_slots 64 slots (inl refl)))
 
 written_long : (slots : ℕ) (memory new : List ℕ) → 1 ≤ slots → 64 * slots ≤ length memory → Written slots memory new → length new ≡ length memory
-written_long slots memory new some room (Same is) = ap length is
-written_long slots memory new some room (Cleared is) = ap length is ∙ cleared_long slots memory room
-written_long slots memory new some room (Freed number count is) = ap length is ∙ freed_long slots number count memory some room
+written_long slots memory new some room given = grind (arith, cleared_long, freed_long)
 
 put_long : (role : Role) (opens : Bool) (slots : ℕ) (memory : List ℕ) → 64 * slots ≤ length memory → length (cleared_by_put role opens slots memory) ≡ length memory
-put_long Initiator true slots memory room = cleared_long slots memory room
-put_long Initiator false slots memory room = refl
-put_long Responder opens slots memory room = refl
+put_long role opens slots memory room = grind (arith, cleared_long)
 
 published_long : (slots k : ℕ) (frame memory : List ℕ) → Fits slots memory → k < slots → IsFrame frame → length (published_memory k frame memory) ≡ length memory
 published_long slots k frame memory fits below is =
@@ -150,14 +146,10 @@ frames_at shape A u l ready logs n frame get = logs.guest.given (l.guest.gone + 
 frames_at shape B u l ready logs n frame get = logs.hub.given (l.hub.gone + n) frame (held_given u.lane.hub.frames u.queue l.hub.given l.hub.gone n frame ready.hub.frames get)
 
 fits_of : (shape : NetShape) (e : End) (u : PortState) (l : PortLog) → Ready shape u l → MemoryHasRoom shape.slots u.lane → Fits (net_end e u.lane).slots (memory_of e u.lane)
-fits_of shape A u l ready room =
-    subst (λ (n : ℕ). Fits n u.lane.guest_memory) (sym ready.guest.slots_is) (record { few = ready.sound.most_slots; room = room.guest })
-fits_of shape B u l ready room =
-    subst (λ (n : ℕ). Fits n u.lane.hub_memory) (sym ready.hub.slots_is) (record { few = ready.sound.most_slots; room = room.hub })
+fits_of shape e u l ready room = grind arith
 
 some_slots : (shape : NetShape) (e : End) (u : PortState) (l : PortLog) → Ready shape u l → 1 ≤ (net_end e u.lane).slots
-some_slots shape A u l ready = let some = ready.sound.some_slots in let is = ready.guest.slots_is in omega (arith, some, is)
-some_slots shape B u l ready = let some = ready.sound.some_slots in let is = ready.hub.slots_is in omega (arith, some, is)
+some_slots shape e u l ready = grind arith
 
 owns_of : (shape : NetShape) (e : End) (u : PortState) (l : PortLog) → Ready shape u l → MemoryHasRoom shape.slots u.lane → LogsStand l → is_up (seen_at e u.lane).state ≡ true
     → Owns (role_at e) (net_end e u.lane) (transcript_of e l.transcript) (memory_of e u.lane)
@@ -198,9 +190,7 @@ pub record KeptLong (shape : NetShape) (s : PortState) (l : PortLog) : Type 0 wh
 
 -- so there is room for the rings
 long_room : (shape : NetShape) (s : NetLaneState) → IsNetShape shape → LongMemory shape.slots s → MemoryHasRoom shape.slots s
-long_room shape s is memory =
-    let enough = power_room is.slots.0 shape.slots is.slots.1 is.some_slots is.most_slots in
-    record { guest = omega (arith, enough, memory.guest); hub = omega (arith, enough, memory.hub) }
+long_room shape s is memory = grind (arith, power_room)
 
 long_step : (shape : NetShape) → IsNetShape shape → (s : PortState) (l : PortLog) (event : PortEvent) (t : PortState) → KeptLong shape s l → PortStep s event t → KeptLong shape t (after l event)
 long_step shape is s l (OnLane event) t had step =

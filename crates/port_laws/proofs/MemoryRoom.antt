@@ -1,5 +1,5 @@
 -- The room of both memories of a port's lane for their rings.
-use Rattle.std.proofs.Common.{◌≡◌, ℕ, zero, suc, ◌+◌, ◌≤◌, List, ◌++◌, length, drop, sym, subst, arith, length-append, length-drop}
+use Rattle.std.proofs.Common.{◌≡◌, ℕ, zero, suc, ◌+◌, ◌≤◌, List, length, drop, sym, subst, arith, length-append, length-drop}
 use Rattle.std.specs.Prelude.{◌*◌, ◌^◌, take}
 use Rattle.std.proofs.lemmas.List.{length-take}
 use Rattle.vio_bytes.specs.Place.{put_at}
@@ -11,14 +11,7 @@ use Rattle.port_model.specs.PortState.{PortState, before}
 
 -- WRITES
 pub put_longer : (at : ℕ) (piece bytes : List ℕ) → length bytes ≤ length (put_at at piece bytes)
-put_longer at piece bytes =
-    omega (
-      arith,
-      length-append (take at bytes) (piece ++ drop (at + length piece) bytes),
-      length-append piece (drop (at + length piece) bytes),
-      length-take at bytes,
-      length-drop (at + length piece) bytes,
-    )
+put_longer at piece bytes = grind (arith, length-append, length-take, length-drop)
 
 -- BOTH MEMORIES have room for the ring and its buffers
 pub record MemoryHasRoom (slots : ℕ) (s : NetLaneState) : Type 0 where

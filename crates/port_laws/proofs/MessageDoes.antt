@@ -1,5 +1,5 @@
 -- What a message comes to that an end takes in session and doesn't reset itself for: each kind of it once, for all laws.
-use Rattle.std.proofs.Common.{◌≡◌, ℕ, ◌+◌, ◌≤◌, Bool, true, false, Option, Some, None, List, refl, sym, subst, ap, ◌∙◌}
+use Rattle.std.proofs.Common.{◌≡◌, ℕ, ◌+◌, ◌≤◌, Bool, true, false, Option, Some, None, List, refl, sym, arith}
 use Rattle.std.specs.Prelude.{◌%◌, ◌<◌, ◌==◌, ◌&&◌, nat_le, nat_lt, if◌then◌else◌, ⊤}
 use Rattle.std.proofs.lemmas.Bool.{and_parts, eqb-true, leb-true, ltb-true}
 use Rattle.ldc_link.specs.declared.phase.Role.{Role}
@@ -9,13 +9,12 @@ use Rattle.ldc_packet.specs.declared.packet.Subtype.TheVariants.{Ack, Info, Nack
 use Rattle.vio_handshake.specs.declared.handshake.Handshake.{Handshake}
 use Rattle.vio_handshake.specs.declared.handshake.Phase.{Phase}
 use Rattle.vio_handshake.specs.declared.handshake.Phase.TheVariants.{Open}
-use Rattle.vio_handshake.specs.Messages.{nack}
-use Rattle.vio_handshake.specs.Rules.{Faults, Goes, GoesOpen, HandshakeTake, fault_or, handshake_hear, handshake_take, is_declined, row, sid_fault}
+use Rattle.vio_handshake.specs.Rules.{Faults, Goes, GoesOpen, HandshakeTake, fault_or, handshake_take, is_declined, row}
 use Rattle.vio_tag.specs.declared.cause.Cause.{Cause}
 use Rattle.vio_tag.specs.declared.cause.Cause.TheVariants as the_cause
 use Rattle.vio_tag.specs.declared.message.Message.{Message}
 use Rattle.vio_tag.specs.declared.message.MsgBody.{MsgBody}
-use Rattle.vio_tag.specs.declared.message.MsgBody.TheVariants.{DringData, DringReg, Mcast}
+use Rattle.vio_tag.specs.declared.message.MsgBody.TheVariants.{DringData, Mcast}
 use Rattle.channel_model.specs.Ranges.{is_other}
 use Rattle.dring.specs.Slots.{range_length}
 use Rattle.channel_laws.specs.Standing.{is_open_in}
@@ -65,13 +64,11 @@ TakeDoes role s p memory subtype b (Resets cause) = ⊤
 
 does_if : (role : Role) (s : NetEndState) (p : NetSession) (memory : List ℕ) (subtype : Subtype) (b : MsgBody) (test : Bool) (one other : NetTake)
     → (test ≡ true → TakeDoes role s p memory subtype b one) → (test ≡ false → TakeDoes role s p memory subtype b other) → TakeDoes role s p memory subtype b (if test then one else other)
-does_if role s p memory subtype b true one other yes_ no_ = yes_ refl
-does_if role s p memory subtype b false one other yes_ no_ = no_ refl
+does_if role s p memory subtype b test one other yes_ no_ = grind arith
 
 -- what isn't another is the same
 same_if : (a c : ℕ) (test : Bool) → (a == c) ≡ test → (if test then false else true) ≡ false → a ≡ c
-same_if a c true is not = eqb-true a c is
-same_if a c false is not = false_true (sym not)
+same_if a c test is not = grind (arith, eqb-true, false_true)
 
 pub not_other : (a c : ℕ) → is_other a c ≡ false → a ≡ c
 not_other a c not = same_if a c (a == c) refl not
@@ -109,9 +106,7 @@ ack_does role s p memory seq ident start end state =
 
 kept_by : (s : NetEndState) (set count : ℕ) (addresses : List (List ℕ)) (groups : Option (List (List ℕ))) → groups_after set count addresses s.groups ≡ groups
     → IsKept s.groups set count addresses (list_after groups s.groups) (record { subtype = reply_code groups; set = set; count = count; addresses = addresses })
-kept_by s set count addresses groups is =
-    subst (λ (o : Option (List (List ℕ))). IsKept s.groups set count addresses (list_after o s.groups) (record { subtype = reply_code o; set = set; count = count; addresses = addresses })) is
-    (record { groups_are = refl; reply_is = refl })
+kept_by s set count addresses groups is = grind arith
 
 groups_do : (s : NetEndState) (p : NetSession) (memory : List ℕ) (set count : ℕ) (addresses : List (List ℕ)) (groups : Option (List (List ℕ))) → groups_after set count addresses s.groups ≡ groups
     → TakeDoes Responder s p memory Info (Mcast set count addresses) (takes_groups s p memory set count addresses groups)
@@ -126,17 +121,14 @@ told_does s p memory set count addresses =
     (λ telling. record { shut = refl; does = Told set count addresses refl refl refl telling refl refl }) (λ c. tt)
 
 refused_does : (s : NetEndState) (p : NetSession) (memory : List ℕ) (set count : ℕ) (addresses : List (List ℕ)) → TakeDoes Initiator s p memory Nack (Mcast set count addresses) (refused p)
-refused_does s p memory set count addresses =
-    does_if Initiator s p memory Nack (Mcast set count addresses) p.telling (Resets the_cause.Refused) (Resets the_cause.Order) (λ c. tt) (λ c. tt)
+refused_does s p memory set count addresses = grind (arith, does_if)
 
 -- AN OPEN HANDSHAKE takes what it declines alone
 open_row : (role : Role) (h : Handshake) (subtype : Subtype) (sid : ℕ) (b : MsgBody) → row role Open h subtype sid b ≡ Faults the_cause.Order
-open_row Initiator h subtype sid (DringReg ident slots slot_size options count cookies) = refl
-open_row _ h subtype sid _ = refl
+open_row role h subtype sid b = grind arith
 
 pub is_open_phase : (ph : Phase) → is_open_in ph ≡ true → ph ≡ Open
-is_open_phase Open is = refl
-is_open_phase _ is = false_true is
+is_open_phase ph is = grind (arith, false_true)
 
 abbrev Declining : Subtype → MsgBody → HandshakeTake → Type 0
 Declining subtype b (Goes h) = is_declined subtype b ≡ true
@@ -144,20 +136,13 @@ Declining subtype b (GoesOpen h) = ⊥
 Declining subtype b (Faults cause) = ⊤
 
 declining_if : (subtype : Subtype) (b : MsgBody) (test : Bool) (h : Handshake) (rest : HandshakeTake) → is_declined subtype b ≡ test → Declining subtype b rest → Declining subtype b (if test then (Goes h) else rest)
-declining_if subtype b true h rest is declines = is
-declining_if subtype b false h rest is declines = declines
+declining_if subtype b test h rest is declines = grind arith
 
 declining_or : (subtype : Subtype) (b : MsgBody) (fault : Option Cause) (rest : HandshakeTake) → Declining subtype b rest → Declining subtype b (fault_or fault rest)
-declining_or subtype b None rest declines = declines
-declining_or subtype b (Some cause) rest declines = tt
+declining_or subtype b fault rest declines = grind arith
 
 open_declines : (h : Handshake) (message : Message) → is_open_in h.phase ≡ true → Declining message.subtype message.body (handshake_take h message)
-open_declines h message is =
-    let none : row h.role h.phase h message.subtype message.sid message.body ≡ Faults the_cause.Order =
-    ap (λ (ph : Phase). row h.role ph h message.subtype message.sid message.body) (is_open_phase h.phase is) ∙ open_row h.role h message.subtype message.sid message.body in
-    declining_or message.subtype message.body (sid_fault h.sid message.sid) (handshake_hear h message.subtype message.sid message.body)
-    (declining_if message.subtype message.body (is_declined message.subtype message.body) (record h { owed = Some (nack message.sid message.body) })
-    (row h.role h.phase h message.subtype message.sid message.body) refl (subst (Declining message.subtype message.body) (sym none) tt))
+open_declines h message is = grind (arith, is_open_phase, open_row, declining_or, declining_if)
 
 handshake_does : (role : Role) (s : NetEndState) (p : NetSession) (memory : List ℕ) (subtype : Subtype) (b : MsgBody) (take : HandshakeTake) → Declining subtype b take
     → TakeDoes role s p memory subtype b (by_handshake role s memory take)
@@ -180,11 +165,8 @@ in_does role s p memory message subtype b declines = handshake_does role s p mem
 
 sid_does : (role : Role) (s : NetEndState) (p : NetSession) (memory : List ℕ) (subtype : Subtype) (b : MsgBody) (fault : Option Cause) (rest : NetTake) → TakeDoes role s p memory subtype b rest
     → TakeDoes role s p memory subtype b (sid_first fault rest)
-sid_does role s p memory subtype b None rest does = does
-sid_does role s p memory subtype b (Some cause) rest does = tt
+sid_does role s p memory subtype b fault rest does = grind arith
 
 pub message_does : (role : Role) (s : NetEndState) (p : NetSession) (memory : List ℕ) (message : Message) → is_open_in s.handshake.phase ≡ true
     → TakeDoes role s p memory message.subtype message.body (hears_message role s memory (Some p) message)
-message_does role s p memory message is =
-    sid_does role s p memory message.subtype message.body (sid_fault s.handshake.sid message.sid) (in_session role s p memory message message.subtype message.body)
-    (in_does role s p memory message message.subtype message.body (open_declines s.handshake message is))
+message_does role s p memory message is = grind (arith, sid_does, in_does, open_declines)

@@ -76,8 +76,7 @@ shut_owes role s at reach _ held turns stands none up is same = none_some held s
 
 owes_or_open : (role : Role) (s : NetEndState) (at : Seen) (reach : Reach) (held : NetEndState) (turns : List Turn) (session : Option NetSession) → EndStands role (net_core role s) turns
     → s.link.phase ≡ phase.Established → net_holds (port_rule role s at) s reach ≡ Some held → s.session ≡ session → (is_some s.handshake.owed ≡ true) ⊎ (is_some s.session ≡ true)
-owes_or_open role s at reach held turns None stands up holds is = inl (shut_owes role s at reach (port_rule role s at) held turns stands is up refl holds)
-owes_or_open role s at reach held turns (Some p) stands up holds is = inr (ap is_some is)
+owes_or_open role s at reach held turns session stands up holds is = grind (arith, shut_owes)
 
 -- WHAT A GUEST SAID is in parts of 56 bytes but the last ones
 guest_long : (shape : NetShape) (s : PortState) (l : PortLog) → IsNetShape shape → PortCounts shape s l → LongSaid l.transcript.client

@@ -19,7 +19,7 @@ use Rattle.channel_model.specs.Ranges.{wrapped}
 use Rattle.channel_model.specs.Sayings.{heard, said}
 use Rattle.channel_model.specs.TranscriptLog.{TranscriptLog, transcript_of}
 use Rattle.channel_model.specs.WireAt.{IsOwnReset, IsUp, UnforgedReset, WireUnforgedAt}
-use Rattle.channel_model.specs.WireEvent.{ByStep, Giver, giver}
+use Rattle.channel_model.specs.WireEvent.{Giver, giver}
 use Rattle.channel_model.specs.WireLog.{WireLog}
 use Rattle.channel_laws.proofs.ConversingRuns.{hears_next}
 use Rattle.channel_laws.proofs.LinkRefuses.{link_refuses}
@@ -388,8 +388,7 @@ step_resets shape s t l e cause packet lost is had clean step = by_packet packet
 
 -- ALONG EVERY RUN
 by_giver : (by : Giver) (w : WireLog) (cause : Cause) → (w.forged ≡ false → IsOwnReset w cause) → UnforgedReset by w cause
-by_giver ByStep w cause own = own
-by_giver _ w cause own = tt
+by_giver by w cause own = grind arith
 
 unforged_event : (shape : NetShape) (s t : PortState) (l : PortLog) (event : NetEvent) → IsNetShape shape → KeptTalk shape s l → NetLaneStep (before event s).lane event t.lane
     → OfWire (WireUnforgedAt l.wire) (OnLane event)

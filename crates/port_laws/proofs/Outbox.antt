@@ -1,6 +1,6 @@
 -- What an end of a port said and the other hasn't heard, with the message of its session that its link holds: each names the session's rings,
 -- or groups as its end may.
-use Rattle.std.proofs.Common.{Bool, List, None, Option, Some, [], ap, append_assoc, arith, drop, drop_at, false, inl, inr, length, length-append, refl, subst, sym, true, ℕ, ◌++◌, ◌+◌, ◌<◌, ◌^◌, ◌∙◌, ◌∷◌, ◌≡◌, ◌≤◌, ◌⊎◌}
+use Rattle.std.proofs.Common.{Bool, List, None, Option, Some, [], ap, append_assoc, arith, drop, drop_at, length, length-append, refl, sym, true, ℕ, ◌++◌, ◌+◌, ◌<◌, ◌^◌, ◌∙◌, ◌∷◌, ◌≡◌, ◌≤◌, ◌⊎◌}
 use Rattle.std.specs.Prelude.{◌==◌, ⊤, take}
 use Rattle.std.proofs.lemmas.Bool.{eq-eqb, eqb-true}
 use Rattle.std.proofs.lemmas.List.{drop-append-le}
@@ -91,11 +91,7 @@ count-append [] ys = omega arith
 count-append (x ∷ xs) ys = let rest = count-append xs ys in omega (arith, rest)
 
 not_groups : (n : ℕ) → n < 0x0042 → one_if (n == 0x0101) ≡ 0
-not_groups n low = by_test (n == 0x0101) refl
-  where
-    by_test : (b : Bool) → (n == 0x0101) ≡ b → one_if (n == 0x0101) ≡ 0
-    by_test false is = ap one_if is
-    by_test true is = let same : n ≡ 0x0101 = eqb-true n 0x0101 is in absurd (omega (arith, same, low))
+not_groups n low = grind (arith, eqb-true)
 
 pub low_fits : (role : Role) (sid : ℕ) (messages : List (List ℕ)) → EachLow messages → EachFits role sid messages
 low_fits role sid [] low = tt
@@ -146,16 +142,14 @@ range_envelope s n seq ident start end state = refl
 
 range_subtype : (s : Subtype) (n seq ident start end state : ℕ) → subtype_at (range_bytes s n seq ident start end state) ≡ subtype_code s
 unfolding canonical
-range_subtype Info n seq ident start end state = refl
-range_subtype _ n seq ident start end state = refl
+range_subtype s n seq ident start end state = grind arith
 
 range_long : (s : Subtype) (n seq ident start end state : ℕ) → length (range_bytes s n seq ident start end state) ≡ 56
 unfolding canonical
 range_long s n seq ident start end state = omega arith
 
 info_or_ack : (s : Subtype) → (s ≡ Info) ⊎ (s ≡ Ack) → (subtype_code s ≡ 1) ⊎ (subtype_code s ≡ 2)
-info_or_ack s (inl is) = inl (ap subtype_code is)
-info_or_ack s (inr is) = inr (ap subtype_code is)
+info_or_ack s given = grind arith
 
 pub record SaysRange (role : Role) (sid : ℕ) (m : List ℕ) : Type 0 where
   pub fits : MessageFits role sid m
@@ -163,21 +157,7 @@ pub record SaysRange (role : Role) (sid : ℕ) (m : List ℕ) : Type 0 where
 
 pub says_range : (role : Role) (sid : ℕ) (s : Subtype) (n seq ident start end state : ℕ) → (s ≡ Info) ⊎ (s ≡ Ack) → ident ≡ sid → sid < 2 ^ 32
     → SaysRange role sid (range_bytes s n seq ident start end state)
-says_range role sid s n seq ident start end state which is small =
-    let m = range_bytes s n seq ident start end state in
-    let envelope : envelope_at m ≡ 0x0042 = range_envelope s n seq ident start end state in
-    let counted : one_if (is_groups m) ≡ 0 = ap (λ (e : ℕ). one_if (e == 0x0101)) envelope in
-    record {
-      fits = record {
-        range = λ of. record {
-          subtype = subst (λ (c : ℕ). (c ≡ 1) ⊎ (c ≡ 2)) (sym (range_subtype s n seq ident start end state)) (info_or_ack s which);
-          ident = ident_is s n seq ident start end state (omega (arith, is, small)) ∙ is;
-          long = range_long s n seq ident start end state;
-        };
-        groups = λ of. absurd (omega (arith, of, envelope));
-      };
-      none = omega (arith, counted);
-    }
+says_range role sid s n seq ident start end state which is small = grind (arith, range_envelope, range_subtype, info_or_ack, ident_is, range_long)
 
 -- and of groups
 groups_envelope : (s : Subtype) (n set count : ℕ) (addresses : List (List ℕ)) → envelope_at (groups_bytes s n set count addresses) ≡ 0x0101
@@ -186,8 +166,7 @@ groups_envelope s n set count addresses = refl
 
 groups_subtype : (s : Subtype) (n set count : ℕ) (addresses : List (List ℕ)) → subtype_at (groups_bytes s n set count addresses) ≡ subtype_code s
 unfolding canonical
-groups_subtype Info n set count addresses = refl
-groups_subtype _ n set count addresses = refl
+groups_subtype s n set count addresses = grind arith
 
 pub record SaysGroups (role : Role) (sid : ℕ) (m : List ℕ) : Type 0 where
   pub fits : MessageFits role sid m
@@ -195,28 +174,11 @@ pub record SaysGroups (role : Role) (sid : ℕ) (m : List ℕ) : Type 0 where
 
 pub says_groups : (role : Role) (sid : ℕ) (s : Subtype) (n set count : ℕ) (addresses : List (List ℕ)) → subtype_code s ≡ groups_code role → length (groups_bytes s n set count addresses) ≡ 56
     → SaysGroups role sid (groups_bytes s n set count addresses)
-says_groups role sid s n set count addresses code long =
-    let m = groups_bytes s n set count addresses in
-    let envelope : envelope_at m ≡ 0x0101 = groups_envelope s n set count addresses in
-    let counted : one_if (is_groups m) ≡ 1 = ap (λ (e : ℕ). one_if (e == 0x0101)) envelope in
-    record {
-      fits = record {
-        range = λ of. absurd (omega (arith, of, envelope));
-        groups = λ of. record { subtype = groups_subtype s n set count addresses ∙ code; long = long };
-      };
-      one = omega (arith, counted);
-    }
+says_groups role sid s n set count addresses code long = grind (arith, groups_envelope, groups_subtype)
 
 -- THE OUTBOX as its end says and the other hears
 pub unheard_more : (told taken : List (List ℕ)) (m : List ℕ) → IsFront taken told → unheard (told ++ m ∷ []) taken ≡ unheard told taken ++ m ∷ []
-unheard_more told taken m front =
-    let long : length told ≡ length taken + length front.0 = ap length front.1 ∙ length-append taken front.0 in
-    drop-append-le (length taken) told (m ∷ []) (omega (arith, long))
+unheard_more told taken m front = grind (arith, length-append, drop-append-le)
 
 pub first_unheard : (told taken : List (List ℕ)) (m : List ℕ) → IsFront (taken ++ m ∷ []) told → unheard told taken ≡ m ∷ unheard told (taken ++ m ∷ [])
-first_unheard told taken m front =
-    let all : told ≡ taken ++ (m ∷ front.0) = front.1 ∙ append_assoc taken (m ∷ []) front.0 in
-    let here : unheard told taken ≡ m ∷ front.0 = ap (drop (length taken)) all ∙ drop_at taken (m ∷ front.0) (length taken) refl in
-    let there : unheard told (taken ++ m ∷ []) ≡ front.0 =
-    ap (drop (length (taken ++ m ∷ []))) front.1 ∙ drop_at (taken ++ m ∷ []) front.0 (length (taken ++ m ∷ [])) refl in
-    here ∙ ap (λ (xs : List (List ℕ)). m ∷ xs) (sym there)
+first_unheard told taken m front = grind (arith, append_assoc, drop_at)

@@ -1,5 +1,5 @@
 -- What a handshake owes says nothing of a session of a port, along every run.
-use Rattle.std.proofs.Common.{◌≡◌, ℕ, Bool, true, Option, Some, None, List, inl, inr, refl, sym, subst}
+use Rattle.std.proofs.Common.{◌≡◌, ℕ, Bool, true, Option, Some, None, List, inl, inr, refl, sym, subst, arith}
 use Rattle.std.specs.Prelude.{⊤}
 use Rattle.runs.specs.Run.{Run}
 use Rattle.ldc_link.specs.declared.phase.Role.{Role}
@@ -11,17 +11,17 @@ use Rattle.ldc_queue.specs.Transcript.{Turn}
 use Rattle.vio_handshake.specs.declared.handshake.Handshake.{Handshake}
 use Rattle.vio_handshake.specs.declared.handshake.Phase.{Phase}
 use Rattle.vio_handshake.specs.declared.session.Offer.{Offer}
-use Rattle.vio_handshake.specs.Rules.{handshake_sent, is_declined, opens_by_put}
+use Rattle.vio_handshake.specs.Rules.{is_declined}
 use Rattle.vio_handshake.specs.State.{begun, joined_handshake}
 use Rattle.vio_tag.specs.declared.message.Message.{Message}
 use Rattle.vio_tag.specs.declared.message.MsgBody.{MsgBody}
-use Rattle.vio_tag.specs.declared.message.MsgBody.TheVariants.{DringData, DringUnreg, Mcast, Plain}
+use Rattle.vio_tag.specs.declared.message.MsgBody.TheVariants.{DringData, Mcast, Plain}
 use Rattle.vio_tag.specs.Form.{HasForm, IsWellFormed}
 use Rattle.vio_tag.specs.Spelling.{canonical}
-use Rattle.channel_laws.proofs.EndCases.{NoMessage, PutControl, PutHandshake, PutMore, PutOwn, PutReady, PutWhat, Rises, TookHandshake, TookOwn, TookWhat, end_put, end_took}
+use Rattle.channel_laws.proofs.EndCases.{NoMessage, PutWhat, Rises, TookHandshake, TookOwn, TookWhat, end_put, end_took}
 use Rattle.channel_laws.proofs.EndResting.{held_handshake}
 use Rattle.channel_laws.proofs.EndStanding.{fresh_end_stands, held_stands, stands_step}
-use Rattle.channel_laws.proofs.HandshakeCases.{AttributesAgreed, AttributesAsked, AttributesRefused, Declined, OneRingAgreed, Opened, Opens, Owes as OwesNothing, OwnReadyFollows, PeerAgreed, ReadyAgreed, ReadyAsked, ReadyFollows, RingAgreed, RingAsked, RingFollows, RingRefused, RowSent, RowTaken, VersionAgreed, VersionAsked, VersionRefused, row_sent}
+use Rattle.channel_laws.proofs.HandshakeCases.{RowSent, RowTaken, row_sent}
 use Rattle.channel_laws.proofs.Lifting.{EndsAll, ends_run}
 use Rattle.channel_laws.specs.EndCore.{Begins, EndCore, EndMove, Fails, Hears, Renews, Says as SaysPacket, Stays, Waits}
 use Rattle.channel_laws.specs.EndStep.{EndSays, EndStep}
@@ -59,40 +59,19 @@ owed_other phase message may none = body_other phase message.subtype message.sid
 
 -- EACH MESSAGE that a handshake takes or puts keeps that
 declined_groups : (s : Subtype) (b : MsgBody) → HasForm b → is_declined s b ≡ true → NoGroups b
-declined_groups Info (DringUnreg ident) form is = tt
-declined_groups Info (Plain envelope) form is = form
-declined_groups s b form is = false_true is
+declined_groups s b form is = grind (arith, false_true)
 
 abbrev Owes : Handshake → Type 0
 Owes h = OwesNoGroups h.owed
 
 row_owes : (h t : Handshake) (message : Message) (opens : Bool) → IsWellFormed message → Owes h → RowTaken h message t opens → Owes t
-row_owes h t message opens form owes (Declined test goes shut) = subst Owes (sym goes) (declined_groups message.subtype message.body form test)
-row_owes h t message opens form owes (VersionAgreed minor class r at is low goes shut) = subst Owes (sym goes) tt
-row_owes h t message opens form owes (VersionAsked minor class r at is goes shut) = subst Owes (sym goes) tt
-row_owes h t message opens form owes (VersionRefused major minor class other low r at is goes shut) = subst Owes (sym goes) tt
-row_owes h t message opens form owes (AttributesAgreed bytes r at is test goes shut) = subst Owes (sym goes) tt
-row_owes h t message opens form owes (AttributesAsked bytes r at is test goes shut) = subst Owes (sym goes) tt
-row_owes h t message opens form owes (AttributesRefused bytes r at is goes shut) = subst Owes (sym goes) tt
-row_owes h t message opens form owes (RingAgreed ident slots slot_size options count cookies r at both is goes shut) = subst Owes (sym goes) owes
-row_owes h t message opens form owes (OneRingAgreed ident slots slot_size options count cookies r at one is goes shut) = subst Owes (sym goes) tt
-row_owes h t message opens form owes (PeerAgreed ident slots slot_size options count cookies r at is goes shut) = subst Owes (sym goes) owes
-row_owes h t message opens form owes (RingAsked ident slots slot_size options count cookies at is test goes shut) = subst Owes (sym goes) tt
-row_owes h t message opens form owes (RingRefused ident slots slot_size options count cookies at is goes shut) = subst Owes (sym goes) tt
-row_owes h t message opens form owes (ReadyAgreed r at is goes shut) = subst Owes (sym goes) owes
-row_owes h t message opens form owes (ReadyAsked at is goes shut) = subst Owes (sym goes) tt
-row_owes h t message opens form owes (Opened r at is goes shut) = subst Owes (sym goes) owes
+row_owes h t message opens form owes given = grind (arith, declined_groups)
 
 sent_owes : (h t : Handshake) (opens : Bool) → RowSent h t opens → Owes t
-sent_owes h t opens (ReadyFollows r at goes shut) = subst Owes (sym goes) tt
-sent_owes h t opens (RingFollows r at goes shut) = subst Owes (sym goes) tt
-sent_owes h t opens (OwnReadyFollows r at goes shut) = subst Owes (sym goes) tt
-sent_owes h t opens (Opens r at goes shut) = subst Owes (sym goes) tt
-sent_owes h t opens (OwesNothing none goes shut) = subst Owes (sym goes) tt
+sent_owes h t opens given = grind arith
 
 begun_owes : (role : Role) (h : Handshake) → Owes (begun role (joined_handshake h))
-begun_owes Initiator h = tt
-begun_owes Responder h = tt
+begun_owes role h = grind arith
 
 took_owes : (role : Role) (c t : EndCore) (turns : List Turn) (packet : List ℕ) (opens : Bool) (now : LinkState) → Owes c.handshake → TookWhat role c turns packet opens t now → Owes t.handshake
 took_owes role c t turns packet opens now owes (NoMessage up heard same shut is_open) = subst Owes (sym same) owes
@@ -101,12 +80,7 @@ took_owes role c t turns packet opens now owes (TookOwn message took own same sh
 took_owes role c t turns packet opens now owes (TookHandshake message took handshake is_open) = row_owes c.handshake t.handshake message opens took.form owes handshake.row
 
 put_owes : (role : Role) (held t : EndCore) (turns : List Turn) (packet : List ℕ) (opens : Bool) → Owes held.handshake → PutWhat role held turns packet opens t → Owes t.handshake
-put_owes role held t turns packet opens owes (PutControl next gone link says same shut is_open) = subst Owes (sym same) owes
-put_owes role held t turns packet opens owes (PutReady r at is link says same shut is_open) = subst Owes (sym same) (begun_owes held.handshake.role held.handshake)
-put_owes role held t turns packet opens owes (PutMore at link says same shut is_open) = subst Owes (sym same) owes
-put_owes role held t turns packet opens owes (PutOwn own at link says same shut is_open) = subst Owes (sym same) owes
-put_owes role held t turns packet opens owes (PutHandshake own at link says same opens_is is_open) =
-    subst Owes (sym same) (sent_owes held.handshake (handshake_sent held.handshake) (opens_by_put held.handshake.role held.handshake.phase) (row_sent held.handshake))
+put_owes role held t turns packet opens owes given = grind (arith, begun_owes, sent_owes, row_sent)
 
 pub record EndOwes (role : Role) (c : EndCore) (turns : List Turn) : Type 0 where
   pub stands : EndStands role c turns

@@ -23,8 +23,7 @@ range_bytes s n seq ident start end state = canonical (record { subtype = s; sid
 
 pub range_spoken_as : (s : Subtype) (n seq ident start end state : ℕ) → spoken (range_bytes s n seq ident start end state) ≡ range_spoken (subtype_code s)
 unfolding canonical
-range_spoken_as Info n seq ident start end state = refl
-range_spoken_as _ n seq ident start end state = refl
+range_spoken_as s n seq ident start end state = grind arith
 
 -- its fields are read back, whatever the sid and the ident are
 simple : Subtype → ℕ → ℕ → ℕ → ℕ → Message
@@ -74,8 +73,7 @@ groups_bytes s n set count addresses = canonical (record { subtype = s; sid = n;
 
 pub groups_spoken_as : (s : Subtype) (n set count : ℕ) (addresses : List (List ℕ)) → spoken (groups_bytes s n set count addresses) ≡ groups_spoken (subtype_code s)
 unfolding canonical
-groups_spoken_as Info n set count addresses = refl
-groups_spoken_as _ n set count addresses = refl
+groups_spoken_as s n set count addresses = grind arith
 
 -- an answer has its fields, of which two are bytes
 subtype_reads : (s : Subtype) (n set count : ℕ) (addresses : List (List ℕ)) → subtype_of (groups_bytes s n set count addresses) ≡ subtype_code s
@@ -136,10 +134,7 @@ spelled groups are =
     (omega arith, (omega arith, omega (arith, are.few), seven_long 7 groups, seven_six 7 groups are.addresses))
 
 pub membership_says : (n : ℕ) (groups : List (List ℕ)) → AreGroups groups → (set_of (canonical (membership n groups)) ≡ 1) × (count_of (canonical (membership n groups)) ≤ 7)
-membership_says n groups are =
-    let spells = spelled groups are in
-    let count : count_of (canonical (membership n groups)) ≡ length groups = same_count n (length groups) (seven 7 groups) ∙ sym spells.body.1 in
-    (same_set n (length groups) (seven 7 groups) ∙ sym spells.body.0, omega (arith, count, are.few))
+membership_says n groups are = grind (arith, spelled, same_count, same_set)
 
 pub membership_reads : (n : ℕ) (groups : List (List ℕ)) → AreGroups groups → addresses_of (canonical (membership n groups)) ≡ groups
 membership_reads n groups are =

@@ -1,6 +1,6 @@
 -- Two ends with rings both ways, which nobody forged: how many messages an end has said and heard by whether its session is open, and that
 -- its peer's is open where it heard more than the handshake.
-use Rattle.std.proofs.Common.{◌≡◌, ◌≢◌, ℕ, ◌+◌, ◌≤◌, inl, inr, Bool, true, false, List, [], ◌++◌, length, refl, sym, ap, ◌∙◌, subst, arith, length-append}
+use Rattle.std.proofs.Common.{◌≡◌, ◌≢◌, ℕ, ◌+◌, ◌≤◌, inl, inr, Bool, true, false, List, [], ◌++◌, length, refl, sym, ap, ◌∙◌, arith, length-append}
 use Rattle.ldc_link.specs.declared.phase.Role.{Role}
 use Rattle.ldc_link.specs.declared.phase.Role.TheVariants.{Initiator, Responder}
 use Rattle.ldc_link.specs.LinkState.{is_up}
@@ -9,7 +9,7 @@ use Rattle.ldc_queue.specs.declared.end.ChannelState.TheVariants.{Up}
 use Rattle.ldc_queue.specs.Transcript.{Turn}
 use Rattle.vio_handshake.specs.declared.handshake.Handshake.{Handshake}
 use Rattle.vio_handshake.specs.declared.session.Offer.{Offer}
-use Rattle.vio_handshake.proofs.Places.{AllSaid, Deal, Place, VersionSaid}
+use Rattle.vio_handshake.proofs.Places.{AllSaid, Deal, Place}
 use Rattle.channel_model.specs.Sayings.{heard, said}
 use Rattle.channel_laws.proofs.ConversingRuns.{HeardFrom, hears_now}
 use Rattle.channel_laws.proofs.EndStanding.{open_up}
@@ -27,18 +27,10 @@ most Responder = 6
 
 few_said : (d : Deal) (r : Role) (n : Place) → n ≢ AllSaid → length (said_at true d r n) ≤ most r
 unfolding most
-few_said d Initiator VersionSaid far = omega arith
-few_said d Responder VersionSaid far = omega arith
-few_said d r AllSaid far = absurd (far refl)
-few_said d Initiator _ far = omega arith
-few_said d Responder _ far = omega arith
+few_said d r n far = grind arith
 
 pub six_said : (d : Deal) (r : Role) (n : Place) → n ≡ AllSaid → length (said_at true d r n) ≡ 6
-six_said d r n last = ap (λ (m : Place). length (said_at true d r m)) last ∙ six r
-  where
-    six : (x : Role) → length (said_at true d x AllSaid) ≡ 6
-    six Initiator = refl
-    six Responder = refl
+six_said d r n last = grind (arith, said_at)
 
 -- so many heard show that the peer said all
 pub least : Role → ℕ
@@ -47,13 +39,11 @@ least Responder = 6
 
 pub least_six : (r : Role) → 6 ≤ least r
 unfolding least
-least_six Initiator = omega arith
-least_six Responder = omega arith
+least_six r = grind arith
 
 pub least_seven : (r : Role) → least r ≤ 7
 unfolding least
-least_seven Initiator = omega arith
-least_seven Responder = omega arith
+least_seven r = grind arith
 
 pub least_heard : {n : ℕ} → 6 ≤ n → least Responder ≤ n
 unfolding least
@@ -61,8 +51,7 @@ least_heard {n} six = six
 
 more_than : (r : Role) → most (other r) + 1 ≤ least r
 unfolding least most
-more_than Initiator = omega arith
-more_than Responder = omega arith
+more_than r = grind arith
 
 -- TWO ENDS, from the side of one
 pub record Talks (asks answers : Offer) (role : Role) (s : Sides) : Type 0 where
@@ -83,13 +72,11 @@ none_long xs is = ap length is
 -- where its handshake stands
 pub mine_at : (asks answers : Offer) (role : Role) (s : Sides) → (talks : Talks asks answers role s) → s.mine.state ≡ Up → is_up s.mine.core.link ≡ true
     → AtPlace true (deal asks answers talks.meets.handshakes.sid) role s.mine.core.handshake s.mine.turns
-mine_at asks answers role s talks up link =
-    subst (λ (b : Bool). AtPlace b (deal asks answers talks.meets.handshakes.sid) role s.mine.core.handshake s.mine.turns) talks.both (talks.meets.handshakes.mine up link)
+mine_at asks answers role s talks up link = grind (arith, deal)
 
 pub theirs_at : (asks answers : Offer) (role : Role) (s : Sides) → (talks : Talks asks answers role s) → s.theirs.state ≡ Up → is_up s.theirs.core.link ≡ true
     → AtPlace true (deal asks answers talks.meets.handshakes.sid) (other role) s.theirs.core.handshake s.theirs.turns
-theirs_at asks answers role s talks up link =
-    subst (λ (b : Bool). AtPlace b (deal asks answers talks.meets.handshakes.sid) (other role) s.theirs.core.handshake s.theirs.turns) talks.both (talks.meets.handshakes.theirs up link)
+theirs_at asks answers role s talks up link = grind (arith, deal)
 
 -- THE ROW of what the initiator says, as an end of this role has it
 abbrev pub row : Role → List Turn → List (List ℕ)
@@ -102,12 +89,10 @@ record RowAt (d : Deal) (n : Place) (messages : List (List ℕ)) : Type 0 where
   only : n ≢ AllSaid → more ≡ []
 
 row_at : (d : Deal) (r : Role) (h : Handshake) (turns : List Turn) (at : AtPlace true d r h turns) → RowAt d at.place (row r turns)
-row_at d Initiator h turns at = record { more = at.mine; is = at.said_is; only = λ far. (at.only far).0 }
-row_at d Responder h turns at = record { more = at.theirs; is = at.heard_is; only = λ far. (at.only far).1 }
+row_at d r h turns at = grind arith
 
 row_none : (r : Role) (turns : List Turn) → said turns ≡ [] → heard turns ≡ [] → length (row r turns) ≡ 0
-row_none Initiator turns said_none heard_none = none_long (said turns) said_none
-row_none Responder turns said_none heard_none = none_long (heard turns) heard_none
+row_none r turns said_none heard_none = grind (arith, none_long)
 
 -- in session it has all six of the row, and heard all six of its peer
 pub record InAll (r : Role) (turns : List Turn) : Type 0 where
@@ -128,21 +113,7 @@ open_long asks answers role s talks up opened =
 -- before, at most five of the row
 pub closed_short : (asks answers : Offer) (role : Role) (s : Sides) → Talks asks answers role s → s.mine.state ≡ Up → s.mine.core.is_open ≡ false → length (row role s.mine.turns) ≤ 5
 unfolding most
-closed_short asks answers role s talks up shut = by_link (is_up s.mine.core.link) refl
-  where
-    by_link : (b : Bool) → is_up s.mine.core.link ≡ b → length (row role s.mine.turns) ≤ 5
-    by_link false down =
-        let below = talks.mine.below down in omega (arith, row_none role s.mine.turns below.said_none below.heard_none)
-    by_link true link =
-        let d = deal asks answers talks.meets.handshakes.sid in
-        let at = mine_at asks answers role s talks up link in
-        let there = row_at d role s.mine.core.handshake s.mine.turns at in
-        elim (last_or at.place) [
-          | inl last ↦ true_false (sym (place_open true d role s.mine.core s.mine.turns talks.mine at last) ∙ shut)
-          | inr far ↦ (
-              let few : length (said_at true d Initiator at.place) ≤ 5 = few_said d Initiator at.place far in
-              omega (arith, whole (said_at true d Initiator at.place) there.more (row role s.mine.turns) there.is (there.only far), few))
-        ]
+closed_short asks answers role s talks up shut = grind (arith, row_none, deal, mine_at, row_at, last_or, true_false, place_open, said_at, few_said, whole)
 
 -- THE PEER'S SESSION is open where an end in session heard so many
 pub record PeerIn (s : Sides) : Type 0 where
@@ -190,14 +161,4 @@ peer_open asks answers role s talks up many = by_state s.theirs.state refl
 
 -- an end in session has a peer that is up
 pub peer_is_up : (asks answers : Offer) (role : Role) (s : Sides) → Talks asks answers role s → s.mine.state ≡ Up → 1 ≤ length (heard s.mine.turns) → s.theirs.state ≡ Up
-peer_is_up asks answers role s talks up some = by_state s.theirs.state refl
-  where
-    hears : HeardFrom s s.mine.turns
-    hears = hears_now role s talks.meets.converse up
-
-    never : (s.theirs.state ≡ Up → ⊥) → s.theirs.state ≡ Up
-    never not = absurd (omega (arith, some, none_long (heard s.mine.turns) (hears.none not)))
-
-    by_state : (x : ChannelState) → s.theirs.state ≡ x → s.theirs.state ≡ Up
-    by_state Up is = is
-    by_state x is = never (λ now. let wrong : x ≡ Up = sym is ∙ now in cc wrong)
+peer_is_up asks answers role s talks up some = grind (arith, hears_now, none_long)

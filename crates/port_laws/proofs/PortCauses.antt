@@ -1,44 +1,37 @@
 -- An end of a port in session resets itself for the first cause that a packet has, and takes the packet where it has none.
-use Rattle.std.proofs.Common.{◌≡◌, ℕ, Bool, true, false, Option, Some, None, List, refl, sym, subst, ap, ◌∙◌, inr}
-use Rattle.std.specs.Prelude.{Result, Ok, Err, ◌+◌, ◌%◌, ◌&&◌, is_some, nat_le, nat_lt, if◌then◌else◌}
+use Rattle.std.proofs.Common.{◌≡◌, ℕ, Bool, true, false, Option, Some, None, List, refl, sym, subst, ap, ◌∙◌, arith}
+use Rattle.std.specs.Prelude.{Result, Ok, Err, is_some, if◌then◌else◌}
 use Rattle.cookie_copy.specs.Reach.{Reach}
 use Rattle.runs.specs.Lawful.{log_of}
 use Rattle.runs.specs.Run.{Run}
 use Rattle.ldc_link.specs.declared.phase.Role.{Role}
 use Rattle.ldc_link.specs.declared.phase.Role.TheVariants.{Initiator, Responder}
-use Rattle.ldc_link.specs.LinkState.{LinkState, cleared, is_up}
-use Rattle.ldc_link.specs.Taking.{Heard, LinkTake, Unheard}
+use Rattle.ldc_link.specs.LinkState.{LinkState, is_up}
+use Rattle.ldc_link.specs.Taking.{LinkTake}
 use Rattle.ldc_packet.specs.declared.packet.Subtype.{Subtype}
-use Rattle.ldc_packet.specs.declared.packet.Subtype.TheVariants.{Ack, Info, Nack}
 use Rattle.ldc_queue.specs.declared.end.End.{End}
 use Rattle.ldc_queue.specs.declared.end.End.TheVariants.{A, B}
 use Rattle.ldc_queue.specs.Transcript.{Turn}
-use Rattle.vio_handshake.specs.declared.handshake.Handshake.{Handshake}
 use Rattle.vio_handshake.specs.declared.handshake.Phase.TheVariants.{Open}
 use Rattle.vio_handshake.specs.declared.session.Offer.{Offer}
-use Rattle.vio_handshake.specs.Rules.{GoesOpen, HandshakeTake, handshake_take, is_declined, sid_fault}
+use Rattle.vio_handshake.specs.Rules.{HandshakeTake, handshake_take, is_declined, sid_fault}
 use Rattle.vio_tag.specs.declared.cause.Cause.{Cause}
 use Rattle.vio_tag.specs.declared.cause.Cause.TheVariants as the_cause
 use Rattle.vio_tag.specs.declared.message.Message.{Message}
 use Rattle.vio_tag.specs.declared.message.MsgBody.{MsgBody}
-use Rattle.vio_tag.specs.declared.message.MsgBody.TheVariants.{DringData, Mcast}
 use Rattle.vio_tag.specs.declared.message.TagFault.{TagFault}
-use Rattle.channel_model.specs.Ranges.{is_other}
-use Rattle.dring.specs.Slots.{range_length}
 use Rattle.channel_model.specs.TranscriptLog.{TranscriptLog, transcript_of}
 use Rattle.channel_laws.proofs.CoreLaws.{stands_a, stands_b}
 use Rattle.channel_laws.proofs.EndCases.{stays_risen}
 use Rattle.channel_laws.proofs.EndStanding.{open_up, opened_phase}
 use Rattle.channel_laws.proofs.PacketCauses.{run_judges, take_refused}
-use Rattle.channel_laws.specs.EndStep.{risen_at}
 use Rattle.channel_laws.specs.LaneCore.{CoreEvent, CoreStep, transcript_behind}
 use Rattle.channel_laws.specs.PacketCauses.{Judges, LinkJudged, WholeJudged, fault_first, judged, judged_body, refused_by}
 use Rattle.channel_laws.specs.Standing.{EndStands}
-use Rattle.port_model.specs.Groups.{groups_after}
 use Rattle.port_model.specs.NetEndRule.{Fetches, NetRule, Takes, port_rule}
 use Rattle.port_model.specs.NetEndState.{NetEndState, NetSession}
 use Rattle.port_model.specs.NetEndStep.{NetFails, Reset, Took}
-use Rattle.port_model.specs.NetEndTaking.{GoesOn, HearsLink, HearsWhole, NetTake, NetTakes, Resets, by_handshake, ends_outside, first_undone, hears_message, in_session, opens_by_take, reads, sid_first, takes_ack, takes_done, takes_groups, takes_info}
+use Rattle.port_model.specs.NetEndTaking.{GoesOn, HearsLink, HearsWhole, NetTake, NetTakes, Resets, by_handshake, hears_message, in_session, opens_by_take, reads, sid_first, takes_ack, takes_done, takes_groups, takes_info}
 use Rattle.port_model.specs.NetEvent.{NetEvent, Steps}
 use Rattle.port_model.specs.NetLaneState.{IsNetShape, NetLaneState, NetShape, fresh_net, memory_of, net_end, reach_of, role_at, seen_at}
 use Rattle.port_model.specs.NetLaneStep.{NetLaneStep}
@@ -59,88 +52,47 @@ cause_in (GoesOn s opens memory) = None
 cause_in (Resets cause) = Some cause
 
 cause_if : (b : Bool) (one other : NetTake) (x y : Option Cause) → cause_in one ≡ x → cause_in other ≡ y → cause_in (if b then one else other) ≡ (if b then x else y)
-cause_if true one other x y is rest = is
-cause_if false one other x y is rest = rest
+cause_if b one other x y is rest = grind arith
 
 opens_none : (role : Role) (s : NetEndState) (memory : List ℕ) → cause_in (opens_by_take role s memory) ≡ None
-opens_none Initiator s memory = refl
-opens_none Responder s memory = refl
+opens_none role s memory = grind arith
 
 handshake_cause : (role : Role) (s : NetEndState) (memory : List ℕ) (take : HandshakeTake) → cause_in (by_handshake role s memory take) ≡ refused_by take
-handshake_cause role s memory (GoesOpen h) = opens_none role (record s { handshake = h }) memory
-handshake_cause role s memory _ = refl
+handshake_cause role s memory take = grind (arith, opens_none)
 
 info_judged : (s : NetEndState) (m : LinkState) (p : NetSession) (memory : List ℕ) (seq ident start end : ℕ)
     → cause_in (takes_info (record s { link = m }) p memory seq ident start end) ≡ info_cause s p seq ident start end
-info_judged s m p memory seq ident start end =
-    cause_if (is_other s.handshake.draft.ident_peer ident) _ _ _ _ refl
-    (cause_if (is_other p.seq seq) _ _ _ _ refl
-    (cause_if (is_other p.place start) _ _ _ _ refl
-    (cause_if (ends_outside s end) _ _ _ _ refl refl)))
+info_judged s m p memory seq ident start end = grind (arith, cause_if)
 
 done_cause : (s : NetEndState) (p : NetSession) (memory : List ℕ) (count : ℕ) (fault : Option Cause) → cause_in (takes_done s p memory count fault) ≡ fault
-done_cause s p memory count None = refl
-done_cause s p memory count (Some cause) = refl
+done_cause s p memory count fault = grind arith
 
 ack_judged : (s : NetEndState) (m : LinkState) (p : NetSession) (memory : List ℕ) (ident start end : ℕ)
     → cause_in (takes_ack (record s { link = m }) p memory ident start end) ≡ ack_cause s p memory ident start end
-ack_judged s m p memory ident start end =
-    cause_if (is_other s.handshake.draft.ident_own ident) _ _ _ _ refl
-    (cause_if (is_other (p.seen % s.slots) start) _ _ _ _ refl
-    (cause_if (nat_lt end s.slots && nat_le (p.seen + range_length s.slots start end) p.published) _ _ _ _
-    (done_cause (record s { link = m }) p memory (range_length s.slots start end) (first_undone s.slots memory p.seen (range_length s.slots start end))) refl))
+ack_judged s m p memory ident start end = grind (arith, cause_if, done_cause)
 
 groups_none : (s : NetEndState) (p : NetSession) (memory : List ℕ) (set count : ℕ) (addresses : List (List ℕ)) (groups : Option (List (List ℕ)))
     → cause_in (takes_groups s p memory set count addresses groups) ≡ None
-groups_none s p memory set count addresses None = refl
-groups_none s p memory set count addresses (Some groups) = refl
+groups_none s p memory set count addresses groups = grind arith
 
 -- A MESSAGE: one of rings or groups, or another, which is the handshake's
 module _ (s : NetEndState) (m : LinkState) (p : NetSession) (memory : List ℕ) (message : Message) (open_now : s.handshake.phase ≡ Open) (sound : sid_fault s.handshake.sid message.sid ≡ None) where
   own_is : (role : Role) (subtype : Subtype) (body : MsgBody) → message.subtype ≡ subtype → message.body ≡ body → own_cause role s p memory message ≡ session_cause role s p memory subtype body
-  own_is role subtype body subtype_is body_is =
-      ap (λ (x : Subtype). session_cause role s p memory x message.body) subtype_is ∙ ap (session_cause role s p memory subtype) body_is
+  own_is role subtype body subtype_is body_is = grind arith
 
   another : (role : Role) → cause_in (by_handshake role (record s { link = m }) memory (handshake_take s.handshake message)) ≡ refused_by (handshake_take s.handshake message)
   another role = handshake_cause role (record s { link = m }) memory (handshake_take s.handshake message)
 
   out_of_order : (role : Role) (subtype : Subtype) (body : MsgBody) → message.subtype ≡ subtype → message.body ≡ body → is_declined subtype body ≡ false
       → cause_in (by_handshake role (record s { link = m }) memory (handshake_take s.handshake message)) ≡ Some the_cause.Order
-  out_of_order role subtype body subtype_is body_is not =
-      another role ∙ take_refused s.handshake message open_now sound
-      ∙ ap (λ (x : Subtype). if is_declined x message.body then None else Some the_cause.Order) subtype_is
-      ∙ ap (λ (b : MsgBody). if is_declined subtype b then None else Some the_cause.Order) body_is
-      ∙ ap (λ (b : Bool). if b then None else Some the_cause.Order) not
+  out_of_order role subtype body subtype_is body_is not = grind (arith, another, take_refused)
 
   session_judged : (role : Role) (subtype : Subtype) (body : MsgBody) → message.subtype ≡ subtype → message.body ≡ body
       → cause_in (in_session role (record s { link = m }) p memory message subtype body) ≡ judged_body (own_cause role s p memory) s.handshake message body
-  session_judged Initiator Info (DringData seq ident start end state) one two =
-      info_judged s m p memory seq ident start end ∙ sym (own_is Initiator Info (DringData seq ident start end state) one two)
-  session_judged Responder Info (DringData seq ident start end state) one two =
-      info_judged s m p memory seq ident start end ∙ sym (own_is Responder Info (DringData seq ident start end state) one two)
-  session_judged Initiator Ack (DringData seq ident start end state) one two =
-      ack_judged s m p memory ident start end ∙ sym (own_is Initiator Ack (DringData seq ident start end state) one two)
-  session_judged Responder Ack (DringData seq ident start end state) one two =
-      ack_judged s m p memory ident start end ∙ sym (own_is Responder Ack (DringData seq ident start end state) one two)
-  session_judged Initiator Nack (DringData seq ident start end state) one two = sym (own_is Initiator Nack (DringData seq ident start end state) one two)
-  session_judged Responder Nack (DringData seq ident start end state) one two = sym (own_is Responder Nack (DringData seq ident start end state) one two)
-  session_judged Responder Info (Mcast set count addresses) one two =
-      groups_none (record s { link = m }) p memory set count addresses (groups_after set count addresses s.groups) ∙ sym (own_is Responder Info (Mcast set count addresses) one two)
-  session_judged Initiator Ack (Mcast set count addresses) one two =
-      cause_if p.telling _ _ _ _ refl refl ∙ sym (own_is Initiator Ack (Mcast set count addresses) one two)
-  session_judged Initiator Nack (Mcast set count addresses) one two =
-      cause_if p.telling _ _ _ _ refl refl ∙ sym (own_is Initiator Nack (Mcast set count addresses) one two)
-  session_judged Initiator Info (Mcast set count addresses) one two =
-      out_of_order Initiator Info (Mcast set count addresses) one two refl ∙ sym (own_is Initiator Info (Mcast set count addresses) one two)
-  session_judged Responder Ack (Mcast set count addresses) one two =
-      out_of_order Responder Ack (Mcast set count addresses) one two refl ∙ sym (own_is Responder Ack (Mcast set count addresses) one two)
-  session_judged Responder Nack (Mcast set count addresses) one two =
-      out_of_order Responder Nack (Mcast set count addresses) one two refl ∙ sym (own_is Responder Nack (Mcast set count addresses) one two)
-  session_judged role _ _ one two = another role
+  session_judged role subtype body one two = grind (arith, info_judged, own_is, ack_judged, groups_none, cause_if, out_of_order, another)
 
 sid_judged : (fault : Option Cause) (rest : NetTake) (answer : Option Cause) → (fault ≡ None → cause_in rest ≡ answer) → cause_in (sid_first fault rest) ≡ fault_first fault answer
-sid_judged None rest answer same = same refl
-sid_judged (Some cause) rest answer same = refl
+sid_judged fault rest answer same = grind arith
 
 reads_judged : (role : Role) (s : NetEndState) (m : LinkState) (p : NetSession) (memory : List ℕ) (d : Result Message TagFault) → s.session ≡ Some p → s.handshake.phase ≡ Open
     → cause_in (reads role (record s { link = m }) memory d) ≡ judged (own_cause role s p memory) s.handshake d
@@ -154,18 +106,11 @@ reads_judged role s m p memory (Ok message) session open_now =
 -- WHAT AN END MAKES of a packet
 whole_judges : (role : Role) (s : NetEndState) (k : LinkState) (p : NetSession) (memory : List ℕ) (whole : Option (List ℕ)) (take : NetTake) → s.session ≡ Some p → s.handshake.phase ≡ Open
     → HearsWhole role (record s { link = k }) memory whole take → WholeJudged (own_cause role s p memory) s.handshake whole (cause_in take)
-whole_judges role s k p memory None take session open_now is = ap cause_in is
-whole_judges role s k p memory (Some bytes) take session open_now hears =
-    (hears.0, hears.1, ap cause_in hears.2 ∙ reads_judged role s (cleared k) p memory hears.0 session open_now)
+whole_judges role s k p memory whole take session open_now is = grind (arith, reads_judged)
 
 link_judges : (role : Role) (begun : Bool) (s : NetEndState) (p : NetSession) (memory : List ℕ) (link : LinkTake) (take : NetTake) → s.session ≡ Some p → s.handshake.phase ≡ Open → is_up s.link ≡ true
     → HearsLink role s memory link take → LinkJudged (own_cause role s p memory) role (net_core_at role begun s) link (cause_in take)
-link_judges role begun s p memory (Unheard why) take session open_now up is = ap cause_in is
-link_judges role begun s p memory (Heard k) take session open_now up hears =
-    let same : risen_at role s.link k s.handshake ≡ s.handshake = stays_risen role s.link k s.handshake (inr up) in
-    subst (λ (h : Handshake). WholeJudged (own_cause role s p memory) h k.whole (cause_in take)) (sym same)
-    (whole_judges role s k p memory k.whole take session open_now
-    (subst (λ (h : Handshake). HearsWhole role (record s { link = k; handshake = h }) memory k.whole take) (risen_same role s.link k s.handshake ∙ same) hears))
+link_judges role begun s p memory link take session open_now up is = grind (arith, stays_risen, whole_judges, risen_same)
 
 end_judges : (role : Role) (begun : Bool) (s : NetEndState) (p : NetSession) (turns : List Turn) (memory packet : List ℕ) (take : NetTake) → EndStands role (net_core_at role begun s) turns
     → s.session ≡ Some p → NetTakes role s memory packet take → Judges (own_cause role s p memory) role (net_core_at role begun s) packet (cause_in take)

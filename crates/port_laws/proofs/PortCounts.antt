@@ -7,7 +7,6 @@ use Rattle.cookie_copy.specs.Faults.{is_up}
 use Rattle.ldc_link.specs.declared.phase.Role.{Role}
 use Rattle.ldc_link.specs.declared.phase.Role.TheVariants.{Initiator, Responder}
 use Rattle.ldc_queue.specs.declared.end.ChannelState.{ChannelState}
-use Rattle.ldc_queue.specs.declared.end.ChannelState.TheVariants.{Down}
 use Rattle.ldc_queue.specs.declared.end.End.{End}
 use Rattle.ldc_queue.specs.declared.end.End.TheVariants.{A, B}
 use Rattle.ldc_queue.specs.Transcript.{Turn}
@@ -22,15 +21,15 @@ use Rattle.port_model.proofs.Refuting.{false_true, true_false}
 use Rattle.port_model.specs.EndLog.{EndLog, SessionLog, gives_log, said_in}
 use Rattle.port_model.specs.FramesStand.{FramesStand}
 use Rattle.port_model.specs.NetEndState.{NetEndState, NetSession, with_frame}
-use Rattle.port_model.specs.NetEndStep.{Already, BadLength, Full, Given, GroupsFull, Joining, Member, NetAnswer, NetGives, NetJoins, Queued, untold}
+use Rattle.port_model.specs.NetEndStep.{BadLength, Full, Given, Joining, NetAnswer, NetGives, NetJoins, Queued, untold}
 use Rattle.port_model.specs.NetEvent.{Asked, Gives, Injects, Joins, NetEvent, Pokes, Steps, Ticked, on_wire}
 use Rattle.port_model.specs.NetLaneState.{IsNetShape, NetLaneState, NetShape, seen_at}
 use Rattle.port_model.specs.NetLaneStep.{NetLaneStep, moved_on}
 use Rattle.port_model.specs.Offers.{port_offer}
 use Rattle.port_model.specs.PortLog.{PortLog, after, after_answer, after_given, end_after, no_events}
 use Rattle.port_model.specs.PortState.{OfQueue, OnLane, PortEvent, PortState, PortStep, Receives, before, fresh_port, moves_first, takes_more}
-use Rattle.port_model.specs.Spoken.{GroupsInfo, Other, Spoken, spoken}
-use Rattle.port_laws.specs.Counted.{AreAddresses, Counts, EndCounts, GroupCounts, IsBehind, SaysRightly, UnsaidRight, unsaid}
+use Rattle.port_model.specs.Spoken.{Spoken}
+use Rattle.port_laws.specs.Counted.{AreAddresses, Counts, EndCounts, GroupCounts, IsBehind, SaysRightly, UnsaidRight}
 use Rattle.port_laws.specs.NetCore.{is_begun, lane_core, net_core_at}
 use Rattle.port_laws.specs.NetFits.{NetFits}
 use Rattle.port_laws.specs.PortCore.{port_core, port_events}
@@ -64,40 +63,14 @@ more_given : (held : List (List ℕ)) (frame : List ℕ) (given : List (List ℕ
 more_given held frame given gone within is = ap (λ (x : List (List ℕ)). x ++ frame ∷ []) is ∙ sym (drop-append-le gone given (frame ∷ []) within)
 
 queued_counts : (role : Role) (slots : ℕ) (s : NetEndState) (frame : List ℕ) (l : EndLog) → EndCounts role slots [] s l → EndCounts role slots [] (with_frame frame s) (gives_log frame l)
-queued_counts role slots s frame l counts =
-    let held : s.frames ≡ drop l.gone l.given = sym (append-nil s.frames) ∙ counts.frames in
-    let ids : s.next_id + 0 ≡ length l.given = counts.ids in
-    record {
-      slots_is = counts.slots_is;
-      frames = append-nil (s.frames ++ frame ∷ []) ∙ more_given s.frames frame l.given l.gone counts.gone held;
-      gone = omega (arith, counts.gone, length-append l.given (frame ∷ []));
-      ids = omega (arith, ids, length-append l.given (frame ∷ []));
-      groups = counts.groups;
-      session = counts.session;
-    }
+queued_counts role slots s frame l counts = grind (arith, append-nil, more_given, length-append)
 
 received_counts : (role : Role) (slots : ℕ) (queue : List (List ℕ)) (s : NetEndState) (frame : List ℕ) (l : EndLog) → EndCounts role slots queue s l
     → EndCounts role slots (queue ++ frame ∷ []) s (gives_log frame l)
-received_counts role slots queue s frame l counts = record {
-  slots_is = counts.slots_is;
-  frames = sym (append_assoc s.frames queue (frame ∷ [])) ∙ more_given (s.frames ++ queue) frame l.given l.gone counts.gone counts.frames;
-  gone = omega (arith, counts.gone, length-append l.given (frame ∷ []));
-  ids = omega (arith, counts.ids, length-append l.given (frame ∷ []), length-append queue (frame ∷ []));
-  groups = counts.groups;
-  session = counts.session;
-}
+received_counts role slots queue s frame l counts = grind (arith, append_assoc, more_given, length-append)
 
 moving_counts : (role : Role) (slots : ℕ) (frame : List ℕ) (queue : List (List ℕ)) (s : NetEndState) (l : EndLog) → EndCounts role slots (frame ∷ queue) s l → EndCounts role slots queue (with_frame frame s) l
-moving_counts role slots frame queue s l counts =
-    let ids : s.next_id + length (frame ∷ queue) ≡ length l.given = counts.ids in
-    record {
-      slots_is = counts.slots_is;
-      frames = append_assoc s.frames (frame ∷ []) queue ∙ counts.frames;
-      gone = counts.gone;
-      ids = omega (arith, ids);
-      groups = counts.groups;
-      session = counts.session;
-    }
+moving_counts role slots frame queue s l counts = grind (arith, append_assoc)
 
 -- THE HUB before its step
 pub record HubReady (slots : ℕ) (u : PortState) (l : EndLog) : Type 0 where
@@ -128,16 +101,11 @@ before_wire event s = before_keeps (λ (x : PortState). x.lane.wire ≡ s.lane.w
 
 -- the wire after an event
 pub wire_event : (u : NetLaneState) (event : NetEvent) (t : NetLaneState) → NetLaneStep u event t → t.wire ≡ moved_on u.wire (on_wire event)
-wire_event u (Steps e answer) t step = ap (λ (x : NetLaneState). x.wire) step.is
-wire_event u (Ticked queued lost) t step = ap (λ (x : NetLaneState). x.wire) step.1.1
-wire_event u (Injects e packet) t step = ap (λ (x : NetLaneState). x.wire) step.2
-wire_event u (Gives A given) t step = ap (λ (x : NetLaneState). x.wire) step.1
-wire_event u _ t step = ap (λ (x : NetLaneState). x.wire) step.1
+wire_event u event t step = grind arith
 
 -- WHAT IS KNOWN of an end that is up, before its step
 up_begun : (c : ChannelState) → is_up c ≡ true → is_begun c ≡ true
-up_begun Down is = false_true is
-up_begun _ is = refl
+up_begun c is = grind (arith, false_true)
 
 slots_fit : (shape : NetShape) → IsNetShape shape → SlotsFit shape.slots
 slots_fit shape is = record { some = omega (arith, is.some_slots); most = is.most_slots }
@@ -157,21 +125,15 @@ pub record Ready (shape : NetShape) (u : PortState) (l : PortLog) : Type 0 where
 
 acts_of : (role : Role) (slots : ℕ) (queue : List (List ℕ)) (s : NetEndState) (l : EndLog) (turns : List Turn) (begun : Bool) → EndCounts role slots queue s l → FramesStand s → NetFits role s
     → EndFits role (net_core_at role begun s) turns → EndOwes role (net_core_at role begun s) turns → SlotsFit slots → begun ≡ true → Acting role slots queue s l turns
-acts_of role slots queue s l turns begun counts stands fits keeps owes fit is =
-    let here : EndFits role (net_core_at role true s) turns = subst (λ (b : Bool). EndFits role (net_core_at role b s) turns) is keeps in
-    record { counts = counts; stands = stands; fits = fits; ends = here.stands; keeps = here.fits; owes = owes.owes; slots_fit = fit }
+acts_of role slots queue s l turns begun counts stands given keeps owes fit is = grind (arith, slots_fit)
 
 pub guest_acts : (shape : NetShape) (u : PortState) (l : PortLog) → Ready shape u l → is_up u.lane.wire.wire.end_a ≡ true
     → Acting Initiator shape.slots [] u.lane.guest l.guest l.transcript.client
-guest_acts shape u l ready up =
-    acts_of Initiator shape.slots [] u.lane.guest l.guest l.transcript.client (is_begun u.lane.wire.wire.end_a) ready.guest ready.stands.0 ready.fits.0 ready.keeps.a ready.owes.a (slots_fit shape ready.sound)
-    (up_begun u.lane.wire.wire.end_a up)
+guest_acts shape u l ready up = grind (arith, acts_of, slots_fit, up_begun)
 
 pub hub_acts : (shape : NetShape) (u : PortState) (l : PortLog) → Ready shape u l → is_up u.lane.wire.wire.end_b ≡ true
     → Acting Responder shape.slots u.queue u.lane.hub l.hub l.transcript.server
-hub_acts shape u l ready up =
-    acts_of Responder shape.slots u.queue u.lane.hub l.hub l.transcript.server (is_begun u.lane.wire.wire.end_b) ready.hub ready.stands.1 ready.fits.1 ready.keeps.b ready.owes.b (slots_fit shape ready.sound)
-    (up_begun u.lane.wire.wire.end_b up)
+hub_acts shape u l ready up = grind (arith, acts_of, slots_fit, up_begun)
 
 pub ready_before : (shape : NetShape) (s : PortState) (l : PortLog) (event : NetEvent) → IsNetShape shape → PortCounts shape s l → Ready shape (before event s) l
 ready_before shape s l event is counts =
@@ -208,27 +170,21 @@ one_more [] address are six = (six, tt)
 one_more (group ∷ groups) address are six = (are.0, one_more groups address are.1 six)
 
 behind_more : (told : Option (List (List ℕ))) (groups : List (List ℕ)) (address : List ℕ) → IsBehind told groups → IsBehind told (groups ++ address ∷ [])
-behind_more None groups address is = tt
-behind_more (Some told) groups address is = omega (arith, is, length-append groups (address ∷ []))
+behind_more told groups address is = grind (arith, length-append)
 
 named_behind : (told : Option (List (List ℕ))) (groups : List (List ℕ)) (address : List ℕ) → told ≡ Some groups → IsBehind told (groups ++ address ∷ [])
 named_behind told groups address is = subst (λ (x : Option (List (List ℕ))). IsBehind x (groups ++ address ∷ [])) (sym is) (omega (arith, length-append groups (address ∷ [])))
 
 behind_either : (b : Bool) (p : NetSession) (groups : List (List ℕ)) (address : List ℕ) (v : SessionLog) → p.untold ≡ b → GroupCounts p groups v → IsBehind v.membership (groups ++ address ∷ [])
-behind_either true p groups address v is counts = behind_more v.membership groups address (counts.behind is)
-behind_either false p groups address v is counts = named_behind v.membership groups address (counts.named is)
+behind_either b p groups address v is counts = grind (arith, behind_more, named_behind)
 
 right_more : (slots : ℕ) (groups : List (List ℕ)) (address : List ℕ) (v : SessionLog) (message : List ℕ) (k : Spoken) → SaysRightly slots groups v message k
     → SaysRightly slots (groups ++ address ∷ []) v message k
-right_more slots groups address v message GroupsInfo right = (behind_more v.membership groups address right.0, right.1)
-right_more slots groups address v message Other right = tt
-right_more slots groups address v message _ right = right
+right_more slots groups address v message k right = grind (arith, behind_more)
 
 unsaid_more : (slots : ℕ) (groups : List (List ℕ)) (address : List ℕ) (begun : Bool) (v : SessionLog) (left : Option (List ℕ)) → UnsaidRight slots groups begun v left
     → UnsaidRight slots (groups ++ address ∷ []) begun v left
-unsaid_more slots groups address begun v None right = tt
-unsaid_more slots groups address begun v (Some message) right =
-    record { whole = right.whole; short = right.short; right = right_more slots groups address v message (spoken message) right.right }
+unsaid_more slots groups address begun v left right = grind (arith, right_more)
 
 member_counts : (slots : ℕ) (groups : List (List ℕ)) (address : List ℕ) (published gone : ℕ) (left : Option (List ℕ)) (begun : Bool) (session : Option NetSession) (log : Option SessionLog)
     → Counts Initiator slots groups published gone left begun session log → Counts Initiator slots (groups ++ address ∷ []) published gone left begun (untold session) log
@@ -255,18 +211,7 @@ member_counts slots groups address published gone left begun (Some p) (Some v) c
 member_counts slots groups address published gone left begun _ _ counts = absurd counts
 
 joins_counts : (slots : ℕ) (s : NetEndState) (joining : Joining) (t : NetEndState) (l : EndLog) → EndCounts Initiator slots [] s l → NetJoins s joining t → EndCounts Initiator slots [] t l
-joins_counts slots s (Already address) t l counts joins = subst (λ (x : NetEndState). EndCounts Initiator slots [] x l) (sym joins.1) counts
-joins_counts slots s (GroupsFull address) t l counts joins = subst (λ (x : NetEndState). EndCounts Initiator slots [] x l) (sym joins.2) counts
-joins_counts slots s (Member address) t l counts joins =
-    subst (λ (x : NetEndState). EndCounts Initiator slots [] x l) (sym joins.3)
-    (record {
-      slots_is = counts.slots_is;
-      frames = counts.frames;
-      gone = counts.gone;
-      ids = counts.ids;
-      groups = record { few = omega (arith, joins.1, length-append s.groups (address ∷ [])); addresses = one_more s.groups address counts.groups.addresses joins.2 };
-      session = member_counts slots s.groups address l.published l.gone (unsaid s) s.link.begun s.session l.session counts.session;
-    })
+joins_counts slots s joining t l counts joins = grind (arith, length-append, one_more, member_counts)
 
 -- AN EVENT, for the guest's end and for the hub's
 abbrev GuestIs : NetShape → EndLog → NetLaneState → Type 0
@@ -309,8 +254,7 @@ hub_event shape u l _ t of_queue ready step = subst (HubIs shape u.queue l.hub) 
 
 -- what an event may be by the queue stays so behind the frame that moved
 pub before_queue : (event : NetEvent) (s : PortState) → OfQueue s event → OfQueue (before event s) event
-before_queue (Steps e answer) s is = tt
-before_queue _ s is = is
+before_queue event s is = grind arith
 
 pub counts_step : (shape : NetShape) → IsNetShape shape → (s : PortState) (l : PortLog) (event : PortEvent) (t : PortState) → PortCounts shape s l → PortStep s event t → PortCounts shape t (after l event)
 counts_step shape is s l (OnLane event) t counts step =
@@ -343,17 +287,7 @@ counts_step shape is s l (Receives frame) t counts step =
     }
 
 fresh_counts : (shape : NetShape) → PortCounts shape (fresh_port shape) (no_events shape)
-fresh_counts shape = record {
-  events = [];
-  run = refl;
-  log = refl;
-  shape_is = refl;
-  stands = (record { room = omega arith; ids = omega arith; session = tt }, record { room = omega arith; ids = omega arith; session = tt });
-  guest = record { slots_is = refl; frames = refl; gone = omega arith; ids = refl; groups = record { few = omega arith; addresses = tt }; session = (refl, tt) };
-  hub = record { slots_is = refl; frames = refl; gone = omega arith; ids = refl; groups = tt; session = (refl, refl) };
-  members = refl;
-  wire = refl;
-}
+fresh_counts shape = grind arith
 
 pub port_counts : (shape : NetShape) (events : List PortEvent) (s : PortState) → IsNetShape shape → Run PortStep (fresh_port shape) events s → PortCounts shape s (log_of after (no_events shape) events)
 port_counts shape events s is run =

@@ -1,5 +1,5 @@
 -- The causes that a session of a port gives are as its messages say; so each reset of an end says why.
-use Rattle.std.proofs.Common.{◌≡◌, ℕ, zero, suc, Bool, true, false, Option, Some, None, List, refl, sym, subst, ap, ◌∙◌, inl, inr}
+use Rattle.std.proofs.Common.{◌≡◌, ℕ, zero, suc, Bool, true, Option, Some, None, List, refl, sym, subst, arith}
 use Rattle.std.specs.Prelude.{◌+◌, ◌%◌, ◌&&◌, ◌==◌, is_some, nat_le, nat_lt, if◌then◌else◌}
 use Rattle.cookie_copy.specs.Reach.{Reach}
 use Rattle.runs.specs.Lawful.{Lawful, log_of}
@@ -9,7 +9,6 @@ use Rattle.ldc_link.specs.declared.phase.Role.TheVariants.{Initiator, Responder}
 use Rattle.ldc_packet.specs.declared.packet.Subtype.{Subtype}
 use Rattle.ldc_packet.specs.declared.packet.Subtype.TheVariants.{Ack, Info, Nack}
 use Rattle.ldc_queue.specs.declared.end.End.{End}
-use Rattle.ldc_queue.specs.declared.end.End.TheVariants.{A, B}
 use Rattle.ldc_queue.specs.Transcript.{Turn}
 use Rattle.vio_bytes.specs.Place.{number_at}
 use Rattle.vio_tag.specs.declared.cause.Cause.{Cause}
@@ -38,13 +37,13 @@ use Rattle.port_model.specs.NetEndRule.{Fetches, NetRule, Takes, port_rule}
 use Rattle.port_model.specs.NetEndState.{Activity, NetEndState, NetSession}
 use Rattle.port_model.specs.NetEndStep.{FetchFails, Frame, NetFails, Published, Reset}
 use Rattle.port_model.specs.NetEndTaking.{ends_outside, first_undone, slot_state}
-use Rattle.port_model.specs.NetEvent.{CalmTick, Gives, Joins, NetEvent, Steps, on_wire}
+use Rattle.port_model.specs.NetEvent.{CalmTick, Gives, Joins, NetEvent, Steps}
 use Rattle.port_model.specs.NetLaneState.{IsNetShape, NetLaneState, NetShape, memory_of, net_end, reach_of, role_at, seen_at}
 use Rattle.port_model.specs.NetLaneStep.{NetLaneStep}
 use Rattle.port_model.specs.Offers.{port_offer}
 use Rattle.port_model.specs.PortLog.{PortLog, after, no_events}
 use Rattle.port_model.specs.PortMay.{IfOnWire, OfWire}
-use Rattle.port_model.specs.PortState.{OnLane, PortEvent, PortState, PortStep, Receives, before, fresh_port}
+use Rattle.port_model.specs.PortState.{OnLane, PortEvent, PortState, PortStep, before, fresh_port}
 use Rattle.port_laws.specs.NetCore.{fresh_net_core, lane_core}
 use Rattle.port_laws.specs.PortCore.{port_events}
 use Rattle.port_laws.specs.PortCauses.{ack_cause, info_cause, own_cause, session_cause}
@@ -57,15 +56,10 @@ use Rattle.port_laws.proofs.SlotsFound.{Fits, fetched_fits}
 
 -- THE CAUSES of a session, by its messages
 some_if : (m : List ℕ) (b : Bool) (one : Cause) (rest : Option Cause) → (b ≡ true → OwnSays m one) → SomeSays m rest → SomeSays m (if b then Some one else rest)
-some_if m true one rest says others = says refl
-some_if m false one rest says others = others
+some_if m b one rest says others = grind arith
 
 is_other_says : (expected found there : ℕ) → is_other expected found ≡ true → found ≡ there → IsOther expected found there
-is_other_says expected found there is same = (same, λ equal. other_number expected found (not_same (expected == found) is) equal)
-  where
-    not_same : (b : Bool) → (if b then false else true) ≡ true → b ≡ false
-    not_same true test = absurd (cc test)
-    not_same false test = refl
+is_other_says expected found there is same = grind (arith, other_number)
 
 info_says : (m : List ℕ) (s : NetEndState) (p : NetSession) (seq ident start end state : ℕ) → first_fault m ≡ None → envelope_at m ≡ 0x0042 → SpellsBody m (DringData seq ident start end state)
     → SomeSays m (info_cause s p seq ident start end)
@@ -77,8 +71,7 @@ info_says m s p seq ident start end state fine envelope spells =
     (some_if m (ends_outside s end) (the_cause.RangeEnd end) None (λ is. (fine, envelope, spells.3)) tt)))
 
 else_says : (m : List ℕ) (b : Bool) (rest : Option Cause) (one : Cause) → SomeSays m rest → OwnSays m one → SomeSays m (if b then rest else Some one)
-else_says m true rest one others says = others
-else_says m false rest one others says = says
+else_says m b rest one others says = grind arith
 
 undone_says : (m : List ℕ) (slots : ℕ) (memory : List ℕ) (number count : ℕ) → first_fault m ≡ None → envelope_at m ≡ 0x0042 → SomeSays m (first_undone slots memory number count)
 undone_says m slots memory number zero fine envelope = tt
@@ -97,12 +90,10 @@ ack_says m s p memory seq ident start end state fine envelope spells =
     (undone_says m s.slots memory p.seen (range_length s.slots start end) fine envelope) (fine, envelope, spells.3)))
 
 told_says : (m : List ℕ) (b : Bool) → first_fault m ≡ None → SomeSays m (if b then None else Some the_cause.Order)
-told_says m true fine = tt
-told_says m false fine = fine
+told_says m b fine = grind arith
 
 refused_says : (m : List ℕ) (b : Bool) → first_fault m ≡ None → SomeSays m (if b then Some the_cause.Refused else Some the_cause.Order)
-refused_says m true fine = fine
-refused_says m false fine = fine
+refused_says m b fine = grind arith
 
 session_says : (m : List ℕ) (role : Role) (s : NetEndState) (p : NetSession) (memory : List ℕ) (subtype : Subtype) (body : MsgBody) → first_fault m ≡ None → envelope_at m ≡ envelope_code body
     → SpellsBody m body → SomeSays m (session_cause role s p memory subtype body)
@@ -118,18 +109,14 @@ session_says m Initiator s p memory Nack (Mcast set number addresses) fine envel
 session_says m role s p memory _ _ fine envelope spells = fine
 
 own_rightly : (role : Role) (s : NetEndState) (p : NetSession) (memory : List ℕ) → JudgesRightly (own_cause role s p memory)
-own_rightly role s p memory =
-    record { says = λ m one fine spells. session_says m role s p memory one.subtype one.body fine spells.envelope spells.body }
+own_rightly role s p memory = grind (arith, session_says)
 
 -- A RESET without a packet is for a slot
 abbrev SaysSo : List Turn → Cause → Option (List ℕ) → Type 0
 SaysSo turns cause packet = ResetSays turns packet cause × GapOf turns cause packet
 
 slot_says : (turns : List Turn) (cause : Cause) (slots : ℕ) (v : SessionLog) → SlotCause slots cause v → SaysSo turns cause None
-slot_says turns (the_cause.NotReady slot state) slots v is = (tt, tt)
-slot_says turns (the_cause.Frame size number) slots v is = (tt, tt)
-slot_says turns (the_cause.Copy fault) slots v is = (tt, tt)
-slot_says turns _ slots v is = absurd is
+slot_says turns cause slots v is = grind arith
 
 found_says : (turns : List Turn) (found : Fetched) (activity : Activity) (slot : ℕ) (cause : Cause) → Fits found → FetchFails found activity slot cause → SaysSo turns cause None
 found_says turns (IsFetched frame new) activity slot cause fits fails = absurd fails
@@ -145,17 +132,14 @@ fails_says turns role _ s memory reach cause fails = absurd fails
 
 -- A RESET with one is for what the packet says
 pub opened_is : (e : End) (u : NetLaneState) → (end_of e (lane_core u)).is_open ≡ is_some (net_end e u).session
-opened_is A u = refl
-opened_is B u = refl
+opened_is e u = grind arith
 
 module _ (shape : NetShape) (is : IsNetShape shape) (moves : List CoreEvent) (u t : NetLaneState) (run : Run CoreStep (fresh_net_core shape) moves (lane_core u)) (fits : BothFit u) (e : End) where
   abbrev turns : List Turn
   turns = transcript_of e (transcript_behind moves)
 
   shut_says : (cause : Cause) (packet : List ℕ) → (net_end e u).session ≡ None → ResetsFor (end_of e (lane_core u)) turns cause (Some packet) → SaysSo turns cause (Some packet)
-  shut_says cause packet none (inl why) = (why.says, why.gap)
-  shut_says cause packet none (inr own) =
-      let never : true ≡ false = sym own.opened ∙ opened_is e u ∙ ap (λ (o : Option NetSession). is_some o) none in absurd (cc never)
+  shut_says cause packet none given = grind (arith, opened_is)
 
   carried_says : (cause : Cause) (packet : List ℕ) (lost : ℕ) (session : Option NetSession) → (net_end e u).session ≡ session → NetLaneStep u (Steps e (Reset cause (Some packet) lost)) t
       → SaysSo turns cause (Some packet)
@@ -193,26 +177,20 @@ event_says shape is events s _ t run step = (tt, tt)
 
 says_at : (shape : NetShape) (is : IsNetShape shape) (events : List PortEvent) (s : PortState) (event : PortEvent) (t : PortState) → Run PortStep (fresh_port shape) events s → PortStep s event t
     → OfWire (BothSay (log_of after (no_events shape) events).transcript) event
-says_at shape is events s (OnLane event) t run step =
-    subst (λ (l : TranscriptLog). OfWire (BothSay l) (OnLane event)) (spoken_behind shape events) (event_says shape is events s event t run step.1)
-says_at shape is events s (Receives frame) t run step = tt
+says_at shape is events s event t run step = grind (arith, spoken_behind, event_says)
 
 if_first : (P Q : WireEvent → Type 0) (event : Option WireEvent) → IfOnWire (λ (x : WireEvent). P x × Q x) event → IfOnWire P event
-if_first P Q None both = tt
-if_first P Q (Some event) both = both.0
+if_first P Q event both = grind arith
 
 if_second : (P Q : WireEvent → Type 0) (event : Option WireEvent) → IfOnWire (λ (x : WireEvent). P x × Q x) event → IfOnWire Q event
-if_second P Q None both = tt
-if_second P Q (Some event) both = both.1
+if_second P Q event both = grind arith
 
 -- ALONG EVERY RUN
 resets_if : (l : TranscriptLog) (event : PortEvent) → OfWire (BothSay l) event → OfWire (WireResetAt l) event
-resets_if l (OnLane event) both = if_first (WireResetAt l) (WireGapAt l) (on_wire event) both
-resets_if l (Receives frame) both = tt
+resets_if l event both = grind (arith, if_first)
 
 gaps_if : (l : TranscriptLog) (event : PortEvent) → OfWire (BothSay l) event → OfWire (WireGapAt l) event
-gaps_if l (OnLane event) both = if_second (WireResetAt l) (WireGapAt l) (on_wire event) both
-gaps_if l (Receives frame) both = tt
+gaps_if l event both = grind (arith, if_second)
 
 pub port_resets_say : (shape : NetShape) (events : List PortEvent) (s : PortState) → IsNetShape shape → Run PortStep (fresh_port shape) events s
     → Lawful (λ (l : PortLog) (event : PortEvent). OfWire (WireResetAt l.transcript) event) after (no_events shape) events

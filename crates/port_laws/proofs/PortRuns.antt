@@ -1,15 +1,14 @@
 -- Each run of a port with its out queue is one of two ends on a channel, in the same log.
-use Rattle.std.proofs.Common.{◌≡◌, Option, Some, None, List, [], ◌∷◌, ◌++◌, refl, sym, subst, ap, ◌∙◌}
+use Rattle.std.proofs.Common.{◌≡◌, Option, List, [], ◌∷◌, ◌++◌, refl, sym, subst, ap, ◌∙◌, arith}
 use Rattle.ldc_link.specs.declared.phase.Role.TheVariants.{Initiator, Responder}
 use Rattle.runs.specs.Lawful.{Lawful, log_append, log_of, run_lawful}
 use Rattle.runs.specs.Run.{Run, run_keeps, run_push}
 use Rattle.channel_model.specs.TranscriptLog.{TranscriptLog}
 use Rattle.channel_model.specs.WireEvent.{WireEvent}
-use Rattle.channel_model.specs.WireLog.{WireLog}
 use Rattle.channel_laws.specs.CoreLog as core
-use Rattle.channel_laws.specs.LaneCore.{Beside, CoreEvent, CoreStep, transcript_after, transcript_behind, wire_after}
+use Rattle.channel_laws.specs.LaneCore.{Beside, CoreEvent, CoreStep, transcript_after, transcript_behind}
 use Rattle.port_model.proofs.Moving.{before_keeps}
-use Rattle.port_model.specs.NetEvent.{NetEvent, on_wire}
+use Rattle.port_model.specs.NetEvent.{NetEvent}
 use Rattle.port_model.specs.NetLaneState.{NetShape}
 use Rattle.port_model.specs.PortLog.{PortLog, after, no_events, spoken_on}
 use Rattle.port_model.specs.PortState.{OnLane, PortEvent, PortState, PortStep, Receives, before, fresh_port}
@@ -29,8 +28,7 @@ pub before_fits : (event : NetEvent) (s : PortState) → BothFit s.lane → Both
 before_fits event s fits = before_keeps PortFits event s (λ frame frames. (fits.0, record { groups = fits.1.groups; session = fits.1.session })) fits
 
 pub port_fits : (s : PortState) (event : PortEvent) (t : PortState) → PortStep s event t → PortFits s → PortFits t
-port_fits s (OnLane event) t step fits = event_fits (before event s).lane event t.lane step.1 (before_fits event s fits)
-port_fits s (Receives frame) t step fits = subst PortFits (sym step.2) fits
+port_fits s event t step given = grind (arith, event_fits, before_fits)
 
 pub port_step_core : (s : PortState) (event : PortEvent) (t : PortState) → PortFits s → PortStep s event t → CoreStep (port_core s) (port_event event) (port_core t)
 port_step_core s (OnLane event) t fits step =
@@ -54,8 +52,7 @@ port_fits_behind shape events s run = run_keeps PortStep PortFits port_fits (fre
 
 -- THE SAME LOG
 spoken_same : (l : TranscriptLog) (event : Option WireEvent) → spoken_on l event ≡ transcript_after l (event_core event)
-spoken_same l None = refl
-spoken_same l (Some event) = refl
+spoken_same l event = grind arith
 
 -- what the channel's log and the port's have both
 pub record SameLog (c : core.CoreLog) (l : PortLog) : Type 0 where
@@ -64,12 +61,7 @@ pub record SameLog (c : core.CoreLog) (l : PortLog) : Type 0 where
   pub transcript : c.transcript ≡ l.transcript
 
 same_after : (c : core.CoreLog) (l : PortLog) (event : PortEvent) → SameLog c l → SameLog (core.after c (port_event event)) (after l event)
-same_after c l (OnLane event) same = record {
-  entries = same.entries;
-  wire = ap (λ (x : WireLog). wire_after x (core_event event)) same.wire ∙ sym (wire_same l.wire (on_wire event));
-  transcript = ap (λ (x : TranscriptLog). transcript_after x (core_event event)) same.transcript ∙ sym (spoken_same l.transcript (on_wire event));
-}
-same_after c l (Receives frame) same = record { entries = same.entries; wire = same.wire; transcript = same.transcript }
+same_after c l event same = grind (arith, wire_same, spoken_same)
 
 same_log : (events : List PortEvent) (c : core.CoreLog) (l : PortLog) → SameLog c l → SameLog (log_of core.after c (port_events events)) (log_of after l events)
 same_log [] c l same = same

@@ -1,5 +1,5 @@
 -- A packet that an end puts is counted by its log as the end counts it, and where it ends a message of the session, that was right to say.
-use Rattle.std.proofs.Common.{◌≡◌, ℕ, ◌+◌, ◌<◌, ◌≤◌, Bool, true, false, Option, Some, None, List, [], ◌∷◌, ◌++◌, length, drop, refl, sym, subst, ap, ◌∙◌, arith, length-append, length-drop}
+use Rattle.std.proofs.Common.{◌≡◌, ℕ, ◌+◌, ◌<◌, ◌≤◌, Bool, true, false, Option, Some, None, List, [], ◌++◌, length, drop, refl, sym, subst, ap, ◌∙◌, arith, length-append, length-drop}
 use Rattle.std.specs.Prelude.{◌&&◌, is_none, is_some, not}
 use Rattle.std.proofs.lemmas.Bool.{leb-false, leb-true}
 use Rattle.std.proofs.lemmas.List.{drop_all, take_all}
@@ -20,8 +20,7 @@ use Rattle.channel_laws.proofs.EndCases.{PutControl, PutHandshake, PutMore, PutO
 use Rattle.channel_laws.proofs.EndStanding.{holds_some}
 use Rattle.channel_laws.proofs.LinkCases.{behind_part}
 use Rattle.channel_laws.proofs.TurnCases.{SaysLast, SaysMore}
-use Rattle.channel_laws.specs.Cuts.{Carries, CarriesOwed, CarriesOwn}
-use Rattle.channel_laws.specs.Standing.{EndStands, is_open_in}
+use Rattle.channel_laws.specs.Standing.{EndStands}
 use Rattle.port_model.proofs.Refuting.{false_true, none_some, true_false}
 use Rattle.port_model.specs.EndLog.{EndLog, SessionLog, change, opened_log, opens_log, said_in, said_kind, says_log}
 use Rattle.port_model.specs.NetEndPutting.{net_kind, net_opens, net_put, opened_by_put}
@@ -36,8 +35,7 @@ use Rattle.port_laws.proofs.OwedSays.{OwesNoGroups, owed_other}
 
 -- A SESSION OPENS with nothing published, taken or told
 guest_opened : (role : Role) (base : ℕ) (groups : List (List ℕ)) (sid : ℕ) → NoneTold role groups → GuestCounts role (opened_session base) groups (opened_log sid)
-guest_opened Responder base groups sid none = none
-guest_opened Initiator base groups sid none = record { named = λ is. true_false is; behind = λ is. tt; waits = λ is. false_true is; answered = λ is fresh. true_false fresh }
+guest_opened role base groups sid none = grind (arith, true_false, false_true)
 
 pub opened_counts : (role : Role) (slots : ℕ) (queue : List (List ℕ)) (s : NetEndState) (l : EndLog) (sid : ℕ) → EndCounts role slots queue s l → s.session ≡ None → s.link.to_send ≡ []
     → EndCounts role slots queue (opened_net_end s) (opens_log true sid l)
@@ -64,14 +62,10 @@ opened_counts role slots queue s l sid counts shut empty =
 
 -- THE PACKET ENDS A MESSAGE, or none
 pub ended_if : (part stop : Bool) (message : List ℕ) → part ≡ true → stop ≡ true → whole_with (part && stop) message ≡ Some message
-ended_if true true message one two = refl
-ended_if false stop message one two = false_true one
-ended_if true false message one two = false_true two
+ended_if part stop message one two = grind (arith, false_true)
 
 ended_not : (part stop : Bool) (message : List ℕ) → stop ≡ false → whole_with (part && stop) message ≡ None
-ended_not true false message not_ = refl
-ended_not false stop message not_ = refl
-ended_not true true message not_ = true_false not_
+ended_not part stop message not_ = grind (arith, true_false)
 
 last_ended : (k : LinkState) (turns : List Turn) (packet : List ℕ) → SaysLast k turns packet → ended_by (half_said turns) packet ≡ Some (half_said turns ++ k.to_send)
 last_ended k turns packet last =
@@ -80,8 +74,7 @@ last_ended k turns packet last =
     ∙ ap (λ (xs : List ℕ). Some (half_said turns ++ xs)) (last.part.carries ∙ take_all 56 k.to_send few)
 
 more_ended : (k : LinkState) (turns : List Turn) (packet : List ℕ) → SaysMore k turns packet → ended_by (half_said turns) packet ≡ None
-more_ended k turns packet more =
-    ended_not (is_part packet) (fragment_at packet).stop (half_said turns ++ (fragment_at packet).bytes) (more.part.stops ∙ more.long)
+more_ended k turns packet more = grind (arith, ended_not)
 
 -- WHAT IS SAID is counted as what was held
 said_counts : (role : Role) (slots : ℕ) (groups : List (List ℕ)) (published gone : ℕ) (left ended : Option (List ℕ)) (b c : Bool) (session : Option NetSession) (log : Option SessionLog)
@@ -107,9 +100,7 @@ abbrev pub put_end : NetEndState → NetEndState
 put_end held = record held { link = behind_put held.link; handshake = handshake_behind (net_kind held) held.handshake }
 
 pub shut_put : (role : Role) (opens : Bool) (s : NetEndState) → opens ≡ false → opened_by_put role opens s ≡ s
-shut_put Initiator false s is = refl
-shut_put Responder false s is = refl
-shut_put role true s is = true_false is
+shut_put role opens s is = grind (arith, true_false)
 
 none_right : (slots : ℕ) (groups : List (List ℕ)) (l : EndLog) (ended : Option (List ℕ)) → ended ≡ None → SaidRight slots groups l ended
 none_right slots groups l ended none message v is log = none_some message (sym none ∙ is)
@@ -140,31 +131,22 @@ quiet_put role slots queue held l turns packet sid ended counts shut is same lef
 
 -- its link holds nothing then, or a message of the handshake
 pub put_empty : (role : Role) (held : NetEndState) → net_opens held ≡ false → (net_core role (net_put role held)).link.to_send ≡ [] → unsaid (put_end held) ≡ None
-put_empty role held shut empty =
-    let put_is : net_put role held ≡ put_end held = shut_put role (net_opens held) (put_end held) shut in
-    empty_unsaid (put_end held) (sym (ap (λ (x : NetEndState). x.link.to_send) put_is) ∙ empty)
+put_empty role held shut empty = grind (arith, shut_put, empty_unsaid)
 
 pub short_left : (k : LinkState) (turns : List Turn) (packet : List ℕ) → SaysLast k turns packet → drop 56 k.to_send ≡ []
 short_left k turns packet last = drop_all 56 k.to_send (leb-true (length k.to_send) 56 last.short)
 
 -- a handshake whose message the link holds owes one
 pub owing_left : (own : Bool) (bytes : List ℕ) → own ≡ false → left_of own bytes ≡ None
-owing_left false bytes is = refl
-owing_left true bytes is = true_false is
+owing_left own bytes is = grind (arith, true_false)
 
 -- PUT OF ITS OWN
 half_none : (begun : Bool) (half : List ℕ) → begun ≡ false → begun ≡ not (is_empty half) → half ≡ []
-half_none false [] is same = refl
-half_none false (byte ∷ half) is same = false_true same
-half_none true half is same = true_false is
+half_none begun half is same = grind (arith, false_true, true_false)
 
 pub own_half : (role : Role) (slots : ℕ) (queue : List (List ℕ)) (held : NetEndState) (l : EndLog) (turns : List Turn) (p : NetSession) → EndCounts role slots queue held l
     → EndStands role (net_core role held) turns → held.session ≡ Some p → unsaid held ≡ Some held.link.to_send → half_said turns ≡ []
-own_half role slots queue held l turns p counts stands session left =
-    let here : OpenCounts role slots held.groups l.published l.gone (unsaid held) held.link.begun p l.session = open_counts role slots queue held l p counts session in
-    let right : HoldsRightly slots held.groups held.link.begun here.of_log held.link.to_send =
-    subst (UnsaidRight slots held.groups held.link.begun here.of_log) left here.counts.right in
-    half_none held.link.begun (half_said turns) right.whole stands.link.cuts.begun
+own_half role slots queue held l turns p counts stands session left = grind (arith, open_counts, half_none)
 
 put_own : (role : Role) (slots : ℕ) (queue : List (List ℕ)) (held : NetEndState) (l : EndLog) (turns : List Turn) (packet : List ℕ) (sid : ℕ) → EndCounts role slots queue held l
     → EndStands role (net_core role held) turns → is_none held.handshake.owed ≡ true → net_opens held ≡ false → SaysLast held.link turns packet
@@ -200,20 +182,14 @@ put_own role slots queue held l turns packet sid counts stands own shut last lin
 
 -- A MESSAGE OF THE HANDSHAKE says nothing of the session
 other_right : (slots : ℕ) (groups : List (List ℕ)) (l : EndLog) (said : List ℕ) → spoken said ≡ Other → SaidRight slots groups l (Some said)
-other_right slots groups l said other message v is log =
-    let same : said ≡ message = cc in
-    subst (λ (x : List ℕ). SaysRightly slots groups v x (spoken x)) same (subst (SaysRightly slots groups v said) (sym other) tt)
+other_right slots groups l said other message v is log = grind arith
 
 handshake_said : (role : Role) (held : NetEndState) (turns : List Turn) → EndStands role (net_core role held) turns → OwedFits held.handshake.phase held.handshake.owed → OwesNoGroups held.handshake.owed
     → is_none held.handshake.owed ≡ false → is_up held.link ≡ true → 1 ≤ length held.link.to_send → spoken (half_said turns ++ held.link.to_send) ≡ Other
-handshake_said role held turns stands owes none own up some =
-    let carried : CarriesOwed held.handshake.owed (half_said turns ++ held.link.to_send) =
-    subst (λ (b : Bool). Carries b held.handshake (half_said turns ++ held.link.to_send)) own (stands.carries (holds_some held.link up some)) in
-    ap spoken carried.is ∙ owed_other held.handshake.phase carried.message (subst (OwedFits held.handshake.phase) carried.owed owes) (subst OwesNoGroups carried.owed none)
+handshake_said role held turns stands owes none own up some = grind (arith, holds_some, owed_other)
 
 pub not_some : (session : Option NetSession) → is_some session ≡ false → session ≡ None
-not_some None is = refl
-not_some (Some p) is = true_false is
+not_some session is = grind (arith, true_false)
 
 put_handshake : (role : Role) (slots : ℕ) (queue : List (List ℕ)) (held : NetEndState) (l : EndLog) (turns : List Turn) (packet : List ℕ) (sid : ℕ) → EndCounts role slots queue held l
     → EndStands role (net_core role held) turns → OwedFits held.handshake.phase held.handshake.owed → OwesNoGroups held.handshake.owed → is_none held.handshake.owed ≡ false → is_up held.link ≡ true
@@ -276,15 +252,11 @@ put_handshake role slots queue held l turns packet sid counts stands owes no_gro
 
 -- A PART THAT GOES ON is of the handshake: what is of the session takes one packet
 pub some_of : (session : Option NetSession) → is_some session ≡ true → (p : NetSession) × (session ≡ Some p)
-some_of (Some p) is = (p, refl)
-some_of None is = false_true is
+some_of session is = grind (arith, false_true)
 
 pub own_session : (role : Role) (held : NetEndState) (turns : List Turn) → EndStands role (net_core role held) turns → is_none held.handshake.owed ≡ true → is_up held.link ≡ true
     → 1 ≤ length held.link.to_send → (p : NetSession) × (held.session ≡ Some p)
-own_session role held turns stands own up some =
-    let carried : CarriesOwn held.handshake (half_said turns ++ held.link.to_send) =
-    subst (λ (b : Bool). Carries b held.handshake (half_said turns ++ held.link.to_send)) own (stands.carries (holds_some held.link up some)) in
-    some_of held.session (stands.opened ∙ ap is_open_in carried.opened)
+own_session role held turns stands own up some = grind (arith, holds_some, some_of)
 
 pub own_short : (role : Role) (slots : ℕ) (queue : List (List ℕ)) (held : NetEndState) (l : EndLog) (turns : List Turn) → EndCounts role slots queue held l → EndStands role (net_core role held) turns
     → is_none held.handshake.owed ≡ true → is_up held.link ≡ true → 1 ≤ length held.link.to_send → length held.link.to_send ≤ 56
@@ -323,14 +295,7 @@ put_more role slots queue held l turns packet sid counts stands up shut more han
 put_below : (role : Role) (slots : ℕ) (queue : List (List ℕ)) (held : NetEndState) (l : EndLog) (turns : List Turn) (packet : List ℕ) (sid : ℕ) → EndCounts role slots queue held l
     → EndStands role (net_core role held) turns → net_opens held ≡ false → is_up held.link ≡ false
     → (net_core role (net_put role held)).link.to_send ≡ held.link.to_send → PutCounts role slots queue held (net_put role held) l turns packet (net_opens held) sid
-put_below role slots queue held l turns packet sid counts stands shut down same =
-    let below = stands.below down in
-    let closed : held.session ≡ None = not_some held.session (stands.opened ∙ ap is_open_in below.down) in
-    let gone : ShutCounts role held.groups l.published l.gone l.session = shut_counts role slots queue held l counts closed in
-    quiet_put role slots queue held l turns packet sid (ended_by (half_said turns) packet) counts shut refl
-    (λ p v session log. none_some p (sym closed ∙ session))
-    (put_empty role held shut (same ∙ below.left))
-    (λ message v is log. none_some v (sym gone.is ∙ log))
+put_below role slots queue held l turns packet sid counts stands shut down same = grind (arith, not_some, shut_counts, quiet_put, none_some, put_empty)
 
 pub put_counts : (role : Role) (slots : ℕ) (queue : List (List ℕ)) (held : NetEndState) (l : EndLog) (turns : List Turn) (packet : List ℕ) (sid : ℕ) → EndCounts role slots queue held l
     → EndStands role (net_core role held) turns → OwedFits held.handshake.phase held.handshake.owed → OwesNoGroups held.handshake.owed

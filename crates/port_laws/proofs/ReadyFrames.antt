@@ -57,16 +57,13 @@ none_marked zero f none = refl
 none_marked (suc n) f none = omega (arith, none_marked n f (λ i below. none i (omega (arith, below))), ap one_if (none n (omega arith)))
 
 by_value : (b : Bool) → (b ≡ true → ⊥) → b ≡ false
-by_value true never = absurd (never refl)
-by_value false never = refl
+by_value b never = grind arith
 
 was_marked : (k i : ℕ) (f : ℕ → Bool) (b : Bool) → (i == k) ≡ b → (if b then false else f i) ≡ true → (f i ≡ true) × (i ≢ k)
-was_marked k i f true test now = false_true now
-was_marked k i f false test now = (now, λ same. false_true (sym test ∙ grind (arith, nat_tests, same)))
+was_marked k i f b test now = grind (arith, false_true, nat_tests)
 
 past : (j from : ℕ) → from ≤ j → (j < from) ⊎ (from < j) → from + 1 ≤ j
-past j from first (inl less) = absurd (omega (arith, first, less))
-past j from first (inr more) = omega (arith, more)
+past j from first given = grind arith
 
 few_marked : (n from count : ℕ) (f : ℕ → Bool) → Named n from count f → marked n f ≤ count
 few_marked n from zero f named = omega (arith, none_marked n f (λ i below. by_value (f i) (λ now. let j = named i below now in absurd (omega (arith, j.1, j.2)))))

@@ -1,6 +1,6 @@
 -- A message of a session is refused in no field that the end at the other side filled so.
-use Rattle.std.proofs.Common.{◌≡◌, ℕ, zero, suc, ◌+◌, ◌-◌, ◌%◌, ◌<◌, ◌≤◌, Bool, true, false, Option, Some, None, List, ◌∷◌, inl, inr, refl, sym, subst, ap, ◌∙◌, arith, nat_le}
-use Rattle.std.specs.Prelude.{◌==◌, ◌&&◌, nat_lt, not, if◌then◌else◌}
+use Rattle.std.proofs.Common.{◌≡◌, ℕ, zero, suc, ◌+◌, ◌-◌, ◌%◌, ◌<◌, ◌≤◌, Bool, true, false, Option, Some, None, List, ◌∷◌, refl, sym, subst, ap, ◌∙◌, arith, nat_le}
+use Rattle.std.specs.Prelude.{◌==◌, ◌&&◌, not, if◌then◌else◌}
 use Rattle.std.proofs.lemmas.Bool.{and_from, eq-eqb, le-leb, lt-ltb}
 use Rattle.ldc_link.specs.declared.phase.Role.{Role}
 use Rattle.ldc_link.specs.declared.phase.Role.TheVariants.{Initiator, Responder}
@@ -21,9 +21,9 @@ use Rattle.channel_laws.specs.Sides.{other}
 use Rattle.port_model.specs.EndLog.{SessionLog, range_of}
 use Rattle.port_model.specs.Groups.{groups_after}
 use Rattle.port_model.specs.NetEndState.{NetEndState, NetSession, with_session}
-use Rattle.port_model.specs.NetEndTaking.{GoesOn, NetTake, Resets, acknowledged, active, ends_outside, first_undone, freed, in_session, slot_state, takes_ack, takes_done, takes_groups, takes_info, takes_range}
+use Rattle.port_model.specs.NetEndTaking.{GoesOn, NetTake, Resets, acknowledged, active, first_undone, freed, in_session, slot_state, takes_ack, takes_groups, takes_info}
 use Rattle.port_laws.specs.RingHolds.{RingHolds}
-use Rattle.port_laws.specs.WaysStand.{Comes, Goes, Rests, Way, Works}
+use Rattle.port_laws.specs.WaysStand.{Way}
 use Rattle.port_laws.proofs.Outbox.{MessageFits}
 use Rattle.port_laws.proofs.RingMoves.{held_state, some_frame}
 
@@ -34,16 +34,7 @@ pub record InfoComes (v : SessionLog) (slots : ℕ) (m : List ℕ) : Type 0 wher
   pub end : end_of m ≡ 0xffffffff
 
 pub info_comes : (slots : ℕ) (w v : SessionLog) (m : List ℕ) (rest acks : List (List ℕ)) → Way slots w v (m ∷ rest) acks → InfoComes v slots m
-info_comes slots w v m rest acks (Goes info asking asked acked answered taken some seq start end no_ack) =
-    let same : m ≡ info = cc some in
-    record {
-      seq = ap seq_of same ∙ seq ∙ ap wrapped (sym asked);
-      start = ap start_of same ∙ start ∙ ap (λ (n : ℕ). n % slots) (sym taken);
-      end = ap end_of same ∙ end;
-    }
-info_comes slots w v m rest acks (Rests asking asked acked answered taken none no_ack) = absurd (cc none)
-info_comes slots w v m rest acks (Works asking asked busy answered none no_ack) = absurd (cc none)
-info_comes slots w v m rest acks (Comes ack asking asked acked answered some none one_ack start end) = absurd (cc none)
+info_comes slots w v m rest acks given = grind arith
 
 pub record AckComes (v w : SessionLog) (slots : ℕ) (m : List ℕ) : Type 0 where
   pub start : start_of m ≡ v.seen % slots
@@ -51,12 +42,7 @@ pub record AckComes (v w : SessionLog) (slots : ℕ) (m : List ℕ) : Type 0 whe
   pub some : v.seen < w.taken
 
 pub ack_comes : (slots : ℕ) (v w : SessionLog) (m : List ℕ) (infos rest : List (List ℕ)) → Way slots v w infos (m ∷ rest) → AckComes v w slots m
-ack_comes slots v w m infos rest (Comes ack asking asked acked answered some none one_ack start end) =
-    let same : m ≡ ack = cc one_ack in
-    record { start = ap start_of same ∙ start; end = ap end_of same ∙ end; some = some }
-ack_comes slots v w m infos rest (Rests asking asked acked answered taken none no_ack) = absurd (cc no_ack)
-ack_comes slots v w m infos rest (Goes info asking asked acked answered taken some seq start end no_ack) = absurd (cc no_ack)
-ack_comes slots v w m infos rest (Works asking asked busy answered none no_ack) = absurd (cc no_ack)
+ack_comes slots v w m infos rest given = grind arith
 
 -- THE SLOTS that an ACK names are DONE
 all_done : (slots : ℕ) (memory : List ℕ) (number count : ℕ) → ((j : ℕ) → number ≤ j → j < number + count → slot_state (j % slots) memory ≡ 4) → first_undone slots memory number count ≡ None
@@ -81,12 +67,10 @@ ring_done slots seen taken published frames memory count ring is = all_done slot
 
 -- TESTS that pass
 past : (b : Bool) (x y : NetTake) → b ≡ false → (if b then x else y) ≡ y
-past true x y is = absurd (cc is)
-past false x y is = refl
+past b x y is = grind arith
 
 at_once : (b : Bool) (x y : NetTake) → b ≡ true → (if b then x else y) ≡ x
-at_once true x y is = refl
-at_once false x y is = absurd (cc is)
+at_once b x y is = grind arith
 
 same_is : (expected found : ℕ) → expected ≡ found → is_other expected found ≡ false
 same_is expected found same = ap (λ (b : Bool). if b then false else true) (eq-eqb expected found same)
@@ -112,65 +96,37 @@ pub record Expects (role : Role) (s : NetEndState) (p : NetSession) (memory : Li
 
 info_goes : (s : NetEndState) (p : NetSession) (memory : List ℕ) (seq ident start end : ℕ) → s.handshake.draft.ident_peer ≡ ident → p.seq ≡ seq → p.place ≡ start → end ≡ 0xffffffff
     → takes_info s p memory seq ident start end ≡ GoesOn (with_session (active p seq start) s) false memory
-info_goes s p memory seq ident start end named number begins ends =
-    past (is_other s.handshake.draft.ident_peer ident) (Resets (the_cause.Ident s.handshake.draft.ident_peer ident)) _ (same_is s.handshake.draft.ident_peer ident named)
-    ∙ past (is_other p.seq seq) (Resets (the_cause.Seq p.seq seq)) _ (same_is p.seq seq number)
-    ∙ past (is_other p.place start) (Resets (the_cause.Slot p.place start)) _ (same_is p.place start begins)
-    ∙ past (ends_outside s end) (Resets (the_cause.RangeEnd end)) _ (no_end s.handshake.draft.peer_slots end ends)
+info_goes s p memory seq ident start end named number begins ends = grind (arith, past, same_is, no_end)
 
 ack_goes : (s : NetEndState) (p : NetSession) (memory : List ℕ) (ident start end : ℕ) → s.handshake.draft.ident_own ≡ ident → p.seen % s.slots ≡ start → end < s.slots
     → p.seen + range_length s.slots start end ≤ p.published → first_undone s.slots memory p.seen (range_length s.slots start end) ≡ None
     → takes_ack s p memory ident start end
     ≡ GoesOn (acknowledged p (range_length s.slots start end) s) false (freed s.slots p.seen (range_length s.slots start end) memory)
-ack_goes s p memory ident start end named begins ends within done =
-    past (is_other s.handshake.draft.ident_own ident) (Resets (the_cause.Ident s.handshake.draft.ident_own ident)) _ (same_is s.handshake.draft.ident_own ident named)
-    ∙ past (is_other (p.seen % s.slots) start) (Resets (the_cause.Slot (p.seen % s.slots) start)) _ (same_is (p.seen % s.slots) start begins)
-    ∙ at_once (nat_lt end s.slots && nat_le (p.seen + range_length s.slots start end) p.published) (takes_range s p memory (range_length s.slots start end)) (Resets (the_cause.RangeEnd end))
-    (and_from (nat_lt end s.slots) (nat_le (p.seen + range_length s.slots start end) p.published) (lt-ltb end s.slots ends) (le-leb (p.seen + range_length s.slots start end) p.published within))
-    ∙ ap (takes_done s p memory (range_length s.slots start end)) done
+ack_goes s p memory ident start end named begins ends within done = grind (arith, past, same_is, at_once, nat_le, and_from, lt-ltb, le-leb)
 
 -- A MESSAGE, by its bytes
 module _ (role : Role) (s : NetEndState) (p : NetSession) (memory : List ℕ) (sid : ℕ) (m : List ℕ) (expects : Expects role s p memory sid m) where
   info_taken : (seq ident start end state : ℕ) (cause : Cause) → envelope_at m ≡ 0x0042 → subtype_at m ≡ 1 → (seq ≡ seq_of m) × (start ≡ start_of m) × (end ≡ end_of m)
       → takes_info s p memory seq ident start end ≡ Resets cause → ident ≡ sid → ⊥
-  info_taken seq ident start end state cause range info reads_ resets named =
-      let all = expects.info range info in
-      never (takes_info s p memory seq ident start end) (GoesOn (with_session (active p seq start) s) false memory) cause
-      (info_goes s p memory seq ident start end (expects.peer ∙ sym named) (all.0 ∙ sym reads_.0) (all.1 ∙ sym reads_.1) (reads_.2 ∙ all.2))
-      (goes (with_session (active p seq start) s) false memory) resets
+  info_taken seq ident start end state cause range info reads_ resets named = grind (arith, never, info_goes, goes)
 
   ack_taken : (ident start end : ℕ) (cause : Cause) → envelope_at m ≡ 0x0042 → subtype_at m ≡ 2 → (start ≡ start_of m) × (end ≡ end_of m) → takes_ack s p memory ident start end ≡ Resets cause
       → ident ≡ sid → ⊥
-  ack_taken ident start end cause range ack reads_ resets named =
-      let all = expects.ack range ack in
-      let same : range_length s.slots start end ≡ range_of s.slots m =
-      ap (λ (n : ℕ). range_length s.slots n end) reads_.0 ∙ ap (range_length s.slots (start_of m)) reads_.1 in
-      let within = all.2 in
-      never (takes_ack s p memory ident start end)
-      (GoesOn (acknowledged p (range_length s.slots start end) s) false (freed s.slots p.seen (range_length s.slots start end) memory)) cause
-      (ack_goes s p memory ident start end (expects.own ∙ sym named) (all.0 ∙ sym reads_.0) (subst (λ (n : ℕ). n < s.slots) (sym reads_.1) all.1)
-      (omega (arith, same, within)) (ap (first_undone s.slots memory p.seen) same ∙ all.3))
-      (goes (acknowledged p (range_length s.slots start end) s) false (freed s.slots p.seen (range_length s.slots start end) memory)) resets
+  ack_taken ident start end cause range ack reads_ resets named = grind (arith, never, ack_goes, goes)
 
   not_nack : envelope_at m ≡ 0x0042 → subtype_at m ≡ 4 → ⊥
-  not_nack range nack =
-      elim (expects.fits.range range).subtype [
-        | inl one ↦ omega (arith, one, nack)
-        | inr two ↦ omega (arith, two, nack)
-      ]
+  not_nack range nack = grind arith
 
   ident_named : (ident : ℕ) → envelope_at m ≡ 0x0042 → ident ≡ number_at 8 16 m → ident ≡ sid
   ident_named ident range is = is ∙ (expects.fits.range range).ident
 
 groups_go : (s : NetEndState) (p : NetSession) (memory : List ℕ) (set count : ℕ) (addresses : List (List ℕ)) (groups : Option (List (List ℕ))) (cause : Cause)
     → takes_groups s p memory set count addresses groups ≡ Resets cause → ⊥
-groups_go s p memory set count addresses None cause is = cc is
-groups_go s p memory set count addresses (Some groups) cause is = cc is
+groups_go s p memory set count addresses groups cause is = grind arith
 
 told_goes : (s : NetEndState) (p : NetSession) (memory : List ℕ) (b : Bool) (cause : Cause) → b ≡ true
     → (if b then GoesOn (with_session (record p { telling = false }) s) false memory else Resets the_cause.Order) ≡ Resets cause → ⊥
-told_goes s p memory true cause is resets = cc resets
-told_goes s p memory false cause is resets = absurd (cc is)
+told_goes s p memory b cause is resets = grind arith
 
 wrong_code : {X : Type 0} (a b c : ℕ) → a ≡ b → a ≡ c → (b ≡ c → ⊥) → X
 wrong_code {X} a b c one two not_ = absurd (not_ (sym one ∙ two))

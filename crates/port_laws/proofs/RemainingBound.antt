@@ -1,10 +1,10 @@
 -- What remains on a port that nobody forged is at most 117, and 8 for each frame; where a packet was lost, at most 189 and 8.
-use Rattle.std.proofs.Common.{◌≡◌, ℕ, ◌+◌, ◌-◌, ◌*◌, ◌≤◌, Bool, true, false, Option, Some, None, List, length, refl, sym, ap, ◌∙◌, arith}
+use Rattle.std.proofs.Common.{◌≡◌, ℕ, ◌+◌, ◌-◌, ◌*◌, ◌≤◌, Bool, false, Option, Some, None, List, length, sym, ap, ◌∙◌, arith}
 use Rattle.std.specs.Prelude.{is_some, ⊤}
 use Rattle.ldc_link.specs.declared.phase.Role.{Role}
 use Rattle.ldc_link.specs.declared.phase.Role.TheVariants.{Initiator, Responder}
 use Rattle.ldc_queue.specs.declared.end.ChannelState.{ChannelState}
-use Rattle.ldc_queue.specs.declared.end.ChannelState.TheVariants.{Down, Resetting, Up}
+use Rattle.ldc_queue.specs.declared.end.ChannelState.TheVariants.{Up}
 use Rattle.runs.specs.Lawful.{log_of}
 use Rattle.runs.specs.Run.{Run}
 use Rattle.channel_model.specs.WireLog.{WireLog}
@@ -12,8 +12,7 @@ use Rattle.port_model.specs.NetEndState.{Activity, NetEndState, NetSession, unse
 use Rattle.port_model.specs.NetLaneState.{IsNetShape, NetShape}
 use Rattle.port_model.specs.PortLog.{PortLog, after, no_events}
 use Rattle.port_model.specs.PortState.{PortEvent, PortState, PortStep, fresh_port}
-use Rattle.channel_laws.specs.PacketsLeft.{packets_left}
-use Rattle.port_laws.specs.NetCore.{is_begun, more_of, net_core, net_core_at, one_if}
+use Rattle.port_laws.specs.NetCore.{is_begun, more_of, net_core_at, one_if}
 use Rattle.port_laws.specs.PortCore.{port_core}
 use Rattle.port_laws.specs.Remaining.{absent, end_left, frames_held, life, put_weight, ready_slots, remaining, second_life, session_left, took_some}
 use Rattle.port_laws.specs.RingStands.{RingIn, taken_by}
@@ -25,8 +24,7 @@ use Rattle.port_laws.proofs.EndMoves.{one_most}
 
 -- the messages that an end may begin cover the answers that it owes
 took_one : (active : Option Activity) → one_if (took_some active) ≤ one_if (is_some active)
-took_one None = omega arith
-took_one (Some activity) = one_most (is_some activity.last)
+took_one active = grind (arith, one_most)
 
 -- AN END IN SESSION: each READY slot holds a frame that it holds
 abbrev FewReady : (slots held : ℕ) → List ℕ → Option NetSession → Type 0
@@ -49,24 +47,15 @@ spare Responder = 0
 
 session_most : (role : Role) (slots held packets : ℕ) (memory : List ℕ) (session : Option NetSession) → FewReady slots held memory session
     → put_weight role * packets + session_left role slots held memory session ≤ 4 * (packets + more_of session) + spare role + 8 * held
-session_most Initiator slots held packets memory (Some p) few = omega (arith, few.0, few.1, took_one p.active, one_most p.untold)
-session_most Responder slots held packets memory (Some p) few = omega (arith, few.0, few.1, took_one p.active)
-session_most _ slots held packets memory _ few = omega arith
+session_most role slots held packets memory session few = grind (arith, took_one, one_most)
 
 end_most : (x : ChannelState) (role : Role) (more : ℕ) (memory : List ℕ) (s : NetEndState) → (x ≡ Up → FewReady s.slots (length s.frames + more) memory s.session)
     → end_left x role more memory s + absent x ≤ 4 * live_count x (first_of role) (spent (net_core_at role (is_begun x) s)) + spare role + 8 * (length s.frames + more)
-end_most Up role more memory s few =
-    let same : packets_left (net_core_at role (is_begun Up) s) ≡ packets_left (net_core role s) = refl in
-    omega (arith, same, session_most role s.slots (length s.frames + more) (packets_left (net_core role s)) memory s.session (few refl))
-end_most Down Initiator more memory s few = omega arith
-end_most Down Responder more memory s few = omega arith
-end_most Resetting Initiator more memory s few = omega arith
-end_most Resetting Responder more memory s few = omega arith
+end_most x role more memory s few = grind (arith, session_most)
 
 -- BOTH ENDS
 live_one : (x : ChannelState) (b : Bool) → live_count x 0 (one_if b) ≤ 1
-live_one Up b = one_most b
-live_one _ b = omega arith
+live_one x b = grind (arith, one_most)
 
 life_most : (shape : NetShape) (events : List PortEvent) (s : PortState) → IsNetShape shape → Run PortStep (fresh_port shape) events s → s.lane.wire.forged ≡ false
     → life s.lane.wire.wire s.lane (length s.queue) + 4 * one_if s.lane.wire.lossy ≤ 117 + 8 * frames_held s
@@ -90,8 +79,7 @@ life_most shape events s is run clean =
 
 -- WHAT REMAINS
 by_whole : (lossy : Bool) (life held : ℕ) → lossy ≡ false → life + 4 * one_if lossy ≤ 117 + 8 * held → life + second_life lossy ≤ 117 + 8 * held
-by_whole true life held whole most = absurd (cc whole)
-by_whole false life held whole most = omega (arith, most)
+by_whole lossy life held whole most = grind arith
 
 pub whole_most : (shape : NetShape) (events : List PortEvent) (s : PortState) → IsNetShape shape → Run PortStep (fresh_port shape) events s → s.lane.wire.forged ≡ false → s.lane.wire.lossy ≡ false
     → remaining s ≤ 117 + 8 * frames_held s
@@ -99,8 +87,7 @@ whole_most shape events s is run clean whole =
     by_whole s.lane.wire.lossy (life s.lane.wire.wire s.lane (length s.queue)) (frames_held s) whole (life_most shape events s is run clean)
 
 by_lossy : (lossy : Bool) (life held : ℕ) → life + 4 * one_if lossy ≤ 117 + 8 * held → life + second_life lossy ≤ 189 + 8 * held
-by_lossy true life held most = omega (arith, most)
-by_lossy false life held most = omega (arith, most)
+by_lossy lossy life held most = grind arith
 
 pub lossy_most : (shape : NetShape) (events : List PortEvent) (s : PortState) → IsNetShape shape → Run PortStep (fresh_port shape) events s → s.lane.wire.forged ≡ false
     → remaining s ≤ 189 + 8 * frames_held s

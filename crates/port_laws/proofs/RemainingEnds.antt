@@ -1,20 +1,18 @@
 -- What remains at an end of a port that joins, holds a message, puts a packet or publishes a frame.
-use Rattle.std.proofs.Common.{◌≡◌, ℕ, ◌+◌, ◌-◌, ◌*◌, ◌%◌, ◌<◌, ◌≤◌, Bool, true, false, Option, Some, None, List, length, refl, sym, subst, ap, ◌∙◌, arith}
-use Rattle.std.specs.Prelude.{is_some}
+use Rattle.std.proofs.Common.{◌≡◌, ℕ, ◌+◌, ◌*◌, ◌%◌, ◌<◌, ◌≤◌, Bool, true, false, Option, Some, None, List, length, refl, sym, subst, ◌∙◌, arith}
 use Rattle.std.proofs.lemmas.Nat.{mod_below}
 use Rattle.std.proofs.lemmas.Option.{slice_get_within}
 use Rattle.ldc_link.specs.Calls.{Puts as PutsPacket}
 use Rattle.ldc_link.specs.declared.phase.Role.{Role}
-use Rattle.ldc_link.specs.declared.phase.Role.TheVariants.{Initiator, Responder}
+use Rattle.ldc_link.specs.declared.phase.Role.TheVariants.{Initiator}
 use Rattle.ldc_link.specs.Putting.{behind_put}
 use Rattle.ldc_queue.specs.declared.end.ChannelState.TheVariants.{Up}
 use Rattle.ldc_queue.specs.Transcript.{Turn}
 use Rattle.vio_handshake.specs.declared.handshake.Handshake.{Handshake}
 use Rattle.vio_handshake.specs.declared.handshake.Phase.{Phase}
-use Rattle.vio_handshake.specs.declared.handshake.Phase.TheVariants.{PeerReadyTaken}
 use Rattle.vio_handshake.specs.Rules.{opens_by_put}
 use Rattle.vio_tag.specs.declared.message.Message.{Message}
-use Rattle.channel_model.specs.EndPuts.{EndsHandshake, PutKind, handshake_behind, put_opens}
+use Rattle.channel_model.specs.EndPuts.{PutKind, handshake_behind, put_opens}
 use Rattle.channel_model.specs.Seeing.{Seen}
 use Rattle.cookie_copy.specs.Reach.{Reach}
 use Rattle.channel_laws.proofs.EndStanding.{held_stands}
@@ -31,8 +29,8 @@ use Rattle.port_model.specs.Groups.{membership}
 use Rattle.port_model.specs.NetEndRule.{Announces, Fetches, NetRule, Publishes, Puts, Replies, Says, Tells, port_rule}
 use Rattle.port_model.specs.NetEndState.{Activity, GroupsReply, NetEndState, NetSession, unseen_in}
 use Rattle.port_model.specs.NetEndStep.{NetLeft, NetPublishes, NetSends, leaves, published, published_memory}
-use Rattle.port_laws.specs.NetCore.{net_core, one_if}
-use Rattle.port_laws.specs.Remaining.{answers_left, end_left, frames_left, groups_left, put_weight, ready_slots, ready_weight, session_left, took_some}
+use Rattle.port_laws.specs.NetCore.{net_core}
+use Rattle.port_laws.specs.Remaining.{end_left, groups_left, put_weight, ready_slots, ready_weight, session_left}
 use Rattle.port_laws.proofs.EndMoves.{HeldCore, held_core, puts_behind, says_core}
 use Rattle.port_laws.proofs.RemainingReady.{cleared_none, published_more}
 use Rattle.port_laws.proofs.StepCounts.{Acting, counts_stand}
@@ -50,69 +48,48 @@ abbrev OwnLess : Role → ℕ → List ℕ → NetEndState → Holding → NetEn
 OwnLess role more memory s what held = own_left role more memory held + put_weight role * own_in what ≤ own_left role more memory s
 
 no_less : (role : Role) (n own : ℕ) → own ≡ 0 → n + put_weight role * own ≤ n
-no_less Initiator n own none = omega (arith, none)
-no_less Responder n own none = omega (arith, none)
+no_less role n own none = grind arith
 
 pub answers_less : (role : Role) (frames few many groups own : ℕ) → few + own ≤ many → frames + put_weight role * few + groups + put_weight role * own ≤ frames + put_weight role * many + groups
-answers_less Initiator frames few many groups own less = omega (arith, less)
-answers_less Responder frames few many groups own less = omega (arith, less)
+answers_less role frames few many groups own less = grind arith
 
 asks_less : (role : Role) (fresh few many ready rest own : ℕ) → few + own ≤ many
     → fresh + put_weight role * few + ready + rest + put_weight role * own ≤ fresh + put_weight role * many + ready + rest
-asks_less Initiator fresh few many ready rest own less = omega (arith, less)
-asks_less Responder fresh few many ready rest own less = omega (arith, less)
+asks_less role fresh few many ready rest own less = grind arith
 
 -- with the session as it was
 in_session_less : (role : Role) (more : ℕ) (memory : List ℕ) (s : NetEndState) (message : Message) (p q : NetSession) (what : Holding) → s.session ≡ Some p
     → session_left role s.slots (length s.frames + more) memory (Some q) + put_weight role * own_in what ≤ session_left role s.slots (length s.frames + more) memory (Some p)
     → OwnLess role more memory s what (holding_own message q s)
-in_session_less role more memory s message p q what is less =
-    subst (λ (x : Option NetSession). session_left role s.slots (length s.frames + more) memory (Some q) + put_weight role * own_in what
-    ≤ session_left role s.slots (length s.frames + more) memory x) (sym is) less
+in_session_less role more memory s message p q what is less = grind arith
 
 pub groups_same : (role : Role) (p q : NetSession) → q.untold ≡ p.untold → groups_left role (Some q) ≡ groups_left role (Some p)
-groups_same Initiator p q same = ap (λ (b : Bool). 4 * one_if b) same
-groups_same Responder p q same = refl
+groups_same role p q same = grind arith
 
 replies_less : (role : Role) (more : ℕ) (memory : List ℕ) (s : NetEndState) (p : NetSession) (reply : GroupsReply) (what : Holding) → p.reply ≡ Some reply
     → session_left role s.slots (length s.frames + more) memory (Some (record p { reply = None })) + put_weight role * own_in what
     ≤ session_left role s.slots (length s.frames + more) memory (Some p)
-replies_less role more memory s p reply what is =
-    let less = answers_less role (frames_left role s.slots (length s.frames + more) memory (Some p)) (one_if (took_some p.active) + 0)
-    (one_if (took_some p.active) + one_if (is_some p.reply)) (groups_left role (Some p)) (own_in what)
-    (omega (arith, own_most what, ap (λ (x : Option GroupsReply). one_if (is_some x)) is)) in
-    omega (arith, less, groups_same role p (record p { reply = None }) refl)
+replies_less role more memory s p reply what is = grind (arith, answers_less, own_most, groups_same)
 
 answer_less : (role : Role) (more : ℕ) (memory : List ℕ) (s : NetEndState) (p : NetSession) (activity : Activity) (last : ℕ) (what : Holding)
     → p.active ≡ Some activity → activity.last ≡ Some last
     → session_left role s.slots (length s.frames + more) memory (Some (record p { active = None })) + put_weight role * own_in what
     ≤ session_left role s.slots (length s.frames + more) memory (Some p)
-answer_less role more memory s p activity last what is some =
-    let less = answers_less role (frames_left role s.slots (length s.frames + more) memory (Some p)) (0 + one_if (is_some p.reply))
-    (one_if (took_some p.active) + one_if (is_some p.reply)) (groups_left role (Some p)) (own_in what)
-    (omega (arith, own_most what, ap (λ (x : Option Activity). one_if (took_some x)) is, ap (λ (x : Option ℕ). one_if (is_some x)) some)) in
-    omega (arith, less, groups_same role p (record p { active = None }) refl)
+answer_less role more memory s p activity last what is some = grind (arith, answers_less, own_most, groups_same)
 
 tells_less : (role : Role) (more : ℕ) (memory : List ℕ) (s : NetEndState) (p : NetSession) (what : Holding) → role ≡ Initiator → p.untold ≡ true
     → session_left role s.slots (length s.frames + more) memory (Some (record p { untold = false; telling = true })) + put_weight role * own_in what
     ≤ session_left role s.slots (length s.frames + more) memory (Some p)
-tells_less Initiator more memory s p what is untold = omega (arith, own_most what, ap one_if untold)
-tells_less Responder more memory s p what is untold = absurd (cc is)
+tells_less role more memory s p what is untold = grind (arith, own_most)
 
 announces_less : (role : Role) (more : ℕ) (memory : List ℕ) (s : NetEndState) (p : NetSession) (what : Holding) → p.seen < p.published → p.asking ≡ false
     → session_left role s.slots (length s.frames + more) memory (Some (record p { infos = p.infos + 1; asking = true })) + put_weight role * own_in what
     ≤ session_left role s.slots (length s.frames + more) memory (Some p)
-announces_less role more memory s p what some quiet =
-    let asks = asks_less role (8 * (length s.frames + more - unseen_in p)) (unseen_in p - 1) (unseen_in p - one_if p.asking) (ready_weight role * ready_slots s.slots memory)
-    (answers_left role (Some p) + groups_left role (Some p)) (own_in what) (omega (arith, some, own_most what, ap one_if quiet)) in
-    omega (arith, asks, groups_same role p (record p { infos = p.infos + 1; asking = true }) refl)
+announces_less role more memory s p what some quiet = grind (arith, asks_less, own_most, groups_same)
 
 slot_less : (role : Role) (more : ℕ) (memory : List ℕ) (s : NetEndState) (p : NetSession) (activity : Activity) (last : Option ℕ) (found : Fetched) (held : NetEndState) (what : Holding)
     → s.session ≡ Some p → p.active ≡ Some activity → activity.last ≡ last → answers s p activity last found ≡ Some held → OwnLess role more memory s what held
-slot_less role more memory s p activity (Some last) (NotReady state) held what is active some same =
-    of_some (OwnLess role more memory s what) (holding_own (answer s activity last) (record p { active = None }) s) held same
-    (in_session_less role more memory s (answer s activity last) p (record p { active = None }) what is (answer_less role more memory s p activity last what active some))
-slot_less role more memory s p activity _ _ held what is active some same = none_some held same
+slot_less role more memory s p activity last found held what is active some same = grind (arith, of_some, in_session_less, answer_less, none_some)
 
 own_less : (role : Role) (more : ℕ) (memory : List ℕ) (s : NetEndState) (at : Seen) (reach : Reach) (rule : NetRule) (held : NetEndState) (what : Holding)
     → port_rule role s at ≡ rule → net_holds rule s reach ≡ Some held → Holds (net_core role s) what (net_core role held) → OwnLess role more memory s what held
@@ -142,8 +119,7 @@ own_less role more memory s at reach (Announces p) held what is same holds =
 own_less role more memory s at reach _ held what is same holds = none_some held same
 
 sum_less : (role : Role) (few many own left less : ℕ) → few ≤ many + own → left + put_weight role * own ≤ less → put_weight role * few + left ≤ put_weight role * many + less
-sum_less Initiator few many own left less packets rest = omega (arith, packets, rest)
-sum_less Responder few many own left less packets rest = omega (arith, packets, rest)
+sum_less role few many own left less packets rest = grind arith
 
 pub blocked_left : (role : Role) (more : ℕ) (memory : List ℕ) (s : NetEndState) (at : Seen) (reach : Reach) (held : NetEndState) (turns : List Turn) → EndStands role (net_core role s) turns
     → HeldCore role s held → net_holds (port_rule role s at) s reach ≡ Some held → up_left role more memory held ≤ up_left role more memory s
@@ -171,26 +147,18 @@ held_slots s reach _ held same = none_some held same
 
 -- IT PUTS. A guest's session opens by a packet that it puts only where none was open, and clears its ring.
 last_shut : (role : Role) (at : Phase) → opens_by_put role at ≡ true → is_open_in at ≡ false
-last_shut Initiator PeerReadyTaken opens = refl
-last_shut Initiator _ opens = false_true opens
-last_shut Responder _ opens = false_true opens
+last_shut role at opens = grind (arith, false_true)
 
 pub kind_shut : (kind : PutKind) (h : Handshake) → put_opens kind h ≡ true → is_open_in h.phase ≡ false
-kind_shut EndsHandshake h opens = last_shut h.role h.phase opens
-kind_shut _ h opens = false_true opens
+kind_shut kind h opens = grind (arith, last_shut, false_true)
 
 opened_left : (role : Role) (opens : Bool) (more : ℕ) (memory : List ℕ) (s : NetEndState) → (opens ≡ true → s.session ≡ None)
     → own_left role more (cleared_by_put role opens s.slots memory) (opened_by_put role opens s) ≤ own_left role more memory s
-opened_left Initiator true more memory s shut =
-    subst (λ (x : Option NetSession). own_left Initiator more (cleared_by_put Initiator true s.slots memory) (opened_by_put Initiator true s)
-    ≤ session_left Initiator s.slots (length s.frames + more) memory x) (sym (shut refl)) (omega (arith, cleared_none s.slots memory))
-opened_left Initiator false more memory s shut = omega arith
-opened_left Responder opens more memory s shut = omega arith
+opened_left role opens more memory s shut = grind (arith, cleared_none)
 
 sum_puts : (role : Role) (few many own left less : ℕ) → few + 1 ≤ many + own → left + put_weight role * own ≤ less
     → put_weight role * few + left + put_weight role ≤ put_weight role * many + less
-sum_puts Initiator few many own left less packets rest = omega (arith, packets, rest)
-sum_puts Responder few many own left less packets rest = omega (arith, packets, rest)
+sum_puts role few many own left less packets rest = grind arith
 
 put_left : (role : Role) (more : ℕ) (memory : List ℕ) (s : NetEndState) (at : Seen) (reach : Reach) (held : NetEndState) (packet : List ℕ) (turns : List Turn)
     → EndStands role (net_core role s) turns → HeldCore role s held → net_holds (port_rule role s at) s reach ≡ Some held → PutsPacket held.link packet (behind_put held.link)
@@ -232,17 +200,12 @@ blocks_lower role slots queue s l turns at memory reach t acting same is =
 -- IT PUBLISHES a frame
 ready_less : (role : Role) (fresh asks ready few many more rest : ℕ) → fresh ≡ few + 1 → asks ≤ many + 1 → ready ≤ more + 1
     → 8 * few + put_weight role * asks + ready_weight role * ready + rest + 1 ≤ 8 * fresh + put_weight role * many + ready_weight role * more + rest
-ready_less Initiator fresh asks ready few many more rest one two three = omega (arith, one, two, three)
-ready_less Responder fresh asks ready few many more rest one two three = omega (arith, one, two, three)
+ready_less role fresh asks ready few many more rest one two three = grind arith
 
 published_left : (role : Role) (more : ℕ) (memory new : List ℕ) (s : NetEndState) (p : NetSession) → p.seen ≤ p.published → unseen_in p < length s.frames
     → ready_slots s.slots new ≤ ready_slots s.slots memory + 1
     → session_left role s.slots (length s.frames + more) new (Some (published p)) + 1 ≤ session_left role s.slots (length s.frames + more) memory (Some p)
-published_left role more memory new s p seen within ready =
-    let less = ready_less role (length s.frames + more - unseen_in p) (unseen_in (published p) - one_if p.asking) (ready_slots s.slots new)
-    (length s.frames + more - unseen_in (published p)) (unseen_in p - one_if p.asking) (ready_slots s.slots memory) (answers_left role (Some p) + groups_left role (Some p))
-    (omega (arith, seen, within)) (omega (arith, seen)) ready in
-    omega (arith, less, groups_same role p (published p) refl)
+published_left role more memory new s p seen within ready = grind (arith, ready_less, groups_same)
 
 pub publishes_lower : (role : Role) (slots : ℕ) (queue : List (List ℕ)) (s : NetEndState) (l : EndLog) (turns : List Turn) (at : Seen) (memory : List ℕ) (reach : Reach) (id : ℕ)
     (t : NetLeft) → Acting role slots queue s l turns → 8192 + 2048 * slots ≤ length memory → NetPublishes role s at memory reach id t → Lowers role 1 memory s t

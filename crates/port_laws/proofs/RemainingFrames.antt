@@ -1,16 +1,14 @@
 -- What remains on a port that nobody forged falls by each frame that an end takes.
-use Rattle.std.proofs.Common.{◌≡◌, ◌≢◌, ℕ, zero, suc, ◌+◌, ◌-◌, ◌*◌, ◌%◌, ◌<◌, ◌≤◌, ◌⊎◌, inl, inr, Bool, true, false, Option, Some, List, length, refl, sym, subst, ap, ◌∙◌, arith}
-use Rattle.std.specs.Prelude.{◌==◌, is_none, is_some, slice_index}
+use Rattle.std.proofs.Common.{◌≡◌, ◌≢◌, ℕ, zero, suc, ◌+◌, ◌*◌, ◌%◌, ◌<◌, ◌≤◌, ◌⊎◌, inl, inr, Bool, false, Some, List, length, refl, sym, subst, ap, ◌∙◌, arith}
+use Rattle.std.specs.Prelude.{◌==◌, is_none, slice_index}
 use Rattle.std.proofs.lemmas.Bool.{cases_order}
 use Rattle.std.proofs.lemmas.Nat.{mod_below}
 use Rattle.dring.proofs.Turning.{one_slot_front, slot_front}
 use Rattle.dring.specs.Slots.{OneSlot, ready_state, slot_bytes}
 use Rattle.ldc_link.specs.declared.phase.Role.{Role}
-use Rattle.ldc_link.specs.declared.phase.Role.TheVariants.{Initiator, Responder}
 use Rattle.ldc_queue.specs.declared.end.ChannelState.{ChannelState}
 use Rattle.ldc_queue.specs.declared.end.ChannelState.TheVariants.{Up}
 use Rattle.ldc_queue.specs.declared.end.End.{End}
-use Rattle.ldc_queue.specs.declared.end.End.TheVariants.{A, B}
 use Rattle.ldc_queue.specs.Wire.{peer_of, state_of}
 use Rattle.runs.specs.Lawful.{log_of}
 use Rattle.runs.specs.Run.{Run}
@@ -30,8 +28,8 @@ use Rattle.port_model.specs.NetLaneStep.{EndSteps}
 use Rattle.port_model.specs.Offers.{port_offer}
 use Rattle.port_model.specs.PortLog.{PortLog, after, no_events}
 use Rattle.port_model.specs.PortState.{OnLane, PortEvent, PortState, PortStep, before, fresh_port}
-use Rattle.port_laws.specs.NetCore.{more_in, more_of, net_core, one_if}
-use Rattle.port_laws.specs.Remaining.{answers_left, end_left, frames_left, groups_left, put_weight, ready_slots, ready_weight, remaining, remaining_of, session_left, took_some}
+use Rattle.port_laws.specs.NetCore.{net_core, one_if}
+use Rattle.port_laws.specs.Remaining.{end_left, put_weight, ready_slots, ready_weight, remaining, remaining_of}
 use Rattle.port_laws.proofs.MemoryRoom.{MemoryHasRoom}
 use Rattle.port_laws.proofs.RemainingEnds.{groups_same}
 use Rattle.port_laws.proofs.RemainingReady.{below_same}
@@ -84,19 +82,11 @@ ready_falls slots k memory new fits below ready is =
 -- THE END WHOSE RING IT IS: the frame that was taken counted three, or five
 left_falls : (role : Role) (fresh asks ready more rest : ℕ) → ready + 1 ≡ more
     → 8 * fresh + put_weight role * asks + ready_weight role * ready + rest + ready_weight role ≡ 8 * fresh + put_weight role * asks + ready_weight role * more + rest
-left_falls Initiator fresh asks ready more rest is = omega (arith, is)
-left_falls Responder fresh asks ready more rest is = omega (arith, is)
+left_falls role fresh asks ready more rest is = grind arith
 
 peer_falls : (x : ChannelState) (role : Role) (more : ℕ) (memory new : List ℕ) (s : NetEndState) (p : NetSession) → x ≡ Up → s.session ≡ Some p
     → ready_slots s.slots new + 1 ≡ ready_slots s.slots memory → end_left x role more new s + ready_weight role ≡ end_left x role more memory s
-peer_falls x role more memory new s p up is ready =
-    let held : ℕ = length s.frames + more in
-    let asks : ℕ = p.published - p.seen - one_if p.asking in
-    let falls : session_left role s.slots held new (Some p) + ready_weight role ≡ session_left role s.slots held memory (Some p) =
-    omega (arith, left_falls role (held - (p.published - p.seen)) asks (ready_slots s.slots new) (ready_slots s.slots memory) (answers_left role (Some p) + groups_left role (Some p)) ready) in
-    let here : session_left role s.slots held new s.session + ready_weight role ≡ session_left role s.slots held memory s.session =
-    subst (λ (o : Option NetSession). session_left role s.slots held new o + ready_weight role ≡ session_left role s.slots held memory o) (sym is) falls in
-    subst (λ (y : ChannelState). end_left y role more new s + ready_weight role ≡ end_left y role more memory s) (sym up) (omega (arith, here))
+peer_falls x role more memory new s p up is ready = grind (arith, left_falls)
 
 -- THE END THAT TAKES IT owes an answer, if it didn't
 abbrev with_opened : NetEndState → Role → Bool → ℕ → EndCore
@@ -104,39 +94,24 @@ with_opened s role open_ more = record { link = s.link; handshake = s.handshake;
 
 frame_packets : (role : Role) (s : NetEndState) (p : NetSession) (activity : Activity) (frame : List ℕ) → s.session ≡ Some p → p.active ≡ Some activity
     → packets_left (net_core role (record s { session = Some (taken s p activity); last = frame })) ≡ packets_left (net_core role s)
-frame_packets role s p activity frame is active =
-    let one : one_if (is_some p.active) ≡ 1 = ap (λ (o : Option Activity). one_if (is_some o)) active in
-    let same : more_in (taken s p activity) ≡ more_in p = omega (arith, one) in
-    ap (λ (n : ℕ). packets_left (with_opened s role true n)) same ∙ sym (ap (λ (o : Option NetSession). packets_left (with_opened s role (is_some o) (more_of o))) is)
+frame_packets role s p activity frame is active = grind arith
 
 answers_more : (role : Role) (frames few many groups : ℕ) → few ≤ many + 1 → frames + put_weight role * few + groups ≤ frames + put_weight role * many + groups + put_weight role
-answers_more Initiator frames few many groups less = omega (arith, less)
-answers_more Responder frames few many groups less = omega (arith, less)
+answers_more role frames few many groups less = grind arith
 
 own_more : (x : ChannelState) (role : Role) (more : ℕ) (memory : List ℕ) (s : NetEndState) (p : NetSession) (activity : Activity) (frame : List ℕ) → x ≡ Up → s.session ≡ Some p → p.active ≡ Some activity
     → end_left x role more memory (record s { session = Some (taken s p activity); last = frame }) ≤ end_left x role more memory s + put_weight role
-own_more x role more memory s p activity frame up is active =
-    let held : ℕ = length s.frames + more in
-    let q : NetSession = taken s p activity in
-    let answers = answers_more role (frames_left role s.slots held memory (Some p)) (1 + one_if (is_some p.reply)) (one_if (took_some p.active) + one_if (is_some p.reply)) (groups_left role (Some p))
-    (omega arith) in
-    let rises : session_left role s.slots held memory (Some q) ≤ session_left role s.slots held memory (Some p) + put_weight role = omega (arith, answers, groups_same role p q refl) in
-    let here : session_left role s.slots held memory (Some q) ≤ session_left role s.slots held memory s.session + put_weight role =
-    subst (λ (o : Option NetSession). session_left role s.slots held memory (Some q) ≤ session_left role s.slots held memory o + put_weight role) (sym is) rises in
-    subst (λ (y : ChannelState). end_left y role more memory (record s { session = Some q; last = frame }) ≤ end_left y role more memory s + put_weight role) (sym up)
-    (omega (arith, here, ap (λ (n : ℕ). put_weight role * n) (frame_packets role s p activity frame is active)))
+own_more x role more memory s p activity frame up is active = grind (arith, answers_more, groups_same, frame_packets)
 
 -- A STEP
 pub peer_room : (e : End) (slots : ℕ) (u : NetLaneState) → MemoryHasRoom slots u → 8192 + 2048 * slots ≤ length (memory_of (peer_of e) u)
-peer_room A slots u room = room.hub
-peer_room B slots u room = room.guest
+peer_room e slots u room = grind arith
 
 -- the peer's ring has one READY slot less, and the end owes an answer more at most
 both_left : (e : End) (u : NetLaneState) (queued : ℕ) (left : NetLeft) → left_at e queued left.own left.end u ≤ left_at e queued (memory_of e u) (net_end e u) u + put_weight (role_at e)
     → left_at (peer_of e) queued left.peer (net_end (peer_of e) u) u + ready_weight (role_at (peer_of e)) ≡ left_at (peer_of e) queued (memory_of (peer_of e) u) (net_end (peer_of e) u) u
     → remaining_of (record (with_left e left u) { wire = u.wire }) queued + 1 ≤ remaining_of u queued
-both_left A u queued left own peer = omega (arith, own, peer)
-both_left B u queued left own peer = omega (arith, own, peer)
+both_left e u queued left own peer = grind arith
 
 lane_frame : (shape : NetShape) (u : PortState) (l : PortLog) (e : End) (frame : List ℕ) (t : NetLaneState) → Finds shape u l → EndSteps e u.lane (Frame frame) t
     → remaining_of t (length u.queue) + 1 ≤ remaining_of u.lane (length u.queue)

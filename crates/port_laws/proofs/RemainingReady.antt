@@ -10,8 +10,8 @@ use Rattle.vio_bytes.proofs.Putting.{take-put_at}
 use Rattle.vio_bytes.proofs.Ranges.{range_at-take}
 use Rattle.vio_bytes.specs.Place.{put_at}
 use Rattle.vio_bytes.specs.Range.{range_at}
-use Rattle.vnet_msg.specs.Descriptor.{canonical, head_bytes}
-use Rattle.vnet_msg.specs.Frames.{buffer_place, frame_buffer, frame_cookies, frame_desc}
+use Rattle.vnet_msg.specs.Descriptor.{canonical}
+use Rattle.vnet_msg.specs.Frames.{buffer_place, frame_buffer, frame_desc}
 use Rattle.map_table.specs.Cookies.{cookies_bytes}
 use Rattle.port_model.specs.NetEndPutting.{cleared_ring}
 use Rattle.port_model.specs.NetEndStep.{published_memory}
@@ -111,8 +111,7 @@ buffer_same at (suc n) piece memory before room =
 
 -- A FRAME IS PUBLISHED
 desc_long : (slot size : ℕ) → length (canonical (frame_desc slot size)) ≡ 64
-desc_long slot size =
-    omega (arith, length-append (head_bytes (frame_desc slot size)) (cookies_bytes (frame_cookies slot size)), length-cookies_bytes (frame_cookies slot size))
+desc_long slot size = grind (arith, length-append, length-cookies_bytes)
 
 pub published_more : (slots slot : ℕ) (frame memory : List ℕ) → slot < slots → slots ≤ 64 → 8192 + 2048 * slots ≤ length memory
     → ready_slots slots (published_memory slot frame memory) ≤ ready_slots slots memory + 1

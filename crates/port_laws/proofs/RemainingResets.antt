@@ -1,9 +1,9 @@
 -- What remains on a port behind a reset: as much as on one that begins with all its frames, but that one end is up.
-use Rattle.std.proofs.Common.{◌≡◌, ◌≢◌, ℕ, ◌+◌, ◌-◌, ◌*◌, ◌<◌, ◌≤◌, ◌⊎◌, inl, inr, Bool, true, false, Option, None, Some, List, length, refl, sym, ap, ◌∙◌, arith, length-drop}
+use Rattle.std.proofs.Common.{◌≡◌, ◌≢◌, ℕ, ◌+◌, ◌-◌, ◌*◌, ◌<◌, ◌≤◌, ◌⊎◌, inl, inr, Bool, true, false, Option, List, length, refl, sym, ap, ◌∙◌, arith, length-drop}
 use Rattle.ldc_link.specs.declared.phase.Role.{Role}
 use Rattle.ldc_link.specs.declared.phase.Role.TheVariants.{Initiator, Responder}
 use Rattle.ldc_queue.specs.declared.end.ChannelState.{ChannelState}
-use Rattle.ldc_queue.specs.declared.end.ChannelState.TheVariants.{Down, Resetting, Up}
+use Rattle.ldc_queue.specs.declared.end.ChannelState.TheVariants.{Up}
 use Rattle.ldc_queue.specs.declared.end.End.{End}
 use Rattle.ldc_queue.specs.declared.end.End.TheVariants.{A, B}
 use Rattle.ldc_queue.specs.Wire.{state_of, upset}
@@ -14,10 +14,9 @@ use Rattle.channel_model.specs.WireAt.{IsUp}
 use Rattle.channel_model.specs.WireLog.{WireLog}
 use Rattle.port_model.proofs.FramesKept.{held_in}
 use Rattle.port_model.specs.NetEndState.{NetEndState, NetSession, joined_net_end, unseen}
-use Rattle.port_model.specs.NetEndStep.{Blocked, Frame, Idle, NetAnswer, NetLeft, Reset, Took}
-use Rattle.port_model.specs.NetEvent.{Asked, NetEvent, Steps, Ticked}
-use Rattle.port_model.specs.NetLaneState.{IsNetShape, NetLaneState, NetShape, with_left}
-use Rattle.port_model.specs.NetLaneStep.{net_wire}
+use Rattle.port_model.specs.NetEndStep.{Blocked, Frame, Idle, NetAnswer, Reset, Took}
+use Rattle.port_model.specs.NetEvent.{NetEvent, Steps}
+use Rattle.port_model.specs.NetLaneState.{IsNetShape, NetLaneState, NetShape}
 use Rattle.port_model.specs.PortLog.{PortLog, after, no_events}
 use Rattle.port_model.specs.PortState.{OnLane, PortEvent, PortState, PortStep, before, fresh_port}
 use Rattle.port_laws.specs.Remaining.{absent, end_left, first_left, frames_kept, kept_in, remaining, remaining_of, second_life, session_left}
@@ -32,45 +31,25 @@ use Rattle.port_laws.proofs.TalkRuns.{port_talk}
 
 -- THE LANE behind a reset of an end
 reset_lane : (e : End) (s : PortState) (event : NetEvent) (t : PortState) → PortStep s (OnLane event) t → IsReset e (OnLane event) → t.lane ≡ joined_at e (before event s).lane
-reset_lane A s (Steps A (Reset cause packet lost)) t step is =
-    step.1.is ∙ ap (λ (x : NetLeft). record (with_left A x s.lane) { wire = net_wire (Steps A (Reset cause packet lost)) s.lane }) step.1.step.2
-reset_lane B s (Steps B (Reset cause packet lost)) t step is =
-    let u : NetLaneState = (before (Steps B (Reset cause packet lost)) s).lane in
-    step.1.is ∙ ap (λ (x : NetLeft). record (with_left B x u) { wire = net_wire (Steps B (Reset cause packet lost)) u }) step.1.step.2
-reset_lane A s (Steps B (Reset cause packet lost)) t step is = absurd (cc is)
-reset_lane B s (Steps A (Reset cause packet lost)) t step is = absurd (cc is)
-reset_lane A s (Asked A lost) t step is = step.1.1
-reset_lane B s (Asked B lost) t step is = step.1.1
-reset_lane A s (Asked B lost) t step is = absurd (cc is)
-reset_lane B s (Asked A lost) t step is = absurd (cc is)
-reset_lane A s (Ticked queued lost) t step is = step.1.1.1
-reset_lane B s (Ticked queued lost) t step is = absurd (cc is)
-reset_lane e s _ t step is = absurd is
+reset_lane e s event t step is = grind arith
 
 reset_before : (e : End) (s : PortState) (event : NetEvent) → IsReset e (OnLane event) → remaining (before event s) ≡ remaining s
-reset_before e s (Steps end (Reset cause packet lost)) is = steps_before end (Reset cause packet lost) s
-reset_before e s (Asked end lost) is = refl
-reset_before e s (Ticked queued lost) is = refl
-reset_before e s _ is = absurd is
+reset_before e s event is = grind (arith, steps_before)
 
 -- AN END THAT WAS UP: the queues are empty, and the other end isn't up
 away : (y : ChannelState) → absent (upset y) ≡ 1
-away Resetting = refl
-away _ = refl
+away y = grind arith
 
 away_left : (y : ChannelState) (role : Role) (more : ℕ) (memory : List ℕ) (s : NetEndState) → end_left (upset y) role more memory s ≡ first_left role (length s.frames + more - unseen s.session)
-away_left Resetting role more memory s = refl
-away_left _ role more memory s = refl
+away_left y role more memory s = grind arith
 
 begins_a : (x : ChannelState) (g : NetEndState) (u : NetLaneState) (queued : ℕ) → x ≡ Up → up_left Initiator 0 u.guest_memory g ≡ first_left Initiator (length u.guest.frames + 0 - unseen u.guest.session)
     → remaining_of (joined_a x g u) queued ≡ 75 + 8 * kept_in u queued
-begins_a Up g u queued up first = omega (arith, first, away u.wire.wire.end_b, away_left u.wire.wire.end_b Responder queued u.hub_memory u.hub)
-begins_a _ g u queued up first = absurd (cc up)
+begins_a x g u queued up first = grind (arith, away, away_left)
 
 begins_b : (x : ChannelState) (h : NetEndState) (u : NetLaneState) (queued : ℕ) → x ≡ Up → up_left Responder queued u.hub_memory h ≡ first_left Responder (length u.hub.frames + queued - unseen u.hub.session)
     → remaining_of (joined_b x h u) queued ≡ 75 + 8 * kept_in u queued
-begins_b Up h u queued up first = omega (arith, first, away u.wire.wire.end_a, away_left u.wire.wire.end_a Initiator 0 u.guest_memory u.guest)
-begins_b _ h u queued up first = absurd (cc up)
+begins_b x h u queued up first = grind (arith, away, away_left)
 
 begins_at : (e : End) (shape : NetShape) (u : PortState) (l : PortLog) → Ready shape u l → IsUp e u.lane.wire.wire → remaining_of (joined_at e u.lane) (length u.queue) ≡ 75 + 8 * frames_kept u
 begins_at A shape u l ready up = begins_a u.lane.wire.wire.end_a (joined_net_end Initiator u.lane.guest) u.lane (length u.queue) up (begun_left A shape u l ready)
@@ -78,35 +57,20 @@ begins_at B shape u l ready up = begins_b u.lane.wire.wire.end_b (joined_net_end
 
 -- it keeps the frames that aren't published
 kept_same : (e : End) (shape : NetShape) (u : PortState) (l : PortLog) → Ready shape u l → kept_in (joined_at e u.lane) (length u.queue) ≡ frames_kept u
-kept_same A shape u l ready = omega (arith, length-drop (unseen u.lane.guest.session) u.lane.guest.frames)
-kept_same B shape u l ready =
-    let held = held_in u.lane.hub u.lane.hub.session refl ready.stands.1 in
-    omega (arith, held, length-drop (unseen u.lane.hub.session) u.lane.hub.frames)
+kept_same e shape u l ready = grind (arith, length-drop, held_in)
 
 -- each of them counts eight
 session_least : (role : Role) (slots held : ℕ) (memory : List ℕ) (session : Option NetSession) → 8 * (held - unseen session) ≤ session_left role slots held memory session
-session_least role slots held memory None = omega arith
-session_least role slots held memory (Some p) = omega arith
+session_least role slots held memory session = grind arith
 
 end_least : (x : ChannelState) (role : Role) (more : ℕ) (memory : List ℕ) (s : NetEndState) → 8 * (length s.frames + more - unseen s.session) ≤ end_left x role more memory s
-end_least Up role more memory s = omega (arith, session_least role s.slots (length s.frames + more) memory s.session)
-end_least Down Initiator more memory s = omega arith
-end_least Down Responder more memory s = omega arith
-end_least Resetting Initiator more memory s = omega arith
-end_least Resetting Responder more memory s = omega arith
+end_least x role more memory s = grind (arith, session_least)
 
 second_is : (lossy : Bool) → lossy ≡ true → second_life lossy ≡ 76
-second_is true lossy = refl
-second_is false lossy = absurd (cc lossy)
+second_is lossy lossy_2 = grind arith
 
 lossy_least : (u : PortState) → u.lane.wire.lossy ≡ true → 76 + 8 * frames_kept u ≤ remaining u
-lossy_least u lossy =
-    omega (
-      arith,
-      second_is u.lane.wire.lossy lossy,
-      end_least u.lane.wire.wire.end_a Initiator 0 u.lane.guest_memory u.lane.guest,
-      end_least u.lane.wire.wire.end_b Responder (length u.queue) u.lane.hub_memory u.lane.hub,
-    )
+lossy_least u lossy = grind (arith, second_is, end_least)
 
 -- ALONG EVERY RUN
 left_behind : (t : PortState) (u : NetLaneState) (queue : List (List ℕ)) → t.lane ≡ u → t.queue ≡ queue → remaining t ≡ remaining_of u (length queue)
@@ -134,8 +98,7 @@ port_begins shape events s e (OnLane event) t sound run step is up =
 port_begins shape events s e _ t sound run step is up = absurd is
 
 up_or_not : (x : ChannelState) → (x ≡ Up) ⊎ (x ≢ Up)
-up_or_not Up = inl refl
-up_or_not _ = inr (λ up. cc up)
+up_or_not x = grind arith
 
 pub port_again : (shape : NetShape) (events : List PortEvent) (s : PortState) (e : End) (event : PortEvent) (t : PortState) → IsNetShape shape → Run PortStep (fresh_port shape) events s
     → PortStep s event t → IsReset e event → (IsUp e s.lane.wire.wire → s.lane.wire.lossy ≡ true) → remaining t < remaining s

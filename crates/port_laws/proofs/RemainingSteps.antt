@@ -12,14 +12,13 @@ use Rattle.ldc_queue.specs.Transcript.{Turn}
 use Rattle.ldc_queue.specs.Wire.{peer_behind, peer_of, queue_behind, state_of}
 use Rattle.runs.specs.Lawful.{log_of}
 use Rattle.runs.specs.Run.{Run}
-use Rattle.vio_handshake.specs.declared.session.Offer.{Offer}
 use Rattle.channel_model.specs.Seeing.{Seen}
 use Rattle.channel_model.specs.TranscriptLog.{transcript_of}
 use Rattle.channel_model.specs.WireAt.{IsUp}
 use Rattle.channel_model.specs.WireEvent.{WireEvent}
 use Rattle.channel_model.specs.WireEvent as on_channel
 use Rattle.channel_model.specs.WireLog.{lossy_behind, wire_moved}
-use Rattle.channel_laws.specs.PacketsLeft.{all_of, left_in, messages_in, packets_left}
+use Rattle.channel_laws.specs.PacketsLeft.{all_of, left_in}
 use Rattle.channel_laws.specs.Standing.{EndStands}
 use Rattle.port_model.proofs.FramesKept.{held_in}
 use Rattle.port_model.proofs.Refuting.{false_true, true_false}
@@ -32,8 +31,8 @@ use Rattle.port_model.specs.NetEvent.{NetEvent, Steps}
 use Rattle.port_model.specs.NetLaneState.{IsNetShape, NetLaneState, NetShape, memory_of, net_end, reach_of, role_at, seen_at, with_left}
 use Rattle.port_model.specs.NetLaneStep.{EndSteps, net_wire}
 use Rattle.port_model.specs.PortLog.{PortLog, after, log_of_end, no_events}
-use Rattle.port_model.specs.PortState.{OnLane, PortEvent, PortState, PortStep, before, fresh_port, moves_first, takes_more}
-use Rattle.port_laws.specs.NetCore.{is_begun, net_core, net_core_at}
+use Rattle.port_model.specs.PortState.{OnLane, PortEvent, PortState, PortStep, before, fresh_port, moves_first}
+use Rattle.port_laws.specs.NetCore.{is_begun, net_core_at}
 use Rattle.port_laws.specs.Remaining.{absent, end_left, first_left, put_weight, remaining, remaining_of, second_life, session_left}
 use Rattle.port_laws.specs.RemainingSteps.{IsCalm, TakesNothing}
 use Rattle.port_laws.proofs.MemoryLong.{room_behind}
@@ -48,22 +47,13 @@ use Rattle.port_laws.proofs.RuleUnforged.{reach_memory}
 -- THE FRAME THAT MOVES from the queue counts as before
 moved_end : (x : ChannelState) (memory : List ℕ) (s : NetEndState) (frame : List ℕ) (more queued : ℕ) → length (s.frames ++ frame ∷ []) + more ≡ length s.frames + queued
     → end_left x Responder more memory (with_frame frame s) ≡ end_left x Responder queued memory s
-moved_end Up memory s frame more queued same = ap (λ (n : ℕ). put_weight Responder * packets_left (net_core Responder s) + session_left Responder s.slots n memory s.session) same
-moved_end _ memory s frame more queued same = ap (λ (n : ℕ). first_left Responder (n - unseen s.session)) same
+moved_end x memory s frame more queued same = grind arith
 
 moves_same : (b : Bool) (queue : List (List ℕ)) (s : PortState) → s.queue ≡ queue → remaining (moves_first b queue s) ≡ remaining s
-moves_same true [] s is = refl
-moves_same true (frame ∷ frames) s is =
-    omega (
-      arith,
-      moved_end s.lane.wire.wire.end_b s.lane.hub_memory s.lane.hub frame (length frames) (length s.queue)
-          (omega (arith, ap length is, length-append s.lane.hub.frames (frame ∷ []))),
-    )
-moves_same false queue s is = refl
+moves_same b queue s is = grind (arith, moved_end, length-append)
 
 pub steps_before : (e : End) (answer : NetAnswer) (s : PortState) → remaining (before (Steps e answer) s) ≡ remaining s
-steps_before A answer s = refl
-steps_before B answer s = moves_same (takes_more s.lane.hub) s.queue s refl
+steps_before e answer s = grind (arith, moves_same)
 
 -- ONE END goes on, and the other stays: so many frames come behind those of the switch's end
 abbrev pub more_at : End → ℕ → ℕ
@@ -75,13 +65,11 @@ left_at e queued memory s u = end_left (state_of e u.wire.wire) (role_at e) (mor
 
 end_falls : (x : ChannelState) (role : Role) (by more : ℕ) (memory : List ℕ) (s : NetEndState) (left : NetLeft) → x ≡ Up → Lowers role by memory s left
     → end_left x role more left.own left.end + by ≤ end_left x role more memory s
-end_falls x role by more memory s left up lower =
-    subst (λ (y : ChannelState). end_left y role more left.own left.end + by ≤ end_left y role more memory s) (sym up) (lower more)
+end_falls x role by more memory s left up lower = grind arith
 
 pub end_goes : (e : End) (u : NetLaneState) (queued by : ℕ) (left : NetLeft) → left.peer ≡ memory_of (peer_of e) u
     → left_at e queued left.own left.end u + by ≤ left_at e queued (memory_of e u) (net_end e u) u → remaining_of (with_left e left u) queued + by ≤ remaining_of u queued
-end_goes A u queued by left peer falls = omega (arith, falls, ap (λ (memory : List ℕ). end_left u.wire.wire.end_b Responder queued memory u.hub) peer)
-end_goes B u queued by left peer falls = omega (arith, falls, ap (λ (memory : List ℕ). end_left u.wire.wire.end_a Initiator 0 memory u.guest) peer)
+end_goes e u queued by left peer falls = grind arith
 
 goes : (e : End) (u : NetLaneState) (queued by : ℕ) (left : NetLeft) → IsUp e u.wire.wire → left.peer ≡ memory_of (peer_of e) u → Lowers (role_at e) by (memory_of e u) (net_end e u) left
     → remaining_of (with_left e left u) queued + by ≤ remaining_of u queued
@@ -91,30 +79,20 @@ goes e u queued by left up peer lower =
 -- one packet more waits, which counts less than it did at its end
 with_put : (e : End) (u : NetLaneState) (left : NetLeft) (packet : List ℕ) (opens : Bool) (queued : ℕ) → remaining_of (with_left e left u) queued + put_weight (role_at e) ≤ remaining_of u queued
     → remaining_of (record (with_left e left u) { wire = net_wire (Steps e (Sent packet opens)) u }) queued + 1 ≤ remaining_of u queued
-with_put A u left packet opens queued less = omega (arith, less, length-append u.wire.wire.to_b (packet ∷ []))
-with_put B u left packet opens queued less = omega (arith, less, length-append u.wire.wire.to_a (packet ∷ []))
+with_put e u left packet opens queued less = grind (arith, length-append)
 
 -- AN END JOINS: it counts as one that begins
 first_sum : (role : Role) (slots n held packets : ℕ) (memory : List ℕ) → packets ≡ left_in (first_phase role) (all_of true role) n
     → put_weight role * packets + session_left role slots held memory None ≡ first_left role held
-first_sum Initiator slots n held packets memory is = omega (arith, is)
-first_sum Responder slots n held packets memory is = omega (arith, is)
+first_sum role slots n held packets memory is = grind arith
 
 pub joined_same : (role : Role) (begun : Bool) (s : NetEndState) (turns : List Turn) (memory : List ℕ) (more : ℕ) → EndStands role (net_core_at role begun s) turns
     → up_left role more memory (joined_net_end role s) ≡ first_left role (length (joined_net_end role s).frames + more)
-joined_same role begun s turns memory more stands =
-    let n : ℕ = messages_in (net_core role (joined_net_end role s)) in
-    let is : packets_left (net_core role (joined_net_end role s)) ≡ left_in (first_phase role) (all_of true role) n =
-    ap (λ (r : Role). left_in (first_phase r) (all_of s.handshake.offer.both_rings s.handshake.role) n) stands.link.role_is
-    ∙ ap (λ (o : Offer). left_in (first_phase role) (all_of o.both_rings s.handshake.role) n) stands.handshake.offer_is
-    ∙ ap (λ (r : Role). left_in (first_phase role) (all_of true r) n) stands.handshake.role_is in
-    first_sum role s.slots n (length (drop (unseen s.session) s.frames) + more) (packets_left (net_core role (joined_net_end role s))) memory is
+joined_same role begun s turns memory more stands = grind (arith, first_sum)
 
 pub joined_left : (role : Role) (begun : Bool) (s : NetEndState) (turns : List Turn) (memory : List ℕ) (more : ℕ) → EndStands role (net_core_at role begun s) turns → FramesStand s
     → up_left role more memory (joined_net_end role s) ≡ first_left role (length s.frames + more - unseen s.session)
-joined_left role begun s turns memory more stands frames =
-    let held = held_in s s.session refl frames in
-    joined_same role begun s turns memory more stands ∙ ap (first_left role) (omega (arith, held, length-drop (unseen s.session) s.frames))
+joined_left role begun s turns memory more stands frames = grind (arith, held_in, joined_same, length-drop)
 
 abbrev pub joined_a : ChannelState → NetEndState → NetLaneState → NetLaneState
 joined_a x g u = record u {
@@ -143,21 +121,18 @@ wire_joined e = on_channel.Joined e 0
 
 joined_is : (e : End) (u t : NetLaneState) (left : NetLeft) → t ≡ record (with_left e left u) { wire = wire_moved u.wire (wire_joined e) }
     → left ≡ leaves (joined_net_end (role_at e) (net_end e u)) (memory_of e u) (reach_of e u) → t ≡ joined_at e u
-joined_is A u t left is to = is ∙ ap (λ (x : NetLeft). record (with_left A x u) { wire = wire_moved u.wire (wire_joined A) }) to
-joined_is B u t left is to = is ∙ ap (λ (x : NetLeft). record (with_left B x u) { wire = wire_moved u.wire (wire_joined B) }) to
+joined_is e u t left is to = grind arith
 
 -- what remains, with another state of the guest's end, and of the hub's
 joins_a : (x : ChannelState) (g : NetEndState) (u : NetLaneState) (queued : ℕ) → x ≢ Up → up_left Initiator 0 u.guest_memory g ≡ first_left Initiator (length u.guest.frames + 0 - unseen u.guest.session)
     → remaining_of (joined_a x g u) queued + 1 ≤ absent x + absent u.wire.wire.end_b + length u.wire.wire.to_a + 3 * length u.wire.wire.to_b
     + end_left x Initiator 0 u.guest_memory u.guest + end_left u.wire.wire.end_b Responder queued u.hub_memory u.hub + second_life u.wire.lossy
-joins_a Up g u queued away first = absurd (away refl)
-joins_a _ g u queued away first = omega (arith, first)
+joins_a x g u queued away first = grind arith
 
 joins_b : (x : ChannelState) (h : NetEndState) (u : NetLaneState) (queued : ℕ) → x ≢ Up → up_left Responder queued u.hub_memory h ≡ first_left Responder (length u.hub.frames + queued - unseen u.hub.session)
     → remaining_of (joined_b x h u) queued + 1 ≤ absent u.wire.wire.end_a + absent x + length u.wire.wire.to_a + 3 * length u.wire.wire.to_b
     + end_left u.wire.wire.end_a Initiator 0 u.guest_memory u.guest + end_left x Responder queued u.hub_memory u.hub + second_life u.wire.lossy
-joins_b Up h u queued away first = absurd (away refl)
-joins_b _ h u queued away first = omega (arith, first)
+joins_b x h u queued away first = grind arith
 
 pub begun_left : (e : End) (shape : NetShape) (u : PortState) (l : PortLog) → Ready shape u l → up_left (role_at e) (more_at e (length u.queue)) (memory_of e u.lane) (joined_net_end (role_at e) (net_end e u.lane))
     ≡ first_left (role_at e) (length (net_end e u.lane).frames + more_at e (length u.queue) - unseen (net_end e u.lane).session)
@@ -173,20 +148,16 @@ away_falls B shape u l ready away = joins_b u.lane.wire.wire.end_b (joined_net_e
 
 -- A STEP, by its answer
 not_up : (x : ChannelState) → is_up x ≡ false → x ≢ Up
-not_up Up is = true_false is
-not_up _ is = λ up. false_true (ap is_up up)
+not_up x is = grind (arith, true_false, false_true)
 
 pub room_at : (e : End) (slots : ℕ) (u : NetLaneState) → MemoryHasRoom slots u → 8192 + 2048 * slots ≤ length (memory_of e u)
-room_at A slots u room = room.guest
-room_at B slots u room = room.hub
+room_at e slots u room = grind arith
 
 pub seen_up : (e : End) (u : NetLaneState) → is_up (seen_at e u).state ≡ true → IsUp e u.wire.wire
-seen_up A u up = up_is u.wire.wire.end_a up
-seen_up B u up = up_is u.wire.wire.end_b up
+seen_up e u up = grind (arith, up_is)
 
 not_seen : (e : End) (u : NetLaneState) → is_up (seen_at e u).state ≡ false → state_of e u.wire.wire ≢ Up
-not_seen A u away = not_up u.wire.wire.end_a away
-not_seen B u away = not_up u.wire.wire.end_b away
+not_seen e u away = grind (arith, not_up)
 
 -- what remains with the wire as it was
 on_wire : (e : End) (left : NetLeft) (u : NetLaneState) (queued : ℕ) → remaining_of (record (with_left e left u) { wire = u.wire }) queued ≡ remaining_of (with_left e left u) queued

@@ -1,6 +1,6 @@
 -- What remains on a port that nobody forged falls by each packet that an end takes.
 use Rattle.std.proofs.Common.{◌≡◌, ℕ, ◌+◌, ◌-◌, ◌*◌, ◌<◌, ◌≤◌, Bool, false, Option, Some, None, List, length, drop, refl, sym, subst, ap, ◌∙◌, arith, length-drop}
-use Rattle.std.specs.Prelude.{is_some, ⊤}
+use Rattle.std.specs.Prelude.{⊤}
 use Rattle.ldc_link.specs.declared.phase.Role.{Role}
 use Rattle.ldc_link.specs.declared.phase.Role.TheVariants.{Initiator, Responder}
 use Rattle.ldc_link.specs.LinkState.{LinkState}
@@ -8,7 +8,6 @@ use Rattle.ldc_packet.specs.declared.packet.Subtype.{Subtype}
 use Rattle.ldc_queue.specs.declared.end.ChannelState.{ChannelState}
 use Rattle.ldc_queue.specs.declared.end.ChannelState.TheVariants.{Up}
 use Rattle.ldc_queue.specs.declared.end.End.{End}
-use Rattle.ldc_queue.specs.declared.end.End.TheVariants.{A, B}
 use Rattle.ldc_queue.specs.Transcript.{Turn}
 use Rattle.ldc_queue.specs.Wire.{peer_of, state_of}
 use Rattle.runs.specs.Lawful.{log_of}
@@ -26,23 +25,23 @@ use Rattle.port_model.proofs.Ruling.{says_of}
 use Rattle.port_model.specs.FramesStand.{CountsStand, FramesStand}
 use Rattle.port_model.specs.NetEndPutting.{cleared_ring}
 use Rattle.port_model.specs.NetEndRule.{Takes}
-use Rattle.port_model.specs.NetEndState.{GroupsReply, NetEndState, NetSession, opened_net_end, unseen_in, with_session}
+use Rattle.port_model.specs.NetEndState.{GroupsReply, NetEndState, NetSession, opened_net_end, unseen_in}
 use Rattle.port_model.specs.NetEndStep.{NetLeft, Took}
-use Rattle.port_model.specs.NetEndTaking.{GoesOn, NetTake, NetTakes, Resets, acknowledged, active, freed, replying}
+use Rattle.port_model.specs.NetEndTaking.{GoesOn, NetTake, NetTakes, Resets, active, replying}
 use Rattle.port_model.specs.NetEvent.{NetEvent, Steps}
 use Rattle.port_model.specs.NetLaneState.{IsNetShape, NetLaneState, NetShape, memory_of, net_end, role_at, seen_at, with_left}
 use Rattle.port_model.specs.NetLaneStep.{EndSteps, net_wire}
 use Rattle.port_model.specs.Offers.{port_offer}
 use Rattle.port_model.specs.PortLog.{PortLog, after, no_events}
 use Rattle.port_model.specs.PortState.{OnLane, PortEvent, PortState, PortStep, before, fresh_port}
-use Rattle.port_laws.specs.NetCore.{is_begun, lane_core, net_core, net_core_at, one_if}
+use Rattle.port_laws.specs.NetCore.{is_begun, lane_core, net_core, net_core_at}
 use Rattle.port_laws.specs.PortCore.{port_core, port_events}
-use Rattle.port_laws.specs.Remaining.{answers_left, end_left, frames_left, groups_left, put_weight, ready_slots, ready_weight, remaining, remaining_of, session_left, took_some}
+use Rattle.port_laws.specs.Remaining.{end_left, put_weight, ready_slots, ready_weight, remaining, remaining_of, session_left}
 use Rattle.port_laws.proofs.CoreLaws.{offers_match, sizes_fit}
 use Rattle.port_laws.proofs.FlightSums.{first_gone}
 use Rattle.port_laws.proofs.MemoryLong.{room_behind}
 use Rattle.port_laws.proofs.MemoryRoom.{MemoryHasRoom, before_room}
-use Rattle.port_laws.proofs.MessageDoes.{Acks, Asks, Declines, MessageDoes, Names, TakeDoes, Told}
+use Rattle.port_laws.proofs.MessageDoes.{MessageDoes, TakeDoes}
 use Rattle.port_laws.proofs.PortCounts.{Ready}
 use Rattle.port_laws.proofs.PortRuns.{before_core, fresh_port_core, port_fits_behind, port_step_core}
 use Rattle.port_laws.proofs.RemainingEnds.{answers_less, groups_same, own_left}
@@ -75,34 +74,23 @@ Sum role slots held memory p = session_left role slots held memory (Some p)
 
 with_gained : (role : Role) (more : ℕ) (memory new : List ℕ) (s t : NetEndState) (p q : NetSession) → s.session ≡ Some p → t.session ≡ Some q
     → Sum role t.slots (length t.frames + more) new q ≤ Sum role s.slots (length s.frames + more) memory p + slack role → Gained role more memory s new t
-with_gained role more memory new s t p q is after less =
-    subst (λ (x : Option NetSession). session_left role t.slots (length t.frames + more) new x ≤ own_left role more memory s + slack role) (sym after)
-    (subst (λ (x : Option NetSession). Sum role t.slots (length t.frames + more) new q ≤ session_left role s.slots (length s.frames + more) memory x + slack role) (sym is) less)
+with_gained role more memory new s t p q is after less = grind arith
 
 asks_sum : (role : Role) (slots held : ℕ) (memory : List ℕ) (p : NetSession) (seq start : ℕ) → Sum role slots held memory (active p seq start) ≤ Sum role slots held memory p
-asks_sum role slots held memory p seq start =
-    let less = answers_less role (frames_left role slots held memory (Some p)) (0 + one_if (is_some p.reply)) (one_if (took_some p.active) + one_if (is_some p.reply)) (groups_left role (Some p)) 0 (omega arith) in
-    omega (arith, less, groups_same role p (active p seq start) refl)
+asks_sum role slots held memory p seq start = grind (arith, answers_less, groups_same)
 
 ack_falls : (role : Role) (fresh few many ready more rest : ℕ) → few ≤ many → ready ≤ more
     → 8 * fresh + put_weight role * few + ready_weight role * ready + rest ≤ 8 * fresh + put_weight role * many + ready_weight role * more + rest
-ack_falls Initiator fresh few many ready more rest one two = omega (arith, one, two)
-ack_falls Responder fresh few many ready more rest one two = omega (arith, one, two)
+ack_falls role fresh few many ready more rest one two = grind arith
 
 acks_sum : (role : Role) (slots count more : ℕ) (memory new : List ℕ) (frames : List (List ℕ)) (p : NetSession) → 1 ≤ count → p.seen + count ≤ p.published → unseen_in p ≤ length frames
     → ready_slots slots new ≤ ready_slots slots memory
     → Sum role slots (length (drop count frames) + more) new (record p { seen = p.seen + count; asking = false }) ≤ Sum role slots (length frames + more) memory p
-acks_sum role slots count more memory new frames p some within held ready =
-    let q : NetSession = record p { seen = p.seen + count; asking = false } in
-    let fresh : length (drop count frames) + more - unseen_in q ≡ length frames + more - unseen_in p = omega (arith, within, held, length-drop count frames) in
-    let less = ack_falls role (length frames + more - unseen_in p) (unseen_in q - 0) (unseen_in p - one_if p.asking) (ready_slots slots new) (ready_slots slots memory)
-    (answers_left role (Some p) + groups_left role (Some p)) (omega (arith, some, within, one_most p.asking)) ready in
-    omega (arith, less, fresh, groups_same role p q refl)
+acks_sum role slots count more memory new frames p some within held ready = grind (arith, length-drop, ack_falls, one_most, groups_same)
 
 names_sum : (role : Role) (slots held : ℕ) (memory : List ℕ) (p : NetSession) (reply : GroupsReply) → role ≡ Responder
     → Sum role slots held memory (replying reply p) ≤ Sum role slots held memory p + slack role
-names_sum Responder slots held memory p reply is = omega arith
-names_sum Initiator slots held memory p reply is = absurd (cc is)
+names_sum role slots held memory p reply is = grind arith
 
 told_sum : (role : Role) (slots held : ℕ) (memory : List ℕ) (p : NetSession) → Sum role slots held memory (record p { telling = false }) ≤ Sum role slots held memory p
 told_sum role slots held memory p = omega (arith, groups_same role p (record p { telling = false }) refl)
@@ -115,34 +103,8 @@ GainedBy role more memory s t new = Gained role more memory s new t
 
 does_gain : (role : Role) (more : ℕ) (memory : List ℕ) (s : NetEndState) (p : NetSession) (subtype : Subtype) (b : MsgBody) (t : NetEndState) (new : List ℕ) → s.session ≡ Some p → CountsStand s p
     → 1 ≤ s.slots → 64 * s.slots ≤ length memory → MessageDoes role s p memory subtype b t new → Gained role more memory s new t
-does_gain role more memory s p subtype b t new session stands some room (Asks seq ident start end state kind body place stays is) =
-    subst (λ (x : List ℕ). GainedBy role more memory s t x) (sym stays)
-    (subst (λ (x : NetEndState). GainedBy role more memory s x memory) (sym is)
-    (with_gained role more memory memory s (with_session (active p seq start) s) p (active p seq start) session refl
-    (omega (arith, asks_sum role s.slots (length s.frames + more) memory p seq start))))
-does_gain role more memory s p subtype b t new session stands some room (Acks seq ident start end state kind body begins inside most undone stays is) =
-    let count : ℕ = range_length s.slots start end in
-    subst (λ (x : List ℕ). GainedBy role more memory s t x) (sym stays)
-    (subst (λ (x : NetEndState). GainedBy role more memory s x (freed s.slots p.seen count memory)) (sym is)
-    (with_gained role more memory (freed s.slots p.seen count memory) s (acknowledged p count s) p (record p { seen = p.seen + count; asking = false }) session refl
-    (omega (
-      arith,
-      acks_sum role s.slots count more memory (freed s.slots p.seen count memory) s.frames p (range_some s.slots start end) most stands.held
-          (freed_less s.slots p.seen count memory some room),
-    ))))
-does_gain role more memory s p subtype b t new session stands some room (Names set count addresses groups reply answer hub kind body stays is) =
-    subst (λ (x : List ℕ). GainedBy role more memory s t x) (sym stays)
-    (subst (λ (x : NetEndState). GainedBy role more memory s x memory) (sym is)
-    (with_gained role more memory memory s (with_session (replying reply p) (record s { groups = groups })) p (replying reply p) session refl
-    (names_sum role s.slots (length s.frames + more) memory p reply hub)))
-does_gain role more memory s p subtype b t new session stands some room (Told set count addresses guest kind body telling stays is) =
-    subst (λ (x : List ℕ). GainedBy role more memory s t x) (sym stays)
-    (subst (λ (x : NetEndState). GainedBy role more memory s x memory) (sym is)
-    (with_gained role more memory memory s (with_session (record p { telling = false }) s) p (record p { telling = false }) session refl
-    (omega (arith, told_sum role s.slots (length s.frames + more) memory p))))
-does_gain role more memory s p subtype b t new session stands some room (Declines h declined stays is) =
-    subst (λ (x : List ℕ). GainedBy role more memory s t x) (sym stays)
-    (subst (λ (x : NetEndState). GainedBy role more memory s x memory) (sym is) (same_gained role more memory s))
+does_gain role more memory s p subtype b t new session stands some room given =
+    grind (arith, with_gained, asks_sum, acks_sum, range_some, freed_less, names_sum, told_sum, same_gained)
 
 take_gains : (role : Role) (more : ℕ) (memory : List ℕ) (s : NetEndState) (p : NetSession) (subtype : Subtype) (b : MsgBody) (take : NetTake) → s.session ≡ Some p → CountsStand s p
     → 1 ≤ s.slots → 64 * s.slots ≤ length memory → TakeDoes role s p memory subtype b take → Gains role more memory s take
@@ -176,39 +138,30 @@ took_gains role more memory packet s t turns opens new ends stands some room tak
 
 -- THE LANE
 weighs : (role : Role) (few many left less : ℕ) → few ≤ many → left ≤ less + slack role → put_weight role * few + left ≤ put_weight role * many + less + slack role
-weighs Initiator few many left less packets own = omega (arith, packets, own)
-weighs Responder few many left less packets own = omega (arith, packets, own)
+weighs role few many left less packets own = grind arith
 
 end_took : (x : ChannelState) (role : Role) (more : ℕ) (memory new : List ℕ) (s t : NetEndState) → x ≡ Up → packets_left (net_core role t) ≤ packets_left (net_core role s)
     → Gained role more memory s new t → end_left x role more new t ≤ end_left x role more memory s + slack role
-end_took x role more memory new s t up packets gained =
-    subst (λ (y : ChannelState). end_left y role more new t ≤ end_left y role more memory s + slack role) (sym up)
-    (weighs role (packets_left (net_core role t)) (packets_left (net_core role s)) (own_left role more new t) (own_left role more memory s) packets gained)
+end_took x role more memory new s t up packets gained = grind (arith, weighs)
 
 at_up : (x : ChannelState) (role : Role) (s : NetEndState) → x ≡ Up → packets_left (net_core_at role (is_begun x) s) ≡ packets_left (net_core role s)
 at_up x role s up = ap (λ (y : ChannelState). packets_left (net_core_at role (is_begun y) s)) up
 
 core_packets : (e : End) (u : NetLaneState) → IsUp e u.wire.wire → packets_left (end_of e (lane_core u)) ≡ packets_left (net_core (role_at e) (net_end e u))
-core_packets A u up = at_up u.wire.wire.end_a Initiator u.guest up
-core_packets B u up = at_up u.wire.wire.end_b Responder u.hub up
+core_packets e u up = grind (arith, at_up)
 
 -- one packet less waits, which counted more than what it brings
 without_first : (e : End) (u : NetLaneState) (packet : List ℕ) (opens : Bool) (queued : ℕ) (left : NetLeft) → IsFirstOn packet e u.wire.wire → left.peer ≡ memory_of (peer_of e) u
     → left_at e queued left.own left.end u ≤ left_at e queued (memory_of e u) (net_end e u) u + slack (role_at e)
     → remaining_of (record (with_left e left u) { wire = net_wire (Steps e (Took packet opens)) u }) queued + 1 ≤ remaining_of u queued
-without_first A u packet opens queued left first peer less =
-    omega (arith, less, first_gone packet u.wire.wire.to_a first, ap (λ (memory : List ℕ). end_left u.wire.wire.end_b Responder queued memory u.hub) peer)
-without_first B u packet opens queued left first peer less =
-    omega (arith, less, first_gone packet u.wire.wire.to_b first, ap (λ (memory : List ℕ). end_left u.wire.wire.end_a Initiator 0 memory u.guest) peer)
+without_first e u packet opens queued left first peer less = grind (arith, first_gone)
 
 first_seen : (e : End) (u : NetLaneState) (packet : List ℕ) → (seen_at e u).first ≡ Some packet → IsFirstOn packet e u.wire.wire
-first_seen A u packet first = first
-first_seen B u packet first = first
+first_seen e u packet first = grind arith
 
 state_took : (e : End) (left : NetLeft) (u : NetLaneState) (packet : List ℕ) (opens : Bool) → IsUp e u.wire.wire
     → packets_left (end_of e (lane_core (record (with_left e left u) { wire = net_wire (Steps e (Took packet opens)) u }))) ≡ packets_left (net_core (role_at e) left.end)
-state_took A left u packet opens up = at_up u.wire.wire.end_a Initiator left.end up
-state_took B left u packet opens up = at_up u.wire.wire.end_b Responder left.end up
+state_took e left u packet opens up = grind (arith, at_up)
 
 lane_took : (shape : NetShape) (u : PortState) (l : PortLog) (e : End) (packet : List ℕ) (opens : Bool) (t : NetLaneState) → Ready shape u l → MemoryHasRoom shape.slots u.lane
     → EndSteps e u.lane (Took packet opens) t → packets_left (end_of e (lane_core t)) ≤ packets_left (end_of e (lane_core u.lane))

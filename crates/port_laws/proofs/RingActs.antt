@@ -1,6 +1,6 @@
 -- What a step of an end leaves of both rings, and of what both logs say, where nobody forged: one proof for either end.
-use Rattle.std.proofs.Common.{◌≡◌, ◌≢◌, ℕ, zero, suc, ◌+◌, ◌≤◌, Bool, true, false, Option, Some, None, List, [], ◌∷◌, length, take, refl, sym, ap, ◌∙◌, subst, arith}
-use Rattle.std.specs.Prelude.{◌/◌, ◌%◌, is_some, nat_le, if◌then◌else◌, slice_get, slice_index_or}
+use Rattle.std.proofs.Common.{◌≡◌, ◌≢◌, ℕ, ◌+◌, ◌≤◌, Bool, true, false, Option, Some, None, List, [], ◌∷◌, length, refl, sym, ap, ◌∙◌, subst, arith}
+use Rattle.std.specs.Prelude.{◌/◌, ◌%◌, is_some, if◌then◌else◌, slice_get, slice_index_or}
 use Rattle.std.proofs.lemmas.List.FromFn.{get_or-map-range_with_len, length-map-range_with_len}
 use Rattle.std.proofs.lemmas.List.{get_or_past}
 use Rattle.cookie_copy.specs.Faults.{is_up}
@@ -14,8 +14,6 @@ use Rattle.ldc_queue.specs.declared.end.End.{End}
 use Rattle.ldc_queue.specs.declared.end.End.TheVariants.{A, B}
 use Rattle.ldc_queue.specs.Transcript.{Turn}
 use Rattle.ldc_queue.specs.Wire.{peer_of, state_of}
-use Rattle.map_table.specs.declared.cookie.Cookie.{Cookie}
-use Rattle.map_table.specs.declared.table.Entry.{Entry}
 use Rattle.vio_handshake.specs.declared.handshake.Handshake.{Handshake}
 use Rattle.vio_handshake.specs.declared.session.Offer.{Offer}
 use Rattle.vio_handshake.specs.Pairing.{KnowsBoth, KnowsRing}
@@ -43,8 +41,7 @@ use Rattle.port_model.specs.NetLaneStep.{EndSteps, net_wire}
 use Rattle.port_model.specs.Offers.{port_offer, ring_cookie}
 use Rattle.port_model.specs.PortLog.{PortLog, after, after_answer, log_of_end}
 use Rattle.port_model.specs.PortState.{OnLane, PortState}
-use Rattle.port_model.specs.Spoken.{spoken}
-use Rattle.port_laws.specs.Counted.{EndCounts, unsaid}
+use Rattle.port_laws.specs.Counted.{EndCounts}
 use Rattle.port_laws.specs.NetCore.{lane_core, net_core}
 use Rattle.port_laws.specs.RingStands.{RingIn, RingStands, taken_by, taken_in, taken_of}
 use Rattle.port_laws.proofs.EndCounting.{open_counts, shut_counts}
@@ -73,12 +70,10 @@ pub record Rings (s : NetLaneState) (l : PortLog) : Type 0 where
   pub hub_ring : RingStands B s l
 
 pub spoke_of : (e : End) (s : NetLaneState) (l : PortLog) → Rings s l → SpokeIn (role_at e) (transcript_of e l.transcript) (log_of_end e l).session
-spoke_of A s l rings = rings.guest_spoke
-spoke_of B s l rings = rings.hub_spoke
+spoke_of e s l rings = grind arith
 
 pub ring_of_end : (e : End) (s : NetLaneState) (l : PortLog) → Rings s l → RingStands e s l
-ring_of_end A s l rings = rings.guest_ring
-ring_of_end B s l rings = rings.hub_ring
+ring_of_end e s l rings = grind arith
 
 -- the ring of an end's peer, of which that end takes frames
 abbrev pub PeerRing : End → NetLaneState → PortLog → Type 0
@@ -87,13 +82,11 @@ PeerRing e s l =
     → RingIn l.shape.slots (taken_of e s l) (net_end (peer_of e) s).session (net_end (peer_of e) s).frames (memory_of (peer_of e) s)
 
 pub peer_ring_of : (e : End) (s : NetLaneState) (l : PortLog) → Rings s l → PeerRing e s l
-peer_ring_of A s l rings = rings.hub_ring
-peer_ring_of B s l rings = rings.guest_ring
+peer_ring_of e s l rings = grind arith
 
 together : (e : End) (s : NetLaneState) (l : PortLog) → SpokeIn (role_at e) (transcript_of e l.transcript) (log_of_end e l).session
     → SpokeIn (role_at (peer_of e)) (transcript_of (peer_of e) l.transcript) (log_of_end (peer_of e) l).session → RingStands e s l → PeerRing e s l → Rings s l
-together A s l spoke peer_spoke ring peer_ring = record { guest_spoke = spoke; hub_spoke = peer_spoke; guest_ring = ring; hub_ring = peer_ring }
-together B s l spoke peer_spoke ring peer_ring = record { guest_spoke = peer_spoke; hub_spoke = spoke; guest_ring = peer_ring; hub_ring = ring }
+together e s l spoke peer_spoke ring peer_ring = grind arith
 
 -- WHAT A STEP LEAVES, field by field
 pub record StepNow (e : End) (u t : NetLaneState) (answer : NetAnswer) (left : NetLeft) : Type 0 where
@@ -105,30 +98,14 @@ pub record StepNow (e : End) (u t : NetLaneState) (answer : NetAnswer) (left : N
   pub reaches : (reach_of e u).memory ≡ memory_of (peer_of e) u
 
 pub step_now : (e : End) (u t : NetLaneState) (answer : NetAnswer) → (step : EndSteps e u answer t) → StepNow e u t answer step.left
-step_now A u t answer step = record {
-  end = ap (λ (x : NetLaneState). x.guest) step.is;
-  own = ap (λ (x : NetLaneState). x.guest_memory) step.is;
-  peer_end = ap (λ (x : NetLaneState). x.hub) step.is;
-  peer_memory = ap (λ (x : NetLaneState). x.hub_memory) step.is;
-  wire = ap (λ (x : NetLaneState). x.wire) step.is;
-  reaches = refl;
-}
-step_now B u t answer step = record {
-  end = ap (λ (x : NetLaneState). x.hub) step.is;
-  own = ap (λ (x : NetLaneState). x.hub_memory) step.is;
-  peer_end = ap (λ (x : NetLaneState). x.guest) step.is;
-  peer_memory = ap (λ (x : NetLaneState). x.guest_memory) step.is;
-  wire = ap (λ (x : NetLaneState). x.wire) step.is;
-  reaches = refl;
-}
+step_now e u t answer step = grind arith
 
 pub record LogNow (e : End) (l : PortLog) (answer : NetAnswer) : Type 0 where
   pub mine : log_of_end e (after l (OnLane (Steps e answer))) ≡ after_answer l.shape.slots (transcript_of e l.transcript) answer (log_of_end e l)
   pub theirs : log_of_end (peer_of e) (after l (OnLane (Steps e answer))) ≡ log_of_end (peer_of e) l
 
 pub log_now : (e : End) (l : PortLog) (answer : NetAnswer) → LogNow e l answer
-log_now A l answer = record { mine = refl; theirs = refl }
-log_now B l answer = record { mine = refl; theirs = refl }
+log_now e l answer = grind arith
 
 -- AN OPEN SESSION of the end is one of its log
 pub record OpenBoth (s : NetEndState) (l : EndLog) : Type 0 where
@@ -137,19 +114,7 @@ pub record OpenBoth (s : NetEndState) (l : EndLog) : Type 0 where
   pub none : s.session ≡ None → l.session ≡ None
 
 pub open_both : (role : Role) (slots : ℕ) (queue : List (List ℕ)) (s : NetEndState) (l : EndLog) → EndCounts role slots queue s l → OpenBoth s l
-open_both role slots queue s l counts = by_session s.session refl
-  where
-    by_session : (session : Option NetSession) → s.session ≡ session → OpenBoth s l
-    by_session None is =
-        let gone = shut_counts role slots queue s l counts is in
-        record { shut = λ none. ap is_some is; opened = λ some. absurd (some gone.is); none = λ none. gone.is }
-    by_session (Some p) is =
-        let here = open_counts role slots queue s l p counts is in
-        record {
-          shut = λ none. none_some here.of_log (sym none ∙ here.is);
-          opened = λ some. ap is_some is;
-          none = λ none. none_some p (sym none ∙ is);
-        }
+open_both role slots queue s l counts = grind (arith, shut_counts, open_counts, none_some)
 
 some_session : (session : Option NetSession) → session ≡ None → is_some session ≡ false
 some_session session is = ap is_some is
@@ -177,8 +142,7 @@ pub record Busy (answer : NetAnswer) (log : Option SessionLog) : Type 0 where
   pub active : Active answer log
 
 frame_busy : (frame : List ℕ) (log : Option SessionLog) → InSession log IsActive → Busy (Frame frame) log
-frame_busy frame None is = absurd is
-frame_busy frame (Some v) is = record { busy = some_not v; active = is }
+frame_busy frame log is = grind (arith, some_not)
 
 pub step_busy : (role : Role) (slots : ℕ) (queue : List (List ℕ)) (s : NetEndState) (l : EndLog) (turns : List Turn) (at : Seen) (memory : List ℕ) (reach : Reach) (answer : NetAnswer) (left : NetLeft)
     → (is_up at.state ≡ true → Acting role slots queue s l turns) → NetEndStep role s at memory reach answer left → Busy answer l.session
@@ -192,15 +156,10 @@ step_busy role slots queue s l turns at memory reach _ left acts step = record {
 
 -- AN END THAT ISN'T IN SESSION has a peer that took nothing
 none_asked : (role : Role) (turns : List Turn) (v : SessionLog) (n : ℕ) → v.taken ≡ n → Spoke role turns v → (1 ≤ v.asked → ⊥) → n ≡ 0
-none_asked role turns v n is spoke never = by_asked v.asked refl
-  where
-    by_asked : (asked : ℕ) → v.asked ≡ asked → n ≡ 0
-    by_asked zero none = sym is ∙ spoke.quiet none
-    by_asked (suc more) some = absurd (never (omega (arith, some)))
+none_asked role turns v n is spoke never = grind arith
 
 none_taken : (role : Role) (turns : List Turn) (x : ChannelState) (log : Option SessionLog) → SpokeIn role turns log → (x ≡ Up → (v : SessionLog) → log ≡ Some v → 1 ≤ v.asked → ⊥) → taken_by x log ≡ 0
-none_taken role turns Up (Some v) spoke never = none_asked role turns v v.taken refl spoke (never refl v refl)
-none_taken role turns _ _ spoke never = refl
+none_taken role turns x log spoke never = grind (arith, none_asked)
 
 pub shut_peer : (shape : NetShape) (e : End) (u : NetLaneState) (l : PortLog) → PortTalks shape (lane_core u) l → Rings u l → (net_end e u).session ≡ None
     → taken_by (state_of (peer_of e) u.wire.wire) (log_of_end (peer_of e) l).session ≡ 0
@@ -217,32 +176,20 @@ shut_peer shape B u l talks rings none =
 
 -- AN END REACHES ITS PEER'S RING where both are in session
 table_within : (pages index : ℕ) → index + 1 ≤ pages → slice_index_or (own_table pages) index None ≡ Some (own_entry index)
-table_within pages index below =
-    let f : ℕ → Option Entry = λ (page : ℕ). Some (own_entry page) in
-    let same : 0 + index ≡ index = omega arith in
-    get_or-map-range_with_len f 0 pages index index None (omega (arith, below)) same
+table_within pages index below = grind (arith, get_or-map-range_with_len)
 
 table_past : (pages index : ℕ) → pages ≤ index → slice_index_or (own_table pages) index None ≡ None
-table_past pages index past =
-    let f : ℕ → Option Entry = λ (page : ℕ). Some (own_entry page) in
-    get_or_past (own_table pages) index None (omega (arith, length-map-range_with_len f 0 pages, past))
+table_past pages index past = grind (arith, get_or_past, length-map-range_with_len)
 
 few_buffers : (b : Bool) (slots : ℕ) → slots ≤ 64 → 1 + (if b then slots / 4 else 1) ≤ 1028
-few_buffers true slots few = omega (arith, few)
-few_buffers false slots few = omega arith
+few_buffers b slots few = grind arith
 
 pub own_identity : (slots : ℕ) → slots ≤ 64 → IsIdentity (own_table (memory_pages slots)) (memory_pages slots)
-own_identity slots few = record {
-  few = few_buffers (nat_le 4 slots) slots few;
-  each = λ index below. table_within (memory_pages slots) index (omega (arith, below));
-  others = table_past (memory_pages slots);
-}
+own_identity slots few = grind (arith, few_buffers, table_within, table_past)
 
 known_cookies : (f : NetEndState) (offer : Offer) (role : Role) (address : List ℕ) (slots : ℕ) → f.handshake.draft.peer_count ≡ offer.count → f.handshake.draft.peer_cookies ≡ offer.cookies
     → offer ≡ port_offer role address slots → slots_cookies f ≡ ring_cookie slots ∷ []
-known_cookies f offer role address slots count cookies is =
-    ap (λ (n : ℕ). take n f.handshake.draft.peer_cookies) (count ∙ ap (λ (o : Offer). o.count) is)
-    ∙ ap (λ (cs : List Cookie). take 1 cs) (cookies ∙ ap (λ (o : Offer). o.cookies) is)
+known_cookies f offer role address slots count cookies is = grind arith
 
 -- both ends in session
 pub record InOne (shape : NetShape) (u : NetLaneState) : Type 0 where
@@ -277,35 +224,18 @@ pub record Finds (shape : NetShape) (u : PortState) (l : PortLog) : Type 0 where
   pub rings : Rings u.lane l
 
 pub left_taken : (left : Option (List ℕ)) (v : SessionLog) → (said_in left v).taken ≡ v.taken
-left_taken None v = refl
-left_taken (Some message) v = saying_taken (spoken message) message v
+left_taken left v = grind (arith, saying_taken)
 
 pub place_is : (role : Role) (slots : ℕ) (queue : List (List ℕ)) (s : NetEndState) (l : EndLog) (q : NetSession) → EndCounts role slots queue s l → s.session ≡ Some q
     → q.place ≡ taken_in l.session % slots
-place_is role slots queue s l q counts is =
-    let here = open_counts role slots queue s l q counts is in
-    here.counts.peer.place ∙ ap (λ (n : ℕ). n % slots) (left_taken (unsaid s) here.of_log ∙ sym (ap taken_in here.is))
+place_is role slots queue s l q counts is = grind (arith, open_counts, left_taken)
 
 pub end_room : (shape : NetShape) (e : End) (u : PortState) (l : PortLog) → Finds shape u l → Fits shape.slots (memory_of e u.lane)
-end_room shape A u l finds = record { few = finds.ready.sound.most_slots; room = finds.room.guest }
-end_room shape B u l finds = record { few = finds.ready.sound.most_slots; room = finds.room.hub }
+end_room shape e u l finds = grind arith
 
 pub end_reaches : (shape : NetShape) (e : End) (u : PortState) (l : PortLog) → Finds shape u l → is_some (net_end e u.lane).session ≡ true → is_some (net_end (peer_of e) u.lane).session ≡ true
     → Reaches (net_end e u.lane) (reach_of e u.lane) shape.slots (memory_pages shape.slots)
-end_reaches shape A u l finds mine theirs =
-    let is = finds.ready.sound in
-    record {
-      identity = subst (λ (table : List (Option Entry)). IsIdentity table (memory_pages shape.slots)) (sym finds.tables.hub) (own_identity shape.slots is.most_slots);
-      cookies = (in_one shape u.lane l u.queue finds.talks finds.ready.guest finds.ready.hub mine theirs).guest_cookies;
-      fits = end_room shape B u l finds;
-    }
-end_reaches shape B u l finds mine theirs =
-    let is = finds.ready.sound in
-    record {
-      identity = subst (λ (table : List (Option Entry)). IsIdentity table (memory_pages shape.slots)) (sym finds.tables.guest) (own_identity shape.slots is.most_slots);
-      cookies = (in_one shape u.lane l u.queue finds.talks finds.ready.guest finds.ready.hub theirs mine).hub_cookies;
-      fits = end_room shape A u l finds;
-    }
+end_reaches shape e u l finds mine theirs = grind (arith, own_identity, in_one, end_room)
 
 takes_of : (shape : NetShape) (e : End) (u : PortState) (l : PortLog) (answer : NetAnswer) (left : NetLeft) (session : Option NetSession) → Finds shape u l → (net_end (peer_of e) u.lane).session ≡ session
     → NetEndStep (role_at e) (net_end e u.lane) (seen_at e u.lane) (memory_of e u.lane) (reach_of e u.lane) answer left
@@ -325,12 +255,10 @@ end_frames shape B u l finds n frame get =
 
 -- the end's own state, and that of what its channel sees
 pub core_open : (e : End) (u : NetLaneState) (b : Bool) → is_some (net_end e u).session ≡ b → (end_of e (lane_core u)).is_open ≡ b
-core_open A u b is = is
-core_open B u b is = is
+core_open e u b is = grind arith
 
 pub seen_state : (e : End) (u : NetLaneState) → (seen_at e u).state ≡ state_of e u.wire.wire
-seen_state A u = refl
-seen_state B u = refl
+seen_state e u = grind arith
 
 -- A STEP of an end
 pub record Acts (shape : NetShape) (e : End) (u t : PortState) (l : PortLog) (answer : NetAnswer) (left : NetLeft) : Type 0 where
@@ -341,8 +269,7 @@ pub record Acts (shape : NetShape) (e : End) (u t : PortState) (l : PortLog) (an
   pub talks : PortTalks shape (lane_core t.lane) (after l (OnLane (Steps e answer)))
 
 pub counted_now : (shape : NetShape) (e : End) (s : PortState) (l : PortLog) → PortCounts shape s l → EndCounts (role_at e) shape.slots (queue_of e s) (net_end e s.lane) (log_of_end e l)
-counted_now shape A s l counts = counts.guest
-counted_now shape B s l counts = counts.hub
+counted_now shape e s l counts = grind arith
 
 pub acting_at : (shape : NetShape) (e : End) (u : PortState) (l : PortLog) → Finds shape u l → state_of e u.lane.wire.wire ≡ Up
     → Acting (role_at e) shape.slots (queue_of e u) (net_end e u.lane) (log_of_end e l) (transcript_of e l.transcript)
@@ -376,9 +303,7 @@ acts_shut shape e u t l answer left acts opened =
     opening_same _ x opened = refl
 
 pub goes_same : (answer : NetAnswer) (x : ChannelState) → Goes answer → mine_now answer x ≡ x
-goes_same (Joined lost) x goes = absurd goes
-goes_same (Reset cause packet lost) x goes = absurd goes
-goes_same _ x goes = refl
+goes_same answer x goes = grind arith
 
 pub acts_up_at : (shape : NetShape) (e : End) (u t : PortState) (l : PortLog) (answer : NetAnswer) (left : NetLeft) → Acts shape e u t l answer left → Goes answer → state_of e u.lane.wire.wire ≡ Up
 acts_up_at shape e u t l answer left acts goes =

@@ -1,13 +1,12 @@
 -- What each step of an end leaves of the rings and of what its log says, in plain fields: the end that acts, and its peer.
-use Rattle.std.proofs.Common.{◌≡◌, ◌≢◌, ℕ, ◌+◌, ◌≤◌, Bool, true, false, Option, Some, None, List, [], ◌∷◌, length, refl, sym, ap, ◌∙◌, subst}
+use Rattle.std.proofs.Common.{◌≡◌, ◌≢◌, ℕ, ◌+◌, ◌≤◌, Bool, true, false, Option, Some, None, List, [], ◌∷◌, length, refl, sym, subst, arith}
 use Rattle.std.specs.Prelude.{⊤}
 use Rattle.cookie_copy.specs.Faults.{is_up}
 use Rattle.cookie_copy.specs.Reach.{Reach}
 use Rattle.ldc_link.specs.declared.phase.Role.{Role}
 use Rattle.ldc_queue.specs.declared.end.ChannelState.{ChannelState}
-use Rattle.ldc_queue.specs.declared.end.ChannelState.TheVariants.{Down, Resetting, Up}
+use Rattle.ldc_queue.specs.declared.end.ChannelState.TheVariants.{Up}
 use Rattle.ldc_queue.specs.declared.end.End.{End}
-use Rattle.ldc_queue.specs.declared.end.End.TheVariants.{A, B}
 use Rattle.ldc_queue.specs.Transcript.{Heard, Said, Turn}
 use Rattle.ldc_queue.specs.Wire.{peer_behind, peer_of, state_of}
 use Rattle.channel_model.specs.Messages.{ended_by, opening_sid}
@@ -17,14 +16,13 @@ use Rattle.channel_model.specs.TranscriptLog.{TranscriptLog, transcript_of}
 use Rattle.port_model.proofs.Refuting.{false_true}
 use Rattle.port_model.proofs.Ruling.{says_of}
 use Rattle.port_model.specs.EndLog.{EndLog, SessionLog, change, heard_in, heard_kind, hears_log, more_published, more_taken as one_taken, opens_log, said_in, said_kind, says_log}
-use Rattle.port_model.specs.NetEndRule.{Fetches, Idles, Publishes, Takes, port_rule}
 use Rattle.port_model.specs.NetEndState.{NetEndState, NetSession}
 use Rattle.port_model.specs.NetEndStep.{Blocked, Frame, Idle, Joined, NetAnswer, NetEndStep, NetLeft, Published, Reset, Sent, Took}
 use Rattle.port_model.specs.NetEvent.{Steps, on_wire}
 use Rattle.port_model.specs.NetLaneState.{NetLaneState}
 use Rattle.port_model.specs.NetLaneStep.{net_wire}
 use Rattle.port_model.specs.PortLog.{after_answer, spoken_on}
-use Rattle.port_model.specs.Spoken.{GroupsInfo, Spoken, spoken}
+use Rattle.port_model.specs.Spoken.{Spoken}
 use Rattle.port_laws.specs.RingStands.{RingIn, taken_by, taken_in}
 use Rattle.port_laws.proofs.PeerOpens.{row}
 use Rattle.port_laws.proofs.RingSteps.{Owns, TakesOf, more_taken, opens_by, own_ring, peer_ring}
@@ -47,10 +45,7 @@ pub record WireNow (e : End) (u : NetLaneState) (answer : NetAnswer) : Type 0 wh
   pub theirs : state_of (peer_of e) (net_wire (Steps e answer) u).wire ≡ theirs_now answer (state_of e u.wire.wire) (state_of (peer_of e) u.wire.wire)
 
 pub wire_now : (e : End) (u : NetLaneState) (answer : NetAnswer) → WireNow e u answer
-wire_now A u (Joined lost) = record { mine = refl; theirs = refl }
-wire_now B u (Joined lost) = record { mine = refl; theirs = refl }
-wire_now A u _ = record { mine = refl; theirs = refl }
-wire_now B u _ = record { mine = refl; theirs = refl }
+wire_now e u answer = grind arith
 
 abbrev pub turns_now : NetAnswer → List Turn → List Turn
 turns_now (Joined lost) turns = []
@@ -64,27 +59,15 @@ pub record TurnsNow (e : End) (l : TranscriptLog) (answer : NetAnswer) : Type 0 
   pub theirs : transcript_of (peer_of e) (spoken_on l (on_wire (Steps e answer))) ≡ transcript_of (peer_of e) l
 
 pub turns_at : (e : End) (l : TranscriptLog) (answer : NetAnswer) → TurnsNow e l answer
-turns_at A l (Joined lost) = record { mine = refl; theirs = refl }
-turns_at B l (Joined lost) = record { mine = refl; theirs = refl }
-turns_at A l _ = record { mine = refl; theirs = refl }
-turns_at B l _ = record { mine = refl; theirs = refl }
+turns_at e l answer = grind arith
 
 pub up_is : (x : ChannelState) → is_up x ≡ true → x ≡ Up
-up_is Up is = refl
-up_is _ is = false_true is
+up_is x is = grind (arith, false_true)
 
 -- AN END THAT ACTS is up, but where it joins
 pub acts_up : (role : Role) (s : NetEndState) (at : Seen) (memory : List ℕ) (reach : Reach) (answer : NetAnswer) (left : NetLeft) → NetEndStep role s at memory reach answer left
     → (x : ChannelState) → at.state ≡ x → mine_now answer x ≡ x → x ≡ Up
-acts_up role s at memory reach (Took packet opens) left step x is now = up_is x (sym (ap is_up is) ∙ (says_of role s at (Takes packet) step.0).0.up)
-acts_up role s at memory reach (Sent packet opens) left step x is now = up_is x (sym (ap is_up is) ∙ holds_up role s at reach (port_rule role s at) step.held refl step.holds)
-acts_up role s at memory reach Blocked left step x is now = up_is x (sym (ap is_up is) ∙ holds_up role s at reach (port_rule role s at) left.end refl step.0)
-acts_up role s at memory reach Idle left step x is now = up_is x (sym (ap is_up is) ∙ (says_of role s at Idles step.0).0.up)
-acts_up role s at memory reach (Published id) left step x is now =
-    up_is x (sym (ap is_up is) ∙ (says_of role s at (Publishes step.session step.frame) step.rule).0.in_session.free.up)
-acts_up role s at memory reach (Frame frame) left step x is now =
-    up_is x (sym (ap is_up is) ∙ (says_of role s at (Fetches step.session step.activity) step.rule).0.free.up)
-acts_up role s at memory reach _ left step x is now = sym now
+acts_up role s at memory reach answer left step x is now = grind (arith, up_is, says_of, holds_up)
 
 -- it doesn't begin anew
 abbrev pub Goes : NetAnswer → Type 0
@@ -94,38 +77,29 @@ Goes _ = ⊤
 
 -- THE FRAMES THAT IT TOOK in its session, after an answer
 pub kind_taken : (k : Spoken) (slots : ℕ) (message : List ℕ) (v : SessionLog) → (heard_kind slots k message v).taken ≡ v.taken
-kind_taken GroupsInfo slots message v = refl
-kind_taken _ slots message v = refl
+kind_taken k slots message v = grind arith
 
 heard_taken : (slots : ℕ) (ended : Option (List ℕ)) (log : Option SessionLog) → taken_in (change (heard_in slots ended) log) ≡ taken_in log
-heard_taken slots ended None = refl
-heard_taken slots None (Some v) = refl
-heard_taken slots (Some message) (Some v) = kind_taken (spoken message) slots message v
+heard_taken slots ended log = grind (arith, kind_taken)
 
 pub saying_taken : (k : Spoken) (message : List ℕ) (v : SessionLog) → (said_kind k message v).taken ≡ v.taken
-saying_taken GroupsInfo message v = refl
-saying_taken _ message v = refl
+saying_taken k message v = grind arith
 
 said_taken : (ended : Option (List ℕ)) (log : Option SessionLog) → taken_in (change (said_in ended) log) ≡ taken_in log
-said_taken ended None = refl
-said_taken None (Some v) = refl
-said_taken (Some message) (Some v) = saying_taken (spoken message) message v
+said_taken ended log = grind (arith, saying_taken)
 
 opened_taken : (opens : Bool) (sid : ℕ) (log : Option SessionLog) (l : EndLog) → (opens ≡ true → log ≡ None) → taken_in l.session ≡ taken_in log → taken_in (opens_log opens sid l).session ≡ taken_in log
-opened_taken true sid log l shut same = sym (ap taken_in (shut refl))
-opened_taken false sid log l shut same = same
+opened_taken opens sid log l shut same = grind arith
 
 abbrev pub Frames : NetAnswer → Option SessionLog → Type 0
 Frames (Frame frame) log = log ≢ None
 Frames _ log = ⊤
 
 frame_taken : (log : Option SessionLog) → log ≢ None → taken_in (change one_taken log) ≡ taken_in log + 1
-frame_taken (Some v) some = refl
-frame_taken None some = absurd (some refl)
+frame_taken log some = grind arith
 
 published_taken : (log : Option SessionLog) → taken_in (change more_published log) ≡ taken_in log
-published_taken (Some v) = refl
-published_taken None = refl
+published_taken log = grind arith
 
 pub answer_taken : (slots : ℕ) (turns : List Turn) (answer : NetAnswer) (l : EndLog) → (x : ChannelState) → mine_now answer x ≡ x → x ≡ Up → (opens_by answer ≡ true → l.session ≡ None)
     → Frames answer l.session → Goes answer → taken_in (after_answer slots turns answer l).session ≡ more_taken answer (taken_in l.session)
@@ -161,47 +135,18 @@ own_stands role slots x y log s turns at memory reach answer left owns same none
 
 -- THE RING OF ITS PEER
 pub peer_up : (x y : ChannelState) → peer_behind x y ≡ Up → (x ≢ Up) × (y ≡ Up)
-peer_up Up Up is = absurd (cc is)
-peer_up Down y is = ((λ up. cc up), is)
-peer_up Resetting y is = ((λ up. cc up), is)
-peer_up Up _ is = absurd (cc is)
+peer_up x y is = grind arith
 
 pub none_down : (x : ChannelState) (log : Option SessionLog) → x ≢ Up → taken_by x log ≡ 0
-none_down Up log not = absurd (not refl)
-none_down _ log not = refl
+none_down x log not = grind arith
 
 pub peer_stands : (role : Role) (slots pages : ℕ) (x y : ChannelState) (log : Option SessionLog) (turns : List Turn) (l : EndLog) (session : Option NetSession) (frames : List (List ℕ)) (f : NetEndState)
     (at : Seen) (memory : List ℕ) (reach : Reach) (answer : NetAnswer) (left : NetLeft) → at.state ≡ x → l.session ≡ log → 1 ≤ slots → (opens_by answer ≡ true → log ≡ None) → Frames answer log
     → (x ≡ Up → y ≡ Up → TakesOf answer f reach slots pages (taken_in log) session) → NetEndStep role f at memory reach answer left
     → (y ≡ Up → RingIn slots (taken_by x log) session frames reach.memory) → theirs_now answer x y ≡ Up
     → RingIn slots (taken_by (mine_now answer x) (after_answer slots turns answer l).session) session frames left.peer
-peer_stands role slots pages x y log turns l session frames f at memory reach answer left state of_log some shut busy takes step ring = by_answer answer shut busy takes step
-  where
-    goes : (given : NetAnswer) → Goes given → mine_now given x ≡ x → (opens_by given ≡ true → log ≡ None) → Frames given log
-        → (x ≡ Up → y ≡ Up → TakesOf given f reach slots pages (taken_in log) session) → NetEndStep role f at memory reach given left → y ≡ Up
-        → RingIn slots (taken_by x (after_answer slots turns given l).session) session frames left.peer
-    goes given on same shut_now busy_now takes_now moves up =
-        let here : x ≡ Up = acts_up role f at memory reach given left moves x state same in
-        let before : RingIn slots (taken_in log) session frames reach.memory =
-        subst (λ (z : ChannelState). RingIn slots (taken_by z log) session frames reach.memory) here (ring up) in
-        let count : taken_in (after_answer slots turns given l).session ≡ more_taken given (taken_in log) =
-        answer_taken slots turns given l x same here (λ is. of_log ∙ shut_now is) (subst (Frames given) (sym of_log) busy_now) on ∙ ap (λ (o : Option SessionLog). more_taken given (taken_in o)) of_log in
-        subst (λ (z : ChannelState). RingIn slots (taken_by z (after_answer slots turns given l).session) session frames left.peer) (sym here)
-        (subst (λ (n : ℕ). RingIn slots n session frames left.peer) (sym count)
-        (peer_ring role slots pages (taken_in log) session frames f at memory reach given left some (takes_now here up) moves before))
-
-    by_answer : (given : NetAnswer) → (opens_by given ≡ true → log ≡ None) → Frames given log → (x ≡ Up → y ≡ Up → TakesOf given f reach slots pages (taken_in log) session)
-        → NetEndStep role f at memory reach given left → theirs_now given x y ≡ Up
-        → RingIn slots (taken_by (mine_now given x) (after_answer slots turns given l).session) session frames left.peer
-    by_answer (Joined lost) shut_now busy_now takes_now moves up =
-        let both = peer_up x y up in
-        subst (λ (z : NetLeft). RingIn slots 0 session frames z.peer) (sym moves.2)
-        (subst (λ (n : ℕ). RingIn slots n session frames reach.memory) (none_down x log both.0) (ring both.1))
-    by_answer (Reset cause packet lost) shut_now busy_now takes_now moves up =
-        let both = peer_up x y up in
-        subst (λ (z : NetLeft). RingIn slots 0 session frames z.peer) (sym moves.2)
-        (subst (λ (n : ℕ). RingIn slots n session frames reach.memory) (none_down x log both.0) (ring both.1))
-    by_answer given shut_now busy_now takes_now moves up = goes given tt refl shut_now busy_now takes_now moves up
+peer_stands role slots pages x y log turns l session frames f at memory reach answer left state of_log some shut busy takes step ring =
+    grind (arith, acts_up, answer_taken, peer_ring, peer_up, none_down)
 
 -- WHAT THE LOG SAYS of the end that acts
 pub record Turned (role : Role) (turns now : List Turn) (log behind : Option SessionLog) : Type 0 where
@@ -239,8 +184,7 @@ sent_case role slots turns packet false (Some v) l is shut turned spoke =
 
 work_case : (role : Role) (turns : List Turn) (f : SessionLog → SessionLog) (log : Option SessionLog) → ((v : SessionLog) → log ≡ Some v → Spoke role turns v → Spoke role turns (f v)) → SpokeIn role turns log
     → SpokeIn role turns (change f log)
-work_case role turns f None means spoke = tt
-work_case role turns f (Some v) means spoke = means v refl spoke
+work_case role turns f log means spoke = grind arith
 
 pub spoke_after : (role : Role) (slots : ℕ) (turns : List Turn) (answer : NetAnswer) (l : EndLog) → (opens_by answer ≡ true → l.session ≡ None) → Active answer l.session
     → (Goes answer → Turned role turns (turns_now answer turns) l.session (after_answer slots turns answer l).session) → SpokeIn role turns l.session

@@ -1,5 +1,5 @@
 -- What an end finds in its peer's ring where nobody meddles: each frame that is published and not taken can be taken.
-use Rattle.std.proofs.Common.{◌≡◌, ℕ, ◌+◌, ◌-◌, ◌*◌, ◌%◌, ◌<◌, ◌≤◌, inl, inr, Bool, true, false, Option, None, List, [], ◌∷◌, length, refl, sym, ap, ◌∙◌, subst, arith}
+use Rattle.std.proofs.Common.{◌≡◌, ℕ, ◌+◌, ◌-◌, ◌*◌, ◌%◌, ◌<◌, ◌≤◌, inl, inr, Bool, true, false, Option, None, List, [], ◌∷◌, length, refl, sym, ap, ◌∙◌, arith}
 use Rattle.std.specs.Prelude.{◌==◌, if◌then◌else◌, slice_index}
 use Rattle.std.proofs.lemmas.Bool.{cases_lt, eqb-true}
 use Rattle.std.proofs.lemmas.Bool.Decides.{nat_tests}
@@ -34,12 +34,7 @@ even_word : (n : ℕ) → n % 8 ≡ 0 → is_even_word n ≡ true
 even_word n even = grind (arith, nat_tests)
 
 aligned_one : (place size offset n : ℕ) → place % 8 ≡ 0 → size % 8 ≡ 0 → offset % 8 ≡ 0 → n % 8 ≡ 0 → is_aligned (record { address = place; size = size } ∷ []) offset n ≡ true
-aligned_one place size offset n at whole from even =
-    let one : is_even_word place ≡ true = even_word place at in
-    let two : is_even_word size ≡ true = even_word size whole in
-    let three : is_even_word offset ≡ true = even_word offset from in
-    let four : is_even_word n ≡ true = even_word n even in
-    rw (one, two, three, four) refl
+aligned_one place size offset n given whole from even = grind (arith, even_word)
 
 one_answered : (access : Access) (up : Bool) (table : List (Option Entry)) (pages : ℕ) (cookies : List Cookie) (place size offset n : ℕ) → up ≡ true → IsIdentity table pages
     → cookies ≡ record { address = place; size = size } ∷ [] → place % 8 ≡ 0 → size % 8 ≡ 0 → offset % 8 ≡ 0 → n % 8 ≡ 0 → offset + n ≤ size → place + size ≤ 8192 * pages
@@ -135,8 +130,4 @@ ring_finds s reach slots pages seen taken published frames reaches some both eno
 
 -- so a fetch fails nowhere but where nothing is left, behind the first of an activity
 pub no_fail : (taken published : ℕ) (f : Fetched) (activity : Activity) (slot : ℕ) (cause : Cause) → Finding taken published f → (activity.last ≡ None → taken < published) → FetchFails f activity slot cause → ⊥
-no_fail taken published f activity slot cause (Gives frame new is) less fails = subst (λ (x : Fetched). FetchFails x activity slot cause) is fails
-no_fail taken published f activity slot cause (Waits state is past) less fails =
-    let none = (subst (λ (x : Fetched). FetchFails x activity slot cause) is fails).0 in
-    let under = less none in
-    absurd (omega (arith, under, past))
+no_fail taken published f activity slot cause given less fails = grind arith

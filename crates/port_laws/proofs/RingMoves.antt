@@ -1,5 +1,5 @@
 -- What an end does to its own ring keeps it: it clears it, is given a frame, publishes one, and lets those go that an ACK names.
-use Rattle.std.proofs.Common.{◌≡◌, ◌≢◌, ℕ, zero, suc, ◌+◌, ◌-◌, ◌*◌, ◌%◌, ◌<◌, ◌≤◌, ◌⊎◌, inl, inr, Bool, true, false, Option, Some, None, List, [], ◌∷◌, ◌++◌, length, drop, refl, sym, ap, ◌∙◌, subst, arith, length-drop, length-append}
+use Rattle.std.proofs.Common.{◌≡◌, ◌≢◌, ℕ, zero, suc, ◌+◌, ◌-◌, ◌*◌, ◌%◌, ◌<◌, ◌≤◌, ◌⊎◌, inl, inr, Bool, true, Option, Some, None, List, [], ◌∷◌, ◌++◌, length, drop, refl, sym, ap, ◌∙◌, subst, arith, length-drop, length-append}
 use Rattle.std.specs.Prelude.{◌==◌, if◌then◌else◌, slice_get, slice_index}
 use Rattle.std.proofs.lemmas.Bool.{cases_lt, cases_order, eqb-true}
 use Rattle.std.proofs.lemmas.List.{drop-drop}
@@ -15,8 +15,8 @@ use Rattle.vio_bytes.specs.Place.{put_at}
 use Rattle.vio_bytes.specs.Range.{range_at}
 use Rattle.vio_tag.specs.declared.cause.Cause.{Cause}
 use Rattle.vnet_msg.proofs.FrameSlots.{long}
-use Rattle.vnet_msg.specs.Descriptor.{canonical, head_bytes}
-use Rattle.vnet_msg.specs.Frames.{IsFrame, buffer_place, frame_buffer, frame_cookies, frame_desc, moved_size}
+use Rattle.vnet_msg.specs.Descriptor.{canonical}
+use Rattle.vnet_msg.specs.Frames.{IsFrame, buffer_place, frame_buffer, frame_desc, moved_size}
 use Rattle.map_table.specs.Cookies.{cookies_bytes}
 use Rattle.port_model.specs.NetEndPutting.{cleared_ring}
 use Rattle.port_model.specs.NetEndStep.{published_memory}
@@ -37,11 +37,7 @@ pub frame_small : (frame : List ℕ) → IsFrame frame → moved_size (length fr
 frame_small frame is = let most = is.most in omega (arith, most)
 
 pub holds_stays : (memory new : List ℕ) (slot state : ℕ) (frame : List ℕ) → Stays memory new slot → SlotHolds memory slot state frame → SlotHolds new slot state frame
-holds_stays memory new slot state frame stays holds = record {
-  is_frame = holds.is_frame;
-  desc = stays.bytes ∙ holds.desc;
-  buffer = stays.buffer (moved_size (length frame)) (frame_small frame holds.is_frame) ∙ holds.buffer;
-}
+holds_stays memory new slot state frame stays holds = grind (arith, frame_small)
 
 pub state_stays : (memory new : List ℕ) (slot : ℕ) → Stays memory new slot → slot_state slot new ≡ slot_state slot memory
 state_stays memory new slot stays = ap (λ (bytes : List ℕ). slice_index bytes 0) stays.bytes
@@ -59,10 +55,7 @@ slot_written slots k i piece memory fits below inside other small =
 
 pub buffers_stay : (slots k : ℕ) (piece memory : List ℕ) → Fits slots memory → k < slots → length piece ≤ 64 → (n : ℕ)
     → range_at (buffer_place k) n (put_at (64 * k) piece memory) ≡ range_at (buffer_place k) n memory
-buffers_stay slots k piece memory fits below small n =
-    let few = fits.few in
-    let room = fits.room in
-    range_at-put_at_outside (buffer_place k) n (64 * k) piece memory (omega (arith, few, room, below, small)) (inr (omega (arith, few, below, small)))
+buffers_stay slots k piece memory given below small n = grind (arith, range_at-put_at_outside)
 
 -- one in a buffer leaves all slots, and the other buffers
 pub place_end : (slots k : ℕ) (piece memory : List ℕ) → Fits slots memory → k < slots → length piece ≤ 2048 → buffer_place k + length piece ≤ length memory
@@ -90,11 +83,7 @@ twice_stays memory middle new slot one two = record { bytes = two.bytes ∙ one.
 
 -- the other slots of one turn
 pub other_slot : (slots seen k j : ℕ) → seen ≤ k → k < seen + slots → seen ≤ j → j < seen + slots → j ≢ k → j % slots ≢ k % slots
-other_slot slots seen k j from until since before other =
-    λ same. elim (cases_lt j k) [
-      | inl less ↦ other (one_turn slots j k (omega (arith, less)) (omega (arith, since, until)) same)
-      | inr past ↦ other (sym (one_turn slots k j past (omega (arith, from, before)) (sym same)))
-    ]
+other_slot slots seen k j from until since before other = grind (arith, cases_lt, one_turn)
 
 pub slot_within : (slots seen j : ℕ) → seen ≤ j → j < seen + slots → j % slots < slots
 slot_within slots seen j since before = mod_below j slots (omega (arith, since, before))
@@ -140,9 +129,7 @@ ring_given slots seen taken published frames more memory ring =
 
 -- IT IS PUBLISHED
 pub desc_long : (slot size : ℕ) → length (canonical (frame_desc slot size)) ≡ 64
-desc_long slot size =
-    let desc = frame_desc slot size in
-    omega (arith, length-append (head_bytes desc) (cookies_bytes desc.cookies), length-cookies_bytes (frame_cookies slot size))
+desc_long slot size = grind (arith, length-append, length-cookies_bytes)
 
 pub ring_published : (slots seen taken published : ℕ) (frames : List (List ℕ)) (frame memory : List ℕ) → Fits slots memory → RingHolds slots seen taken published frames memory
     → slice_get frames (published - seen) ≡ Some frame → IsFrame frame → published < seen + slots
@@ -238,8 +225,7 @@ ring_published slots seen taken published frames frame memory fits ring next is 
 
 -- FRAMES THAT ARE ACKNOWLEDGED leave, and their slots become FREE
 pub get_behind : (frames : List (List ℕ)) (n : ℕ) (frame : List ℕ) → slice_get (drop 1 frames) n ≡ Some frame → slice_get frames (n + 1) ≡ Some frame
-get_behind [] n frame get = absurd (cc get)
-get_behind (one ∷ frames) n frame get = let next : n + 1 ≡ suc n = omega arith in ap (slice_get (one ∷ frames)) next ∙ get
+get_behind frames n frame get = grind arith
 
 pub free_byte : (bytes : List ℕ) → slice_index (put_at 0 (free_state ∷ []) bytes) 0 ≡ free_state
 free_byte bytes = refl
@@ -310,8 +296,7 @@ freed_fits slots k memory fits below =
 
 same_ring : (slots seen other taken published : ℕ) (frames left : List (List ℕ)) (memory : List ℕ) → seen ≡ other → frames ≡ left → RingHolds slots seen taken published frames memory
     → RingHolds slots other taken published left memory
-same_ring slots seen other taken published frames left memory one two ring =
-    subst (λ (n : ℕ). RingHolds slots n taken published left memory) one (subst (λ (xs : List (List ℕ)). RingHolds slots seen taken published xs memory) two ring)
+same_ring slots seen other taken published frames left memory one two ring = grind arith
 
 next : (count : ℕ) → 1 + count ≡ suc count
 next count = omega arith
@@ -332,8 +317,7 @@ all_freed slots seen taken published (suc count) frames memory fits ring within 
 
 -- each slot of an ACK was DONE
 not_undone : (test : Bool) (rest : Option Cause) (why : Cause) → (if test then rest else Some why) ≡ None → (test ≡ true) × (rest ≡ None)
-not_undone true rest why is = (refl, is)
-not_undone false rest why is = absurd (cc is)
+not_undone test rest why is = grind arith
 
 each_done : (slots : ℕ) (memory : List ℕ) (number count : ℕ) → first_undone slots memory number count ≡ None → (j : ℕ) → number ≤ j → j < number + count → slot_state (j % slots) memory ≡ 4
 each_done slots memory number zero is j since before = absurd (omega (arith, since, before))

@@ -1,5 +1,5 @@
 -- Along every run of a port that nobody forged the ring of each end holds its frames.
-use Rattle.std.proofs.Common.{◌≡◌, ℕ, false, Option, Some, None, List, [], ◌∷◌, ◌++◌, refl, sym, ap, ◌∙◌, subst}
+use Rattle.std.proofs.Common.{◌≡◌, ℕ, false, Option, Some, None, List, [], ◌∷◌, ◌++◌, sym, ap, ◌∙◌, subst, arith}
 use Rattle.std.specs.Prelude.{⊤}
 use Rattle.ldc_link.specs.declared.phase.Role.TheVariants.{Initiator}
 use Rattle.ldc_queue.specs.declared.end.ChannelState.{ChannelState}
@@ -15,7 +15,7 @@ use Rattle.port_model.proofs.Moving.{before_keeps}
 use Rattle.port_model.proofs.Refuting.{true_false}
 use Rattle.port_model.specs.EndLog.{SessionLog}
 use Rattle.port_model.specs.NetEndState.{NetEndState, NetSession}
-use Rattle.port_model.specs.NetEndStep.{Already, BadLength, Full, Given, GroupsFull, Joined, Joining, Member, NetGives, NetJoins, Queued, untold}
+use Rattle.port_model.specs.NetEndStep.{Given, Joining, NetGives, NetJoins, Queued, untold}
 use Rattle.port_model.specs.NetEvent.{Asked, Gives, Injects, Joins, Loses, NetEvent, Pokes, Steps, Ticked, on_wire}
 use Rattle.port_model.specs.NetLaneState.{IsNetShape, NetLaneState, NetShape}
 use Rattle.port_model.specs.NetLaneStep.{NetLaneStep, Resets, moved_on}
@@ -54,44 +54,21 @@ before_tables event shape s tables = before_keeps (λ (x : PortState). TablesSta
 -- WHAT ISN'T A STEP
 begun_ring : (slots : ℕ) (x y : ChannelState) (log : Option SessionLog) (session : Option NetSession) (frames : List (List ℕ)) (memory : List ℕ)
     → (y ≡ Up → RingIn slots (taken_by x log) session frames memory) → peer_behind x y ≡ Up → RingIn slots 0 session frames memory
-begun_ring slots x y log session frames memory ring up =
-    let both = peer_up x y up in subst (λ (n : ℕ). RingIn slots n session frames memory) (none_down x log both.0) (ring both.1)
+begun_ring slots x y log session frames memory ring up = grind (arith, peer_up, none_down)
 
 asked_rings : (e : End) (u : NetLaneState) (l : PortLog) (lost : ℕ) (t : NetLaneState) → Resets e (Asked e lost) u lost t → Rings u l → Rings t (after l (OnLane (Asked e lost)))
-asked_rings A u l lost t resets rings =
-    subst (λ (x : NetLaneState). Rings x (after l (OnLane (Asked A lost)))) (sym resets.1)
-    (record {
-      guest_spoke = tt;
-      hub_spoke = rings.hub_spoke;
-      guest_ring = λ up. tt;
-      hub_ring = λ up. begun_ring l.shape.slots u.wire.wire.end_a u.wire.wire.end_b l.guest.session u.hub.session u.hub.frames u.hub_memory rings.hub_ring up;
-    })
-asked_rings B u l lost t resets rings =
-    subst (λ (x : NetLaneState). Rings x (after l (OnLane (Asked B lost)))) (sym resets.1)
-    (record {
-      guest_spoke = rings.guest_spoke;
-      hub_spoke = tt;
-      guest_ring = λ up. begun_ring l.shape.slots u.wire.wire.end_b u.wire.wire.end_a l.hub.session u.guest.session u.guest.frames u.guest_memory rings.guest_ring up;
-      hub_ring = λ up. tt;
-    })
+asked_rings e u l lost t resets rings = grind (arith, begun_ring)
 
 given_ring : (slots taken : ℕ) (memory : List ℕ) (s : NetEndState) (given : Given) (t : NetEndState) → NetGives s given t → RingIn slots taken s.session s.frames memory
     → RingIn slots taken t.session t.frames memory
-given_ring slots taken memory s (BadLength frame) t gives ring = subst (λ (x : NetEndState). RingIn slots taken x.session x.frames memory) (sym gives.1) ring
-given_ring slots taken memory s (Full frame) t gives ring = subst (λ (x : NetEndState). RingIn slots taken x.session x.frames memory) (sym gives.2) ring
-given_ring slots taken memory s (Queued id frame) t gives ring =
-    subst (λ (x : NetEndState). RingIn slots taken x.session x.frames memory) (sym gives.4) (more_frames slots taken s.session s.frames (frame ∷ []) memory ring)
+given_ring slots taken memory s given t gives ring = grind (arith, more_frames)
 
 untold_ring : (slots taken : ℕ) (session : Option NetSession) (frames : List (List ℕ)) (memory : List ℕ) → RingIn slots taken session frames memory → RingIn slots taken (untold session) frames memory
-untold_ring slots taken None frames memory ring = tt
-untold_ring slots taken (Some p) frames memory ring = ring
+untold_ring slots taken session frames memory ring = grind arith
 
 joined_ring : (slots taken : ℕ) (memory : List ℕ) (s : NetEndState) (joining : Joining) (t : NetEndState) → NetJoins s joining t → RingIn slots taken s.session s.frames memory
     → RingIn slots taken t.session t.frames memory
-joined_ring slots taken memory s (Already address) t joins ring = subst (λ (x : NetEndState). RingIn slots taken x.session x.frames memory) (sym joins.1) ring
-joined_ring slots taken memory s (GroupsFull address) t joins ring = subst (λ (x : NetEndState). RingIn slots taken x.session x.frames memory) (sym joins.2) ring
-joined_ring slots taken memory s (Member address) t joins ring =
-    subst (λ (x : NetEndState). RingIn slots taken x.session x.frames memory) (sym joins.3) (untold_ring slots taken s.session s.frames memory ring)
+joined_ring slots taken memory s joining t joins ring = grind (arith, untold_ring)
 
 -- AN EVENT, where nobody forged
 lane_rings : (shape : NetShape) (u t : PortState) (l : PortLog) (event : NetEvent) → OfQueue u event → Finds shape u l → NetLaneStep u.lane event t.lane → (moved_on l.wire (on_wire event)).forged ≡ false
@@ -136,10 +113,7 @@ lane_rings shape u t l event of_queue finds step clean counts talks =
 
 -- nobody had forged before
 pub was_clean : (w : WireLog) (event : NetEvent) → (moved_on w (on_wire event)).forged ≡ false → w.forged ≡ false
-was_clean w (Injects e packet) clean = true_false clean
-was_clean w (Pokes e at bytes) clean = true_false clean
-was_clean w (Steps e (Joined lost)) clean = clean
-was_clean w _ clean = clean
+was_clean w event clean = grind (arith, true_false)
 
 -- ALONG EVERY RUN
 pub record Kept (shape : NetShape) (s : PortState) (l : PortLog) : Type 0 where
@@ -186,12 +160,7 @@ kept_step shape is s l (Receives frame) t kept step =
     }
 
 pub fresh_kept : (shape : NetShape) → IsNetShape shape → Kept shape (fresh_port shape) (no_events shape)
-fresh_kept shape is = record {
-  counts = port_counts shape [] (fresh_port shape) is refl;
-  logs = fresh_logs shape;
-  tables = record { guest = refl; hub = refl };
-  rings = λ clean. record { guest_spoke = tt; hub_spoke = tt; guest_ring = λ up. tt; hub_ring = λ up. tt };
-}
+fresh_kept shape is = grind (arith, port_counts, fresh_logs)
 
 pub port_kept : (shape : NetShape) (events : List PortEvent) (s : PortState) → IsNetShape shape → Run PortStep (fresh_port shape) events s → Kept shape s (log_of after (no_events shape) events)
 port_kept shape events s is run =

@@ -17,13 +17,13 @@ use Rattle.cookie_copy.specs.Reach.{Reach}
 use Rattle.channel_laws.specs.Standing.{EndStands}
 use Rattle.port_model.proofs.Refuting.{none_some, of_some}
 use Rattle.port_model.proofs.Ruling.{says_of}
-use Rattle.port_model.specs.Fetching.{Fetched, IsFrame as IsFetched, NotReady, fetched}
+use Rattle.port_model.specs.Fetching.{Fetched, IsFrame as IsFetched, fetched}
 use Rattle.port_model.specs.FramesStand.{CountsStand, FramesStand}
 use Rattle.port_model.specs.Groups.{membership}
 use Rattle.port_model.specs.NetEndPutting.{announcement, answer, answers, cleared_by_put, cleared_ring, groups_answer, holding, holding_own, net_holds, net_kind, net_opens, net_put, opened_by_put}
 use Rattle.port_model.specs.NetEndRule.{Announces, Fetches, NetRule, Publishes, Puts, Replies, Says, Tells, port_rule}
 use Rattle.port_model.specs.NetEndState.{Activity, NetEndState, NetSession, unseen_in}
-use Rattle.port_model.specs.NetEndStep.{Blocked, Frame, Idle, NetAnswer, NetEndStep, NetLeft, NetSends, Published, Reset, Sent, Took, published, published_memory, taken}
+use Rattle.port_model.specs.NetEndStep.{Blocked, Frame, Idle, NetAnswer, NetEndStep, NetLeft, NetSends, Published, Sent, Took, published, published_memory, taken}
 use Rattle.port_model.specs.NetEndTaking.{GoesOn, NetTake, NetTakes, Resets, freed}
 use Rattle.port_laws.specs.NetCore.{net_core}
 use Rattle.port_laws.specs.RingHolds.{RingHolds}
@@ -46,16 +46,11 @@ Same slots taken memory s held = RingIn slots taken s.session s.frames memory �
 
 held_own : (slots taken : ℕ) (memory : List ℕ) (s held : NetEndState) (message : Message) (p q : NetSession) → s.session ≡ Some p → q.seen ≡ p.seen → q.published ≡ p.published
     → Some (holding_own message q s) ≡ Some held → Same slots taken memory s held
-held_own slots taken memory s held message p q is seen published same =
-    of_some (Same slots taken memory s) (holding_own message q s) held same
-    (λ ring. let here = ring_of slots taken s.session p s.frames memory is ring in
-    subst (λ (n : ℕ). RingHolds slots n taken q.published s.frames memory) (sym seen) (subst (λ (n : ℕ). RingHolds slots p.seen taken n s.frames memory) (sym published) here))
+held_own slots taken memory s held message p q is seen published same = grind (arith, of_some, ring_of)
 
 slot_held : (slots taken : ℕ) (memory : List ℕ) (s held : NetEndState) (p : NetSession) (activity : Activity) (last : Option ℕ) (found : Fetched) → s.session ≡ Some p
     → answers s p activity last found ≡ Some held → Same slots taken memory s held
-slot_held slots taken memory s held p activity (Some last) (NotReady state) is same =
-    held_own slots taken memory s held (answer s activity last) p (record p { active = None }) is refl refl same
-slot_held slots taken memory s held p activity _ _ is same = none_some held same
+slot_held slots taken memory s held p activity last found is same = grind (arith, held_own, none_some)
 
 pub held_ring : (role : Role) (slots taken : ℕ) (memory : List ℕ) (s : NetEndState) (at : Seen) (reach : Reach) (rule : NetRule) (held : NetEndState) → port_rule role s at ≡ rule
     → net_holds rule s reach ≡ Some held → Same slots taken memory s held
@@ -194,12 +189,4 @@ fetched_ring role slots pages taken (Some p) frames f at memory reach frame left
 pub peer_ring : (role : Role) (slots pages taken : ℕ) (session : Option NetSession) (frames : List (List ℕ)) (f : NetEndState) (at : Seen) (memory : List ℕ) (reach : Reach) (answer : NetAnswer)
     (left : NetLeft) → 1 ≤ slots → TakesOf answer f reach slots pages taken session → NetEndStep role f at memory reach answer left → RingIn slots taken session frames reach.memory
     → RingIn slots (more_taken answer taken) session frames left.peer
-peer_ring role slots pages taken session frames f at memory reach (Frame frame) left some takes step ring =
-    fetched_ring role slots pages taken session frames f at memory reach frame left some takes step ring
-peer_ring role slots pages taken session frames f at memory reach (Took packet opens) left some takes step ring = subst (RingIn slots taken session frames) (sym step.2) ring
-peer_ring role slots pages taken session frames f at memory reach (Sent packet opens) left some takes step ring = subst (λ (x : NetLeft). RingIn slots taken session frames x.peer) (sym step.is) ring
-peer_ring role slots pages taken session frames f at memory reach Idle left some takes step ring = subst (λ (x : NetLeft). RingIn slots taken session frames x.peer) (sym step.1) ring
-peer_ring role slots pages taken session frames f at memory reach (Published id) left some takes step ring = subst (λ (x : NetLeft). RingIn slots taken session frames x.peer) (sym step.is) ring
-peer_ring role slots pages taken session frames f at memory reach (Reset cause packet lost) left some takes step ring =
-    subst (λ (x : NetLeft). RingIn slots taken session frames x.peer) (sym step.2) ring
-peer_ring role slots pages taken session frames f at memory reach _ left some takes step ring = subst (λ (x : NetLeft). RingIn slots taken session frames x.peer) (sym step.2) ring
+peer_ring role slots pages taken session frames f at memory reach answer left some takes step ring = grind (arith, fetched_ring)

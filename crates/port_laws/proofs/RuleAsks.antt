@@ -23,7 +23,7 @@ use Rattle.vio_tag.specs.declared.cause.Cause.{Cause}
 use Rattle.vio_tag.specs.declared.cause.Cause.TheVariants as the_cause
 use Rattle.vio_tag.specs.declared.message.Message.{Message}
 use Rattle.vio_tag.specs.declared.message.MsgBody.{MsgBody}
-use Rattle.vio_tag.specs.declared.message.MsgBody.TheVariants.{DringData, Mcast, Plain}
+use Rattle.vio_tag.specs.declared.message.MsgBody.TheVariants.{DringData, Mcast}
 use Rattle.vio_tag.specs.declared.message.TagFault.{TagFault}
 use Rattle.vio_tag.specs.Decoding.{Decodes}
 use Rattle.vio_tag.specs.Form.{HasForm}
@@ -43,7 +43,7 @@ use Rattle.port_model.proofs.Ruling.{says_of}
 use Rattle.port_model.proofs.SlotsLooked.{first_in_order}
 use Rattle.port_model.specs.EndLog.{SessionLog, range_of}
 use Rattle.port_model.specs.FrameLaws.{Asks, AsksAt, InSession, IsActive, NamesUndone, SomeMessage, UndoneAt, ended_in}
-use Rattle.port_model.specs.NetEndRule.{Fetches, NetRule, Takes, port_rule}
+use Rattle.port_model.specs.NetEndRule.{NetRule, Takes, port_rule}
 use Rattle.port_model.specs.NetEndState.{NetEndState, NetSession}
 use Rattle.port_model.specs.NetEndStep.{NetFails, Reset, Took}
 use Rattle.port_model.specs.NetEndTaking.{GoesOn, first_undone, slot_state}
@@ -137,22 +137,13 @@ record IsInfo (s : Subtype) (b : MsgBody) : Type 0 where
   body : b ≡ DringData seq ident start end state
 
 info_body : (s : Subtype) (b : MsgBody) → HasForm b → spoken_by (envelope_code b) (subtype_code s) ≡ RangeInfo → IsInfo s b
-info_body Info (DringData seq ident start end state) form is = record { subtype = refl; seq = seq; ident = ident; start = start; end = end; state = state; body = refl }
-info_body s (Plain envelope) (inl at) is = let never = sym (ap (λ (n : ℕ). spoken_by n (subtype_code s)) at) ∙ is in absurd (cc never)
-info_body s (Plain envelope) (inr at) is = let never = sym (ap (λ (n : ℕ). spoken_by n (subtype_code s)) at) ∙ is in absurd (cc never)
-info_body s _ form is = absurd (cc is)
+info_body s b form is = grind arith
 
 session_info : (role : Role) (s : NetEndState) (p : NetSession) (memory : List ℕ) (seq ident start end state : ℕ) → session_cause role s p memory Info (DringData seq ident start end state) ≡ info_cause s p seq ident start end
-session_info Initiator s p memory seq ident start end state = refl
-session_info Responder s p memory seq ident start end state = refl
+session_info role s p memory seq ident start end state = grind arith
 
 ends_in : (end slots : ℕ) → (not (end == 0xffffffff) && nat_le slots end) ≡ false → (end ≡ 0xffffffff) ⊎ (end < slots)
-ends_in end slots is = by_tests (end == 0xffffffff) (nat_le slots end) refl refl is
-  where
-    by_tests : (a b : Bool) → (end == 0xffffffff) ≡ a → nat_le slots end ≡ b → (not a && b) ≡ false → (end ≡ 0xffffffff) ⊎ (end < slots)
-    by_tests true b one two is = inl (eqb-true end 0xffffffff one)
-    by_tests false false one two is = inr (leb-false slots end two)
-    by_tests false true one two is = true_false is
+ends_in end slots is = grind (arith, eqb-true, leb-false, true_false)
 
 -- the end that takes it, by its log
 record Listens (slots : ℕ) (p : NetSession) (v : SessionLog) : Type 0 where
@@ -205,13 +196,7 @@ asks_here role s p memory sid slots turns packet message v peer listening none e
 
 -- AN ACK for which it resets itself
 undone_own : (own : Message → Option Cause) (message : Message) (b : MsgBody) (slot state : ℕ) → body_cause own message b ≡ Some (the_cause.NotDone slot state) → own message ≡ Some (the_cause.NotDone slot state)
-undone_own own message (DringData seq ident start end at) slot state is = is
-undone_own own message (Mcast set count addresses) slot state is = is
-undone_own own message _ slot state is = never _ is
-  where
-    never : (b : Bool) → (if b then None else Some the_cause.Order) ≡ Some (the_cause.NotDone slot state) → own message ≡ Some (the_cause.NotDone slot state)
-    never true here = absurd (cc here)
-    never false here = absurd (cc here)
+undone_own own message b slot state is = grind arith
 
 record IsAck (s : NetEndState) (p : NetSession) (memory : List ℕ) (subtype : Subtype) (b : MsgBody) (answer : Option Cause) : Type 0 where
   is_ack : subtype ≡ Ack
@@ -224,18 +209,11 @@ record IsAck (s : NetEndState) (p : NetSession) (memory : List ℕ) (subtype : S
   cause : ack_cause s p memory ident start end ≡ answer
 
 info_undone : {X : Type 0} (s : NetEndState) (p : NetSession) (seq ident start end slot state : ℕ) → info_cause s p seq ident start end ≡ Some (the_cause.NotDone slot state) → X
-info_undone {X} s p seq ident start end slot state is =
-    let answer : Option Cause = Some (the_cause.NotDone slot state) in
-    let one = past_if (is_other s.handshake.draft.ident_peer ident) (the_cause.Ident s.handshake.draft.ident_peer ident) _ answer (λ no. no) tt is in
-    let two = past_if (is_other p.seq seq) (the_cause.Seq p.seq seq) _ answer (λ no. no) tt one.1 in
-    let three = past_if (is_other p.place start) (the_cause.Slot p.place start) _ answer (λ no. no) tt two.1 in
-    let four = past_if (not (end == 0xffffffff) && nat_le s.handshake.draft.peer_slots end) (the_cause.RangeEnd end) None answer (λ no. no) tt three.1 in
-    none_some (the_cause.NotDone slot state) four.1
+info_undone {X} s p seq ident start end slot state is = grind (arith, past_if, none_some)
 
 told_undone : {X : Type 0} (b : Bool) (one other : Option Cause) (slot state : ℕ) → (one ≡ Some (the_cause.NotDone slot state) → ⊥) → (other ≡ Some (the_cause.NotDone slot state) → ⊥)
     → (if b then one else other) ≡ Some (the_cause.NotDone slot state) → X
-told_undone {X} true one other slot state first second is = absurd (first is)
-told_undone {X} false one other slot state first second is = absurd (second is)
+told_undone {X} b one other slot state first second is = grind arith
 
 session_undone : (role : Role) (s : NetEndState) (p : NetSession) (memory : List ℕ) (subtype : Subtype) (b : MsgBody) (slot state : ℕ)
     → session_cause role s p memory subtype b ≡ Some (the_cause.NotDone slot state) → IsAck s p memory subtype b (Some (the_cause.NotDone slot state))
@@ -299,9 +277,7 @@ undone_here role s p memory sid slots turns packet v slot state same listening i
 
 -- a reset that carries a packet is one of what the end takes; without a session no slot is looked at
 takes_rule : (role : Role) (rule : NetRule) (s : NetEndState) (memory : List ℕ) (reach : Reach) (cause : Cause) (packet : List ℕ) → NetFails role rule s memory reach cause (Some packet) → rule ≡ Takes packet
-takes_rule role (Takes bytes) s memory reach cause packet fails = let same : bytes ≡ packet = cc fails.0 in ap Takes same
-takes_rule role (Fetches p activity) s memory reach cause packet fails = absurd (cc fails.0)
-takes_rule role _ s memory reach cause packet fails = absurd fails
+takes_rule role rule s memory reach cause packet fails = grind arith
 
 never_shut : {X : Type 0} (shape : NetShape) (is : IsNetShape shape) (moves : List CoreEvent) (u t : NetLaneState) (run : Run CoreStep (fresh_net_core shape) moves (lane_core u)) (fits : BothFit u) (e : End)
     (slot state : ℕ) (packet : List ℕ) (lost : ℕ) → (net_end e u).session ≡ None → NetLaneStep u (Steps e (Reset (the_cause.NotDone slot state) (Some packet) lost)) t → X
@@ -359,8 +335,7 @@ port_asks shape events s is run = lawful_along shape AsksAt here events s run
 
 -- a reset for a slot that isn't DONE
 in_never : {X : Type 0} (log : Option SessionLog) (P : SessionLog → Type 0) → InSession log (λ (v : SessionLog). ⊥ × P v) → X
-in_never {X} None P holds = absurd holds
-in_never {X} (Some v) P holds = absurd holds.0
+in_never {X} log P holds = grind arith
 
 module _ (shape : NetShape) (is : IsNetShape shape) (events : List PortEvent) (s : PortState) (t : NetLaneState) (run : Run PortStep (fresh_port shape) events s) (e : End) (slot state lost : ℕ) where
   abbrev for_slot : Option (List ℕ) → NetEvent
@@ -404,8 +379,7 @@ module _ (shape : NetShape) (is : IsNetShape shape) (events : List PortEvent) (s
 
 undone_event : (shape : NetShape) (is : IsNetShape shape) (events : List PortEvent) (s : PortState) (event : NetEvent) (t : NetLaneState) → Run PortStep (fresh_port shape) events s
     → NetLaneStep (before event s).lane event t → UndoneAt (log_of after (no_events shape) events) (OnLane event)
-undone_event shape is events s (Steps e (Reset (the_cause.NotDone slot state) packet lost)) t run step = undone_by shape is events s t run e slot state lost packet step
-undone_event shape is events s _ t run step = tt
+undone_event shape is events s event t run step = grind (arith, undone_by)
 
 pub port_undone : (shape : NetShape) (events : List PortEvent) (s : PortState) → IsNetShape shape → Run PortStep (fresh_port shape) events s → Lawful UndoneAt after (no_events shape) events
 port_undone shape events s is run = lawful_along shape UndoneAt here events s run

@@ -1,6 +1,6 @@
 -- Where the events of a port's frames may stand, by the counts of both ends.
-use Rattle.std.proofs.Common.{◌≡◌, ℕ, ◌+◌, ◌-◌, ◌<◌, ◌≤◌, Bool, true, false, Option, Some, None, List, [], ◌++◌, length, drop, refl, sym, subst, ap, ◌∙◌, arith, length-append, length-drop}
-use Rattle.std.specs.Prelude.{◌==◌, slice_get}
+use Rattle.std.proofs.Common.{◌≡◌, ℕ, ◌+◌, ◌-◌, ◌≤◌, Bool, true, false, Option, Some, None, List, [], ◌++◌, length, drop, refl, sym, subst, ap, ◌∙◌, arith, length-append, length-drop}
+use Rattle.std.specs.Prelude.{slice_get}
 use Rattle.std.proofs.lemmas.Bool.{and_parts, eqb-true}
 use Rattle.std.proofs.lemmas.List.{append-nil}
 use Rattle.std.proofs.lemmas.Option.{slice_get_within}
@@ -8,12 +8,11 @@ use Rattle.cookie_copy.specs.Faults.{is_up}
 use Rattle.ldc_link.specs.declared.phase.Role.{Role}
 use Rattle.ldc_link.specs.declared.phase.Role.TheVariants.{Initiator}
 use Rattle.ldc_queue.specs.declared.end.End.{End}
-use Rattle.ldc_queue.specs.declared.end.End.TheVariants.{A, B}
+use Rattle.ldc_queue.specs.declared.end.End.TheVariants.{A}
 use Rattle.ldc_queue.specs.Transcript.{Turn}
 use Rattle.runs.specs.Lawful.{Lawful, log_of}
 use Rattle.runs.specs.Run.{Run}
-use Rattle.vio_bytes.specs.Place.{number_at}
-use Rattle.channel_model.specs.Messages.{ended_by, is_range, range_if, range_in, subtype_of}
+use Rattle.channel_model.specs.Messages.{ended_by, is_range, range_if, range_in}
 use Rattle.channel_model.specs.Sayings.{half_heard, half_said}
 use Rattle.channel_model.specs.TranscriptLog.{transcript_of}
 use Rattle.port_model.proofs.FramesKept.{step_stands}
@@ -21,16 +20,15 @@ use Rattle.port_model.proofs.Refuting.{none_some}
 use Rattle.port_model.proofs.Ruling.{says_of}
 use Rattle.port_model.specs.EndLog.{EndLog, SessionLog, change, held, heard_in, heard_kind, hears_log, lost_in, opens_log, range_of}
 use Rattle.port_model.specs.FrameLaws.{AcknowledgesAt, Acknowledges, Admits, AdmissionAt, Announces, AnnouncesAt, IfMessage, IfSession, InSession, IsActive, LostAt, MayPublish, PublishedAt, SeesAt, SeesPublished, TakingAt}
-use Rattle.port_model.specs.FramesStand.{CountsStand, FramesStand}
+use Rattle.port_model.specs.FramesStand.{FramesStand}
 use Rattle.port_model.specs.NetEndRule.{Fetches, Publishes, Takes, port_rule}
 use Rattle.port_model.specs.NetEndState.{Activity, NetEndState, NetSession, unseen, unseen_in}
-use Rattle.port_model.specs.NetEndStep.{BadLength, Frame, Full, Given, Joined, NetGives, Published, Queued, Reset, Sent, Took}
-use Rattle.port_model.specs.NetEvent.{Asked, Gives, NetEvent, Steps, Ticked}
+use Rattle.port_model.specs.NetEndStep.{Frame, Given, Joined, NetGives, Published, Reset, Sent, Took}
+use Rattle.port_model.specs.NetEvent.{Asked, NetEvent, Steps, Ticked}
 use Rattle.port_model.specs.NetLaneState.{IsNetShape, NetLaneState, NetShape, memory_of, net_end, reach_of, role_at, seen_at}
 use Rattle.port_model.specs.NetLaneStep.{NetLaneStep}
 use Rattle.port_model.specs.PortLog.{PortLog, after, log_of_end, no_events}
 use Rattle.port_model.specs.PortState.{OfQueue, OnLane, PortEvent, PortState, PortStep, Receives, before, fresh_port}
-use Rattle.port_model.specs.RuleFacts.{IfOpen}
 use Rattle.port_model.specs.Spoken.{RangeAck, Spoken, spoken, spoken_by}
 use Rattle.port_laws.specs.Counted.{ActiveCounts, EndCounts, PeerCounts, SaysRightly, unsaid}
 use Rattle.port_laws.proofs.EndCounting.{OpenCounts, left_published, left_seen, open_counts, shut_counts, open_empty}
@@ -44,17 +42,14 @@ use Rattle.port_laws.proofs.SlotsFound.{Fits, fetched_fits}
 
 -- EITHER END
 pub end_counted : (shape : NetShape) (e : End) (u : PortState) (l : PortLog) → Ready shape u l → EndCounts (role_at e) shape.slots (queue_of e u) (net_end e u.lane) (log_of_end e l)
-end_counted shape A u l ready = ready.guest
-end_counted shape B u l ready = ready.hub
+end_counted shape e u l ready = grind arith
 
 pub end_stood : (shape : NetShape) (e : End) (u : PortState) (l : PortLog) → Ready shape u l → FramesStand (net_end e u.lane)
-end_stood shape A u l ready = ready.stands.0
-end_stood shape B u l ready = ready.stands.1
+end_stood shape e u l ready = grind arith
 
 pub end_acts : (shape : NetShape) (e : End) (u : PortState) (l : PortLog) → Ready shape u l → is_up (seen_at e u.lane).state ≡ true
     → Acting (role_at e) shape.slots (queue_of e u) (net_end e u.lane) (log_of_end e l) (transcript_of e l.transcript)
-end_acts shape A u l ready up = guest_acts shape u l ready up
-end_acts shape B u l ready up = hub_acts shape u l ready up
+end_acts shape e u l ready up = grind (arith, guest_acts, hub_acts)
 
 -- a log with an open session is that of an end with one
 pub record BothOpen (role : Role) (slots : ℕ) (s : NetEndState) (l : EndLog) (v : SessionLog) : Type 0 where
@@ -77,16 +72,7 @@ both_open role slots queue s l v counts log = by_session s.session refl
 
 -- 3. LOST
 pub lost_log : (role : Role) (slots : ℕ) (queue : List (List ℕ)) (s : NetEndState) (l : EndLog) → EndCounts role slots queue s l → unseen s.session ≡ lost_in l.session
-lost_log role slots queue s l counts = by_session s.session refl
-  where
-    by_session : (session : Option NetSession) → s.session ≡ session → unseen session ≡ lost_in l.session
-    by_session None is = sym (ap lost_in (shut_counts role slots queue s l counts is).is)
-    by_session (Some p) is =
-        let here = open_counts role slots queue s l p counts is in
-        let v : SessionLog = here.of_log in
-        let all : p.published ≡ v.published = sym here.counts.ring.here ∙ left_published (unsaid s) v in
-        let seen : p.seen ≡ v.seen = sym here.counts.ring.seen ∙ left_seen (unsaid s) v in
-        ap (λ (n : ℕ). n - p.seen) all ∙ ap (λ (n : ℕ). v.published - n) seen ∙ sym (ap lost_in here.is)
+lost_log role slots queue s l counts = grind (arith, shut_counts, open_counts, left_published, left_seen)
 
 end_lost : (shape : NetShape) (e : End) (u : PortState) (l : PortLog) (lost : ℕ) → Ready shape u l → lost ≡ unseen (net_end e u.lane).session → lost ≡ lost_in (log_of_end e l).session
 end_lost shape e u l lost ready is = is ∙ lost_log (role_at e) shape.slots (queue_of e u) (net_end e u.lane) (log_of_end e l) (end_counted shape e u l ready)
@@ -101,16 +87,7 @@ lost_event shape u l _ t ready step = tt
 -- 3. PUBLISHED
 may_publish : (role : Role) (slots : ℕ) (queue : List (List ℕ)) (s : NetEndState) (l : EndLog) (p : NetSession) (frame : List ℕ) (id : ℕ) → EndCounts role slots queue s l → FramesStand s → s.session ≡ Some p
     → slice_get s.frames (unseen_in p) ≡ Some frame → id ≡ p.base + p.published → MayPublish l id
-may_publish role slots queue s l p frame id counts stands is next id_is =
-    let here = open_counts role slots queue s l p counts is in
-    let within : unseen_in p < length s.frames = slice_get_within s.frames (unseen_in p) frame next in
-    let stood : CountsStand s p = subst (λ (x : Option NetSession). IfOpen x (CountsStand s)) is stands.session in
-    let long : length (s.frames ++ queue) ≡ length (drop l.gone l.given) = ap length counts.frames in
-    record {
-      opened = λ none. none_some here.of_log (sym none ∙ here.is);
-      next = id_is ∙ sym here.counts.ring.all;
-      given = omega (arith, id_is, within, stood.seen, long, counts.gone, here.counts.ring.left, length-append s.frames queue, length-drop l.gone l.given);
-    }
+may_publish role slots queue s l p frame id counts stands is next id_is = grind (arith, open_counts, slice_get_within, none_some, length-append, length-drop)
 
 published_event : (shape : NetShape) (u : PortState) (l : PortLog) (event : NetEvent) (t : NetLaneState) → Ready shape u l → NetLaneStep u.lane event t → PublishedAt l (OnLane event)
 published_event shape u l (Steps e (Published id)) t ready step =
@@ -121,9 +98,7 @@ published_event shape u l _ t ready step = tt
 
 -- RANGES by their kind
 range_test : (k : ℕ) (message : List ℕ) → is_range k message ≡ true → spoken message ≡ spoken_by 0x0042 k
-range_test k message is =
-    let both = and_parts (number_at 2 2 message == 0x0042) (subtype_of message == k) is in
-    ap (λ (n : ℕ). spoken_by n (subtype_of message)) (eqb-true (number_at 2 2 message) 0x0042 both.0) ∙ ap (λ (n : ℕ). spoken_by 0x0042 n) (eqb-true (subtype_of message) k both.1)
+range_test k message is = grind (arith, and_parts, eqb-true)
 
 pub if_range : (k : ℕ) (ended : Option (List ℕ)) (P : List ℕ → Type 0) → ((message : List ℕ) → ended ≡ Some message → spoken message ≡ spoken_by 0x0042 k → P message) → IfMessage (range_in k ended) P
 if_range k None P holds = tt
@@ -134,8 +109,7 @@ if_range k (Some message) P holds = by_test (is_range k message) refl
     by_test false is = tt
 
 pub if_session : (log : Option SessionLog) (P : SessionLog → Type 0) → ((v : SessionLog) → log ≡ Some v → P v) → IfSession log P
-if_session None P holds = tt
-if_session (Some v) P holds = holds v refl
+if_session log P holds = grind arith
 
 pub sent_said : (shape : NetShape) (e : End) (u : PortState) (l : PortLog) (packet : List ℕ) (opens : Bool) (t : NetLaneState) → Ready shape u l → (step : NetLaneStep u.lane (Steps e (Sent packet opens)) t)
     → SaidRight shape.slots step.step.held.groups (log_of_end e l) (ended_by (half_said (transcript_of e l.transcript)) packet)
@@ -164,13 +138,7 @@ acknowledges_event shape u l _ t ready step = tt
 
 -- 4. WHAT IT HEARS goes no further than what is published
 pub seen_within : (role : Role) (slots : ℕ) (queue : List (List ℕ)) (s : NetEndState) (l : EndLog) (v : SessionLog) → EndCounts role slots queue s l → FramesStand s → l.session ≡ Some v → v.seen ≤ v.published
-seen_within role slots queue s l v counts stands log =
-    let both = both_open role slots queue s l v counts log in
-    let stood : CountsStand s both.p = subst (λ (x : Option NetSession). IfOpen x (CountsStand s)) both.is stands.session in
-    let all : both.open_is.of_log.published ≡ both.p.published = sym (left_published (unsaid s) both.open_is.of_log) ∙ both.open_is.counts.ring.here in
-    let seen : both.open_is.of_log.seen ≡ both.p.seen = sym (left_seen (unsaid s) both.open_is.of_log) ∙ both.open_is.counts.ring.seen in
-    let here : both.open_is.of_log.seen ≤ both.open_is.of_log.published = omega (arith, all, seen, stood.seen) in
-    subst (λ (x : SessionLog). x.seen ≤ x.published) both.same here
+seen_within role slots queue s l v counts stands log = grind (arith, both_open, left_published, left_seen)
 
 sees_here : (role : Role) (slots : ℕ) (queue : List (List ℕ)) (s t : NetEndState) (l : EndLog) (turns : List Turn) (packet : List ℕ) (opens : Bool) (v : SessionLog) (message : List ℕ)
     → EndCounts role slots queue s l → FramesStand t → TookCounts role slots queue s t l turns packet opens 0 → l.session ≡ Some v → ended_by (half_heard turns) packet ≡ Some message
@@ -201,11 +169,7 @@ sees_event shape u l _ t ready step = tt
 -- 5. A FRAME is taken while an INFO isn't answered
 pub active_here : (role : Role) (slots : ℕ) (queue : List (List ℕ)) (s : NetEndState) (l : EndLog) (p : NetSession) (activity : Activity) → EndCounts role slots queue s l → s.session ≡ Some p
     → p.active ≡ Some activity → s.link.to_send ≡ [] → (P : SessionLog → Type 0) → ((v : SessionLog) → PeerCounts slots p v → ActiveCounts slots v (Some activity) → P v) → InSession l.session P
-active_here role slots queue s l p activity counts is active empty P holds =
-    let here : OpenCounts role slots s.groups l.published l.gone None s.link.begun p l.session =
-    open_empty role slots queue s l p counts is empty in
-    let busy : ActiveCounts slots here.of_log (Some activity) = subst (ActiveCounts slots here.of_log) active here.counts.peer.active in
-    subst (λ (x : Option SessionLog). InSession x P) (sym here.is) (holds here.of_log here.counts.peer busy)
+active_here role slots queue s l p activity counts is active empty P holds = grind (arith, open_empty)
 
 taking_event : (shape : NetShape) (u : PortState) (l : PortLog) (event : NetEvent) (t : NetLaneState) → Ready shape u l → NetLaneStep u.lane event t → TakingAt l (OnLane event)
 taking_event shape u l (Steps e (Frame frame)) t ready step =
@@ -230,14 +194,7 @@ guest_held : (slots : ℕ) (s : NetEndState) (l : EndLog) → EndCounts Initiato
 guest_held slots s l counts = held_frames Initiator slots [] s l counts ∙ none_more (length s.frames)
 
 admits : (shape : NetShape) (u : PortState) (l : PortLog) (given : Given) (t : NetEndState) → Ready shape u l → NetGives u.lane.guest given t → Admits l given
-admits shape u l (BadLength frame) t ready gives = gives.0
-admits shape u l (Full frame) t ready gives =
-    (gives.0, guest_held shape.slots u.lane.guest l.guest ready.guest ∙ gives.1 ∙ ready.guest.slots_is ∙ sym (ap (λ (x : NetShape). x.slots) ready.shape_is))
-admits shape u l (Queued id frame) t ready gives =
-    let held_is = guest_held shape.slots u.lane.guest l.guest ready.guest in
-    let slots : l.shape.slots ≡ u.lane.guest.slots = ap (λ (x : NetShape). x.slots) ready.shape_is ∙ sym ready.guest.slots_is in
-    let ids : u.lane.guest.next_id + 0 ≡ length l.guest.given = ready.guest.ids in
-    (gives.0, omega (arith, held_is, slots, gives.1), omega (arith, ids, gives.3))
+admits shape u l given t ready gives = grind (arith, guest_held)
 
 -- ALONG EVERY RUN
 pub along : (shape : NetShape) (May : PortLog → PortEvent → Type 0) → IsNetShape shape
@@ -271,9 +228,7 @@ pub port_takes : (shape : NetShape) (events : List PortEvent) (s : PortState) �
 port_takes shape events s is run = along shape TakingAt is (λ x l event t counts ready step. taking_event shape (before event x) l event t.lane ready step.1) (λ l frame. tt) events s run
 
 admission_event : (shape : NetShape) (s u : PortState) (l : PortLog) (event : NetEvent) (t : PortState) → Ready shape u l → OfQueue s event → NetLaneStep u.lane event t.lane → AdmissionAt l (OnLane event)
-admission_event shape s u l (Gives A given) t ready of_queue step = admits shape u l given t.lane.guest ready step.0
-admission_event shape s u l (Gives B given) t ready of_queue step = of_queue
-admission_event shape s u l _ t ready of_queue step = tt
+admission_event shape s u l event t ready of_queue step = grind (arith, admits)
 
 pub port_admits : (shape : NetShape) (events : List PortEvent) (s : PortState) → IsNetShape shape → Run PortStep (fresh_port shape) events s → Lawful AdmissionAt after (no_events shape) events
 port_admits shape events s is run = along shape AdmissionAt is (λ x l event t counts ready step. admission_event shape x (before event x) l event t ready step.0 step.1) (λ l frame. tt) events s run

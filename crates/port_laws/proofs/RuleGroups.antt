@@ -1,5 +1,5 @@
 -- The switch's end has the list of groups that its session told it; what an end says of groups stands by what it joined and took.
-use Rattle.std.proofs.Common.{◌≡◌, ℕ, Option, Some, None, List, refl, sym, ap, ◌∙◌}
+use Rattle.std.proofs.Common.{◌≡◌, ℕ, Option, Some, List, arith}
 use Rattle.ldc_link.specs.declared.phase.Role.TheVariants.{Responder}
 use Rattle.runs.specs.Lawful.{Lawful, log_of}
 use Rattle.runs.specs.Run.{Run}
@@ -8,15 +8,15 @@ use Rattle.channel_model.specs.Sayings.{half_said}
 use Rattle.channel_model.specs.TranscriptLog.{transcript_of}
 use Rattle.port_model.specs.EndLog.{EndLog, SessionLog}
 use Rattle.port_model.specs.FrameLaws.{GroupsSaidAt, IfMessage, SpeaksOfGroups}
-use Rattle.port_model.specs.NetEndState.{NetEndState, NetSession}
+use Rattle.port_model.specs.NetEndState.{NetEndState}
 use Rattle.port_model.specs.NetEndStep.{Sent}
 use Rattle.port_model.specs.NetEvent.{NetEvent, Steps}
 use Rattle.port_model.specs.NetLaneState.{IsNetShape, NetLaneState, NetShape}
 use Rattle.port_model.specs.NetLaneStep.{NetLaneStep}
 use Rattle.port_model.specs.PortLog.{PortLog, after, log_of_end, no_events}
 use Rattle.port_model.specs.PortState.{OnLane, PortEvent, PortState, PortStep, before, fresh_port}
-use Rattle.port_model.specs.Spoken.{GroupsAck, GroupsInfo, GroupsNack, Spoken, spoken}
-use Rattle.port_laws.specs.Counted.{EndCounts, SaysRightly, unsaid}
+use Rattle.port_model.specs.Spoken.{Spoken, spoken}
+use Rattle.port_laws.specs.Counted.{EndCounts, SaysRightly}
 use Rattle.port_laws.specs.GroupsTold.{told_in}
 use Rattle.port_laws.proofs.EndCounting.{left_groups, open_counts, shut_counts}
 use Rattle.port_laws.proofs.PortCounts.{Ready, port_counts}
@@ -24,12 +24,7 @@ use Rattle.port_laws.proofs.RuleFrames.{along, if_session, sent_said}
 
 -- WHAT THE SWITCH'S END KNOWS
 pub hub_told : (slots : ℕ) (queue : List (List ℕ)) (s : NetEndState) (l : EndLog) → EndCounts Responder slots queue s l → s.groups ≡ told_in l.session
-hub_told slots queue s l counts = by_session s.session refl
-  where
-    by_session : (session : Option NetSession) → s.session ≡ session → s.groups ≡ told_in l.session
-    by_session None is = let gone = shut_counts Responder slots queue s l counts is in gone.none ∙ sym (ap told_in gone.is)
-    by_session (Some p) is =
-        let here = open_counts Responder slots queue s l p counts is in here.counts.guest ∙ left_groups (unsaid s) here.of_log ∙ sym (ap told_in here.is)
+hub_told slots queue s l counts = grind (arith, shut_counts, open_counts, left_groups)
 
 pub port_told : (shape : NetShape) (events : List PortEvent) (s : PortState) → IsNetShape shape → Run PortStep (fresh_port shape) events s
     → s.lane.hub.groups ≡ told_in (log_of after (no_events shape) events).hub.session
@@ -37,14 +32,10 @@ port_told shape events s is run = let counts = port_counts shape events s is run
 
 -- WHAT IT SAYS of groups
 of_groups : (k : Spoken) (slots : ℕ) (groups : List (List ℕ)) (v : SessionLog) (message : List ℕ) → SaysRightly slots groups v message k → SpeaksOfGroups k v message
-of_groups GroupsInfo slots groups v message right = right.1
-of_groups GroupsAck slots groups v message right = right
-of_groups GroupsNack slots groups v message right = right
-of_groups _ slots groups v message right = tt
+of_groups k slots groups v message right = grind arith
 
 if_message : (ended : Option (List ℕ)) (P : List ℕ → Type 0) → ((message : List ℕ) → ended ≡ Some message → P message) → IfMessage ended P
-if_message None P holds = tt
-if_message (Some message) P holds = holds message refl
+if_message ended P holds = grind arith
 
 groups_event : (shape : NetShape) (u : PortState) (l : PortLog) (event : NetEvent) (t : NetLaneState) → Ready shape u l → NetLaneStep u.lane event t → GroupsSaidAt l (OnLane event)
 groups_event shape u l (Steps e (Sent packet opens)) t ready step =

@@ -1,5 +1,5 @@
 -- Where an end of a port is idle directly after the other, where nobody forged and nothing was lost, no frame is left.
-use Rattle.std.proofs.Common.{◌≡◌, ◌≢◌, ℕ, ◌-◌, ◌<◌, ◌≤◌, true, false, Option, Some, None, List, [], ◌∷◌, ◌++◌, length, inl, inr, refl, sym, subst, ap, ◌∙◌, arith}
+use Rattle.std.proofs.Common.{◌≡◌, ◌≢◌, ℕ, ◌-◌, ◌<◌, ◌≤◌, true, false, Option, Some, None, List, [], ◌∷◌, ◌++◌, length, refl, sym, subst, ap, ◌∙◌, arith}
 use Rattle.std.specs.Prelude.{slice_get}
 use Rattle.std.proofs.lemmas.Bool.{cases_lt}
 use Rattle.std.proofs.lemmas.List.{append-nil, append_cancel_left}
@@ -39,7 +39,7 @@ use Rattle.port_model.specs.RestLaws.{TwoIdleAt}
 use Rattle.port_model.specs.RuleFacts.{IfOpen, MayListen}
 use Rattle.port_laws.specs.NetCore.{lane_core}
 use Rattle.port_laws.specs.NoneLeft.{AllSeen, NoneLeft, NoneLeftAt}
-use Rattle.port_laws.specs.WaysStand.{Comes, Goes, Rests, Way, WaysStand, Works, acks_in, infos_in, or_new}
+use Rattle.port_laws.specs.WaysStand.{Way, WaysStand, acks_in, infos_in, or_new}
 use Rattle.port_laws.proofs.PortCounts.{before_guest, before_wire, queue_of, ready_before}
 use Rattle.port_laws.proofs.PortRuns.{lawful_along}
 use Rattle.port_laws.proofs.RingActs.{Finds}
@@ -64,10 +64,7 @@ live_up : (state : ChannelState) (packets : List (List ℕ)) → state ≡ Up �
 live_up state packets is = ap (λ (x : ChannelState). live x packets) is
 
 one_way : (x y : ChannelState) (put took waiting : List (List ℕ)) (lost : ℕ) → OneWay (live x put) (live y took) (numbered waiting) lost → lost ≡ 0 → waiting ≡ [] → x ≡ Up → y ≡ Up → put ≡ took
-one_way x y put took waiting lost way whole none up other =
-    let gone : way.gone ≡ [] = no_packets way.gone (omega (arith, way.few, whole)) in
-    sym (live_up x put up) ∙ way.is ∙ ap (λ (xs : List (List ℕ)). live y took ++ (xs ++ numbered waiting)) gone ∙ ap (λ (xs : List (List ℕ)). live y took ++ numbered xs) none ∙ append-nil (live y took)
-    ∙ live_up y took other
+one_way x y put took waiting lost way whole none up other = grind (arith, no_packets, live_up, append-nil)
 
 pub record HeardAll (s : Sides) : Type 0 where
   pub mine : said s.mine.turns ≡ heard s.theirs.turns
@@ -91,16 +88,7 @@ nothing_goes told taken going is same = append_cancel_left taken going [] (sym i
 -- ONE DIRECTION at rest
 rests_seen : (slots : ℕ) (v w : SessionLog) (infos acks : List (List ℕ)) → infos ≡ [] → acks ≡ [] → w.acks ≡ w.asked → (v.seen < v.published → v.asking ≡ true) → v.seen ≤ v.published
     → Way slots v w infos acks → v.seen ≡ v.published
-rests_seen slots v w infos acks no_info no_ack answered announced within (Rests asking asked acked told taken none no_acks) =
-    elim (cases_lt v.seen v.published) [
-      | inl less ↦ true_false (sym (announced less) ∙ asking)
-      | inr past ↦ omega (arith, past, within)
-    ]
-rests_seen slots v w infos acks no_info no_ack answered announced within (Goes info asking asked acked told taken some seq start end no_acks) =
-    let wrong : info ∷ [] ≡ [] = sym some ∙ no_info in absurd (cc wrong)
-rests_seen slots v w infos acks no_info no_ack answered announced within (Works asking asked busy told none no_acks) = absurd (omega (arith, busy, answered))
-rests_seen slots v w infos acks no_info no_ack answered announced within (Comes ack asking asked acked told some none one_ack start end) =
-    let wrong : ack ∷ [] ≡ [] = sym one_ack ∙ no_ack in absurd (cc wrong)
+rests_seen slots v w infos acks no_info no_ack answered announced within given = grind (arith, cases_lt, true_false)
 
 -- AN IDLE END, by its log
 pub record IdleEnd (e : End) (u : PortState) (l : PortLog) (v : SessionLog) : Type 0 where
@@ -129,8 +117,7 @@ idle_end shape e u l v finds idles log =
     }
 
 pub some_log : (log : Option SessionLog) → log ≢ None → (v : SessionLog) × (log ≡ Some v)
-some_log (Some v) some = (v, refl)
-some_log None some = absurd (some refl)
+some_log log some = grind arith
 
 both_left : (shape : NetShape) (u : PortState) (l : PortLog) → Finds shape u l → WaysStand u.lane l → port_rule Initiator u.lane.guest (seen_at A u.lane) ≡ Idles
     → port_rule Responder u.lane.hub (seen_at B u.lane) ≡ Idles → l.wire.lossy ≡ false → (l.guest.session ≢ None) × (l.hub.session ≢ None) → NoneLeft l
@@ -173,10 +160,7 @@ before_entries event s = before_keeps (λ (x : PortState). x.lane.shape.entries 
 
 pub moved_guest : (s u : PortState) → u.lane.guest ≡ s.lane.guest → u.lane.wire ≡ s.lane.wire → u.lane.shape.entries ≡ s.lane.shape.entries
     → port_rule Initiator s.lane.guest (seen_at A s.lane) ≡ Idles → port_rule Initiator u.lane.guest (seen_at A u.lane) ≡ Idles
-moved_guest s u guest wire entries idles =
-    ap (λ (x : NetEndState). port_rule Initiator x (seen_at A u.lane)) guest
-    ∙ ap (λ (w : WireLog). port_rule Initiator s.lane.guest (seen A u.lane.shape.entries w.wire)) wire
-    ∙ ap (λ (n : ℕ). port_rule Initiator s.lane.guest (seen A n s.lane.wire.wire)) entries ∙ idles
+moved_guest s u guest wire entries idles = grind arith
 
 left_event : (shape : NetShape) (s : PortState) (l : PortLog) (event : NetEvent) (t : PortState) → IsNetShape shape → KeptWays shape s l → IdlesKept s l → TwoIdleAt l (OnLane event)
     → NetLaneStep (before event s).lane event t.lane → NoneLeftAt l (OnLane event)

@@ -1,5 +1,5 @@
 -- Where an end of a port is idle directly after the other, where nobody forged and nothing was lost, the guest told all its groups.
-use Rattle.std.proofs.Common.{◌≡◌, ◌≢◌, ℕ, Bool, true, false, Option, Some, None, List, [], ◌++◌, length, drop, refl, sym, subst, ap, ◌∙◌, arith}
+use Rattle.std.proofs.Common.{◌≡◌, ◌≢◌, ℕ, Bool, false, Option, Some, None, List, [], refl, sym, subst, ap, ◌∙◌, arith}
 use Rattle.std.specs.Prelude.{◌&&◌, is_some, not}
 use Rattle.std.proofs.lemmas.List.{drop_all}
 use Rattle.ldc_link.specs.declared.phase.Role.TheVariants.{Initiator, Responder}
@@ -25,12 +25,12 @@ use Rattle.port_model.specs.PortLog.{PortLog, after, no_events}
 use Rattle.port_model.specs.PortState.{OnLane, PortEvent, PortState, PortStep, Receives, before, fresh_port}
 use Rattle.port_model.specs.RestLaws.{TwoIdleAt}
 use Rattle.port_model.specs.RuleFacts.{IfOpen, MayListen}
-use Rattle.port_laws.specs.Counted.{GroupCounts, unsaid}
+use Rattle.port_laws.specs.Counted.{GroupCounts}
 use Rattle.port_laws.specs.NetCore.{lane_core, one_if}
 use Rattle.port_laws.specs.GroupsTold.{told_in}
 use Rattle.port_laws.specs.NoneUntold.{KnowsAll, NoneUntoldAt}
 use Rattle.port_laws.proofs.EndCounting.{OpenCounts, empty_unsaid}
-use Rattle.port_laws.proofs.Outbox.{count_groups, listed, outbox}
+use Rattle.port_laws.proofs.Outbox.{count_groups, outbox}
 use Rattle.port_laws.proofs.PortCounts.{before_guest, before_wire, ready_before}
 use Rattle.port_laws.proofs.PortRuns.{lawful_along}
 use Rattle.port_laws.proofs.RingActs.{Finds}
@@ -47,18 +47,13 @@ use Rattle.port_laws.proofs.TalkRuns.{KeptTalk, before_talk, port_talk}
 use Rattle.port_laws.proofs.TookCounts.{free_empty}
 
 none_out : (s : NetEndState) (mine theirs : List Turn) → said mine ≡ heard theirs → s.link.to_send ≡ [] → outbox s mine theirs ≡ []
-none_out s mine theirs all empty =
-    ap (λ (xs : List (List ℕ)). drop (length (heard theirs)) xs ++ listed (unsaid s)) all
-    ∙ ap (λ (xs : List (List ℕ)). xs ++ listed (unsaid s)) (drop_all (length (heard theirs)) (heard theirs) (omega arith)) ∙ ap listed (empty_unsaid s empty)
+none_out s mine theirs all empty = grind (arith, drop_all, empty_unsaid)
 
 none_telling : (b : Bool) → one_if b ≡ 0 → b ≡ false
-none_telling false is = refl
-none_telling true is = absurd (omega (arith, is))
+none_telling b is = grind arith
 
 told_by : (untold telling : Bool) → (untold && not telling) ≡ false → telling ≡ false → untold ≡ false
-told_by false telling idle none = refl
-told_by true false idle none = true_false idle
-told_by true true idle none = true_false none
+told_by untold telling idle none = grind (arith, true_false)
 
 both_told : (shape : NetShape) (u : PortState) (l : PortLog) → Finds shape u l → TalkStands u.lane l → port_rule Initiator u.lane.guest (seen_at A u.lane) ≡ Idles
     → port_rule Responder u.lane.hub (seen_at B u.lane) ≡ Idles → l.wire.lossy ≡ false → (l.guest.session ≢ None) × (l.hub.session ≢ None)

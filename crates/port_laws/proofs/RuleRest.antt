@@ -1,5 +1,5 @@
 -- Why an end of a port resets itself, where a port is finished, and where its ends may be idle, by the counts of both ends.
-use Rattle.std.proofs.Common.{◌≡◌, ℕ, ◌<◌, Bool, true, false, Option, Some, None, List, [], ◌∷◌, length, refl, sym, subst, ap, ◌∙◌, arith}
+use Rattle.std.proofs.Common.{◌≡◌, ℕ, Bool, true, false, Option, Some, None, List, [], length, refl, sym, subst, ap, ◌∙◌, arith}
 use Rattle.std.specs.Prelude.{◌%◌, ◌==◌, ◌&&◌, not}
 use Rattle.std.proofs.lemmas.Bool.{and_parts, eqb-true}
 use Rattle.cookie_copy.specs.Faults.{is_up}
@@ -19,15 +19,15 @@ use Rattle.port_model.proofs.Ruling.{says_of}
 use Rattle.port_model.specs.EndLog.{EndLog, SessionLog, said_in, said_kind}
 use Rattle.port_model.specs.Fetching.{fetched}
 use Rattle.port_model.specs.FrameLaws.{InSession, IsFinished, OwnReset, OwnResetAt, SlotResets, TickAt, ToldAll, WorksAt}
-use Rattle.port_model.specs.NetEndRule.{Fetches, NetRule, Publishes, Takes, port_rule}
+use Rattle.port_model.specs.NetEndRule.{Fetches, NetRule, Takes, port_rule}
 use Rattle.port_model.specs.NetEndState.{NetEndState, NetSession}
-use Rattle.port_model.specs.NetEndStep.{Frame, NetFails, Published, Reset}
-use Rattle.port_model.specs.NetEvent.{CalmTick, NetEvent, Steps, Ticked}
+use Rattle.port_model.specs.NetEndStep.{NetFails}
+use Rattle.port_model.specs.NetEvent.{NetEvent}
 use Rattle.port_model.specs.NetLaneState.{IsNetShape, NetLaneState, NetShape, memory_of, net_end, reach_of, role_at, seen_at}
 use Rattle.port_model.specs.NetLaneStep.{NetLaneStep, is_finished, is_nothing, told_all}
 use Rattle.port_model.specs.PortLog.{PortLog, after, log_of_end, no_events}
 use Rattle.port_model.specs.PortState.{OfQueue, OnLane, PortEvent, PortState, PortStep, before, fresh_port}
-use Rattle.port_model.specs.Spoken.{GroupsInfo, Spoken, spoken}
+use Rattle.port_model.specs.Spoken.{Spoken, spoken}
 use Rattle.port_laws.specs.Counted.{EndCounts, GroupCounts, IsBehind, LastCounts, SaysRightly, UnsaidRight, unsaid}
 use Rattle.port_laws.proofs.EndCounting.{open_counts}
 use Rattle.port_laws.proofs.PortCounts.{Ready, queue_of}
@@ -37,18 +37,13 @@ use Rattle.port_laws.proofs.TookCounts.{free_empty}
 
 -- ONLY AN END THAT IS UP publishes a frame or takes one
 pub up_state : (c : ChannelState) → is_up c ≡ true → c ≡ Up
-up_state Up is = refl
-up_state _ is = false_true is
+up_state c is = grind (arith, false_true)
 
 end_up : (shape : NetShape) (e : End) (u : PortState) (l : PortLog) → Ready shape u l → is_up (seen_at e u.lane).state ≡ true → IsUp e l.wire.wire
 end_up shape e u l ready up = subst (λ (w : WireLog). IsUp e w.wire) ready.wire (up_state (state_of e u.lane.wire.wire) up)
 
 works_event : (shape : NetShape) (u : PortState) (l : PortLog) (event : NetEvent) (t : NetLaneState) → Ready shape u l → NetLaneStep u.lane event t → WorksAt l (OnLane event)
-works_event shape u l (Steps e (Published id)) t ready step =
-    end_up shape e u l ready (says_of (role_at e) (net_end e u.lane) (seen_at e u.lane) (Publishes step.step.session step.step.frame) step.step.rule).0.in_session.free.up
-works_event shape u l (Steps e (Frame frame)) t ready step =
-    end_up shape e u l ready (says_of (role_at e) (net_end e u.lane) (seen_at e u.lane) (Fetches step.step.session step.step.activity) step.step.rule).0.free.up
-works_event shape u l _ t ready step = tt
+works_event shape u l event t ready step = grind (arith, end_up, says_of)
 
 pub port_works : (shape : NetShape) (events : List PortEvent) (s : PortState) → IsNetShape shape → Run PortStep (fresh_port shape) events s → Lawful WorksAt after (no_events shape) events
 port_works shape events s is run = along shape WorksAt is (λ x l event t counts ready step. works_event shape (before event x) l event t.lane ready step.1) (λ l frame. tt) events s run
@@ -72,9 +67,7 @@ own_reset shape e u l cause packet (Fetches p activity) ready is fails =
 own_reset shape e u l cause packet _ ready is fails = absurd fails
 
 pub own_reset_event : (shape : NetShape) (u : PortState) (l : PortLog) (event : NetEvent) (t : NetLaneState) → Ready shape u l → NetLaneStep u.lane event t → OwnResetAt l (OnLane event)
-own_reset_event shape u l (Steps e (Reset cause packet lost)) t ready step =
-    own_reset shape e u l cause packet (port_rule (role_at e) (net_end e u.lane) (seen_at e u.lane)) ready refl step.step.0
-own_reset_event shape u l _ t ready step = tt
+own_reset_event shape u l event t ready step = grind (arith, own_reset)
 
 pub port_resets : (shape : NetShape) (events : List PortEvent) (s : PortState) → IsNetShape shape → Run PortStep (fresh_port shape) events s → Lawful OwnResetAt after (no_events shape) events
 port_resets shape events s is run = along shape OwnResetAt is (λ x l event t counts ready step. own_reset_event shape (before event x) l event t.lane ready step.1) (λ l frame. tt) events s run
@@ -85,39 +78,29 @@ record Told (groups : List (List ℕ)) (v : SessionLog) : Type 0 where
   told : v.told ≡ true
 
 told_kind : (k : Spoken) (groups : List (List ℕ)) (message : List ℕ) (v : SessionLog) → Told groups (said_kind k message v) → Told groups v
-told_kind GroupsInfo groups message v is = false_true is.told
-told_kind _ groups message v is = record { membership = is.membership; told = is.told }
+told_kind k groups message v is = grind (arith, false_true)
 
 told_left : (left : Option (List ℕ)) (groups : List (List ℕ)) (v : SessionLog) → Told groups (said_in left v) → Told groups v
 told_left None groups v is = is
 told_left (Some message) groups v is = told_kind (spoken message) groups message v is
 
 never_behind : (groups : List (List ℕ)) (told : Option (List (List ℕ))) → told ≡ Some groups → IsBehind told groups → ⊥
-never_behind groups told is behind =
-    let below : length groups < length groups = subst (λ (x : Option (List (List ℕ))). IsBehind x groups) is behind in absurd (omega (arith, below))
+never_behind groups told is behind = grind arith
 
 kept_kind : (k : Spoken) (slots : ℕ) (groups : List (List ℕ)) (message : List ℕ) (v : SessionLog) → SaysRightly slots groups v message k → Told groups v → Told groups (said_kind k message v)
-kept_kind GroupsInfo slots groups message v right is = absurd (never_behind groups v.membership is.membership right.0)
-kept_kind _ slots groups message v right is = record { membership = is.membership; told = is.told }
+kept_kind k slots groups message v right is = grind (arith, never_behind)
 
 kept_left : (left : Option (List ℕ)) (slots : ℕ) (groups : List (List ℕ)) (begun : Bool) (v : SessionLog) → UnsaidRight slots groups begun v left → Told groups v → Told groups (said_in left v)
-kept_left None slots groups begun v right is = is
-kept_left (Some message) slots groups begun v right is = kept_kind (spoken message) slots groups message v right.right is
+kept_left left slots groups begun v right is = grind (arith, kept_kind)
 
 both_not : (untold telling : Bool) → (not untold && not telling) ≡ true → (untold ≡ false) × (telling ≡ false)
-both_not false false is = (refl, refl)
-both_not true telling is = false_true is
-both_not false true is = false_true is
+both_not untold telling is = grind (arith, false_true)
 
 finished_told : (p : NetSession) (groups : List (List ℕ)) (v : SessionLog) → GroupCounts p groups v → told_all (Some p) ≡ true → Told groups v
-finished_told p groups v counts is =
-    let both = both_not p.untold p.telling is in
-    record { membership = counts.named both.0; told = counts.answered both.1 both.0 }
+finished_told p groups v counts is = grind (arith, both_not)
 
 told_by : (untold telling : Bool) (p : NetSession) (groups : List (List ℕ)) (v : SessionLog) → p.untold ≡ untold → p.telling ≡ telling → GroupCounts p groups v → Told groups v → (not untold && not telling) ≡ true
-told_by false false p groups v one two counts is = refl
-told_by true telling p groups v one two counts is = absurd (never_behind groups v.membership is.membership (counts.behind one))
-told_by false true p groups v one two counts is = true_false (sym is.told ∙ (counts.waits two).0)
+told_by untold telling p groups v one two counts is = grind (arith, never_behind, true_false)
 
 told_finished : (p : NetSession) (groups : List (List ℕ)) (v : SessionLog) → GroupCounts p groups v → Told groups v → told_all (Some p) ≡ true
 told_finished p groups v counts is = told_by p.untold p.telling p groups v refl refl counts is
@@ -134,24 +117,16 @@ guest_told slots s l counts is = by_session s.session refl
         (told_left (unsaid s) s.groups here.of_log (finished_told p s.groups (said_in (unsaid s) here.of_log) here.counts.guest (sym (ap told_all some) ∙ is)))
 
 told_guest : (slots : ℕ) (s : NetEndState) (l : EndLog) (v : SessionLog) → EndCounts Initiator slots [] s l → l.session ≡ Some v → Told s.groups v → told_all s.session ≡ true
-told_guest slots s l v counts log is =
-    let both = both_open Initiator slots [] s l v counts log in
-    let there : Told s.groups both.open_is.of_log = subst (Told s.groups) (sym both.same) is in
-    ap told_all both.is
-    ∙ told_finished both.p s.groups (said_in (unsaid s) both.open_is.of_log) both.open_is.counts.guest
-    (kept_left (unsaid s) slots s.groups s.link.begun both.open_is.of_log both.open_is.counts.right there)
+told_guest slots s l v counts log is = grind (arith, both_open, told_finished, kept_left)
 
 nothing_empty : (frames : List (List ℕ)) → is_nothing frames ≡ true → length frames ≡ 0
-nothing_empty [] is = refl
-nothing_empty (frame ∷ frames) is = false_true is
+nothing_empty frames is = grind (arith, false_true)
 
 empty_nothing : (frames : List (List ℕ)) → length frames ≡ 0 → is_nothing frames ≡ true
-empty_nothing [] is = refl
-empty_nothing (frame ∷ frames) is = absurd (omega (arith, is))
+empty_nothing frames is = grind arith
 
 in_open : (log : Option SessionLog) (P Q : SessionLog → Type 0) → ((v : SessionLog) → P v → Q v) → InSession log P → InSession log Q
-in_open None P Q means holds = holds
-in_open (Some v) P Q means holds = means v holds
+in_open log P Q means holds = grind arith
 
 calm_finished : (shape : NetShape) (u : PortState) (l : PortLog) (queued : ℕ) → Ready shape u l → queued ≡ length u.queue → is_finished u.lane queued ≡ true → IsFinished l
 calm_finished shape u l queued ready queue is =
@@ -172,11 +147,7 @@ calm_finished shape u l queued ready queue is =
     }
 
 all_true : (a b c d : Bool) → a ≡ true → b ≡ true → c ≡ true → d ≡ true → (a && b && c && d) ≡ true
-all_true true true true true one two three four = refl
-all_true false b c d one two three four = false_true one
-all_true true false c d one two three four = false_true two
-all_true true true false d one two three four = false_true three
-all_true true true true false one two three four = false_true four
+all_true a b c d one two three four = grind (arith, false_true)
 
 record SomeTold (l : PortLog) : Type 0 where
   v : SessionLog
@@ -185,8 +156,7 @@ record SomeTold (l : PortLog) : Type 0 where
   told : v.told ≡ true
 
 some_told : (l : PortLog) (log : Option SessionLog) → l.guest.session ≡ log → InSession log (ToldAll l) → SomeTold l
-some_told l None is holds = absurd holds
-some_told l (Some v) is holds = record { v = v; log = is; membership = holds.0; told = holds.1 }
+some_told l log is holds = grind arith
 
 finished_calm : (shape : NetShape) (u : PortState) (l : PortLog) (queued : ℕ) → Ready shape u l → queued ≡ length u.queue → IsFinished l → is_finished u.lane queued ≡ true
 finished_calm shape u l queued ready queue finished =
@@ -202,14 +172,11 @@ finished_calm shape u l queued ready queue finished =
     (empty_nothing u.lane.guest.frames guest_none) (empty_nothing u.lane.hub.frames hub_none) (ap (λ (n : ℕ). n == 0) none)
 
 tick_event : (shape : NetShape) (u : PortState) (l : PortLog) (event : NetEvent) (t : NetLaneState) → Ready shape u l → OfQueue u event → NetLaneStep u.lane event t → TickAt l (OnLane event)
-tick_event shape u l (Ticked queued lost) t ready of_queue step = λ finished. absurd (true_false (sym (finished_calm shape u l queued ready of_queue finished) ∙ step.0))
-tick_event shape u l (CalmTick queued) t ready of_queue step = calm_finished shape u l queued ready of_queue step.0
-tick_event shape u l _ t ready of_queue step = tt
+tick_event shape u l event t ready of_queue step = grind (arith, true_false, finished_calm, calm_finished)
 
 -- a tick finds the queue as it was
 tick_queue : (s : PortState) (event : NetEvent) → OfQueue s event → OfQueue (before event s) event
-tick_queue s (Steps e answer) is = tt
-tick_queue s _ is = is
+tick_queue s event is = grind arith
 
 pub port_ticks : (shape : NetShape) (events : List PortEvent) (s : PortState) → IsNetShape shape → Run PortStep (fresh_port shape) events s → Lawful TickAt after (no_events shape) events
 port_ticks shape events s is run =

@@ -1,12 +1,10 @@
 -- No end of a port resets itself for a slot where nobody forged: what it works on is in the peer's ring.
 use Rattle.std.proofs.Common.{◌≡◌, ℕ, ◌+◌, ◌%◌, ◌<◌, Bool, true, false, Option, Some, None, List, refl, sym, ap, ◌∙◌, subst, arith}
-use Rattle.std.specs.Prelude.{◌&&◌, is_some}
+use Rattle.std.specs.Prelude.{is_some}
 use Rattle.ldc_queue.specs.declared.end.ChannelState.{ChannelState}
 use Rattle.ldc_queue.specs.declared.end.ChannelState.TheVariants.{Up}
 use Rattle.ldc_queue.specs.declared.end.End.{End}
-use Rattle.ldc_queue.specs.declared.end.End.TheVariants.{A, B}
 use Rattle.ldc_queue.specs.Wire.{peer_of, state_of}
-use Rattle.cookie_copy.specs.Faults.{is_up}
 use Rattle.runs.specs.Lawful.{Lawful, log_of}
 use Rattle.runs.specs.Run.{Run}
 use Rattle.channel_model.specs.TranscriptLog.{transcript_of}
@@ -26,13 +24,13 @@ use Rattle.port_model.specs.NetLaneStep.{NetLaneStep}
 use Rattle.port_model.specs.PortLog.{PortLog, after, log_of_end, no_events}
 use Rattle.port_model.specs.PortState.{OnLane, PortEvent, PortState, PortStep, Receives, before, fresh_port}
 use Rattle.port_model.specs.RuleFacts.{IfOpen}
-use Rattle.port_model.specs.Spoken.{RangeInfo, Spoken, spoken}
+use Rattle.port_model.specs.Spoken.{Spoken}
 use Rattle.port_laws.specs.Counted.{ActiveCounts, LastCounts, unsaid}
 use Rattle.port_laws.specs.NetCore.{lane_core}
 use Rattle.port_laws.specs.NoSlotReset.{NoSlotResetAt}
 use Rattle.port_laws.specs.RingHolds.{RingHolds}
 use Rattle.port_laws.specs.RingStands.{RingIn, taken_by, taken_in, taken_of}
-use Rattle.port_laws.specs.WaysStand.{Comes, Goes, Rests, Way, WaysStand, Works, acks_in, infos_in, or_new}
+use Rattle.port_laws.specs.WaysStand.{Way, WaysStand}
 use Rattle.port_laws.proofs.EndCounting.{OpenCounts, left_seen, open_counts, open_empty}
 use Rattle.port_laws.proofs.MemoryRoom.{power_room}
 use Rattle.port_laws.proofs.PortCounts.{queue_of}
@@ -49,16 +47,13 @@ use Rattle.port_laws.proofs.WayRuns.{KeptWays, port_ways, ways_before}
 
 -- WHAT ITS COPIES WORK ON
 reach_memory : (e : End) (u : NetLaneState) → memory_of (peer_of e) u ≡ (reach_of e u).memory
-reach_memory A u = refl
-reach_memory B u = refl
+reach_memory e u = grind arith
 
 reach_both : (e : End) (u : NetLaneState) → state_of e u.wire.wire ≡ Up → state_of (peer_of e) u.wire.wire ≡ Up → (reach_of e u).both ≡ true
-reach_both A u one two = ap (λ (x : ChannelState). is_up x && is_up u.wire.wire.end_b) one ∙ ap is_up two
-reach_both B u one two = ap (λ (x : ChannelState). is_up x && is_up u.wire.wire.end_b) two ∙ ap is_up one
+reach_both e u one two = grind arith
 
 pub seen_up : (e : End) (u : NetLaneState) → state_of e u.wire.wire ≡ (seen_at e u).state
-seen_up A u = refl
-seen_up B u = refl
+seen_up e u = grind arith
 
 -- WHAT IS ON THE WAY while an INFO is in work
 record Working (v w : SessionLog) : Type 0 where
@@ -66,32 +61,18 @@ record Working (v w : SessionLog) : Type 0 where
   answered : w.answered ≡ v.seen
 
 working : (slots : ℕ) (v w : SessionLog) (infos acks : List (List ℕ)) → w.asked ≡ w.acks + 1 → Way slots v w infos acks → Working v w
-working slots v w infos acks busy (Rests asking asked acked answered taken none no_ack) = absurd (omega (arith, busy, asked, acked))
-working slots v w infos acks busy (Goes info asking asked acked answered taken some seq start end no_ack) = absurd (omega (arith, busy, acked))
-working slots v w infos acks busy (Works asking asked active answered none no_ack) = record { asking = asking; answered = answered }
-working slots v w infos acks busy (Comes ack asking asked acked answered some none one_ack start end) = absurd (omega (arith, busy, acked))
+working slots v w infos acks busy given = grind arith
 
 works_at : (e : End) (u : NetLaneState) (l : PortLog) (v w : SessionLog) → WaysStand u l → state_of e u.wire.wire ≡ Up → state_of (peer_of e) u.wire.wire ≡ Up → (log_of_end e l).session ≡ Some w
     → (log_of_end (peer_of e) l).session ≡ Some v → w.asked ≡ w.acks + 1 → Working v w
-works_at A u l v w ways up other mine theirs busy =
-    let between = ways up other (λ none. none_some w (sym none ∙ mine)) in
-    working l.shape.slots v w (infos_in between.coming) (acks_in between.going) busy
-    (subst (λ (o : Option SessionLog). Way l.shape.slots v (or_new o) (infos_in between.coming) (acks_in between.going)) mine
-    (subst (λ (o : Option SessionLog). Way l.shape.slots (or_new o) (or_new l.guest.session) (infos_in between.coming) (acks_in between.going)) theirs between.theirs))
-works_at B u l v w ways up other mine theirs busy =
-    let between = ways other up (λ none. none_some v (sym none ∙ theirs)) in
-    working l.shape.slots v w (infos_in between.going) (acks_in between.coming) busy
-    (subst (λ (o : Option SessionLog). Way l.shape.slots v (or_new o) (infos_in between.going) (acks_in between.coming)) mine
-    (subst (λ (o : Option SessionLog). Way l.shape.slots (or_new o) (or_new l.hub.session) (infos_in between.going) (acks_in between.coming)) theirs between.mine))
+works_at e u l v w ways up other mine theirs busy = grind (arith, none_some, working)
 
 -- what an end holds to say leaves an INFO unanswered
 kind_asking : (k : Spoken) (message : List ℕ) (v : SessionLog) → v.asking ≡ true → (said_kind k message v).asking ≡ true
-kind_asking RangeInfo message v is = refl
-kind_asking _ message v is = is
+kind_asking k message v is = grind arith
 
 left_asking : (left : Option (List ℕ)) (v : SessionLog) → v.asking ≡ true → (said_in left v).asking ≡ true
-left_asking None v is = is
-left_asking (Some message) v is = kind_asking (spoken message) message v is
+left_asking left v is = grind (arith, kind_asking)
 
 -- A FETCH
 pub slot_reset : (shape : NetShape) (e : End) (u : PortState) (l : PortLog) (cause : Cause) (lost : ℕ) (left : NetLeft) → Finds shape u l → WaysStand u.lane l
@@ -173,8 +154,7 @@ slot_reset shape e u l cause lost left finds ways step = by_rule (port_rule (rol
 
 -- ALONG EVERY RUN
 by_forged : (b : Bool) → (b ≡ false → ⊥) → b ≡ true
-by_forged true never = refl
-by_forged false never = absurd (never refl)
+by_forged b never = grind arith
 
 slots_event : (shape : NetShape) (s : PortState) (l : PortLog) (event : NetEvent) (t : PortState) → IsNetShape shape → KeptWays shape s l → NetLaneStep (before event s).lane event t.lane
     → NoSlotResetAt l (OnLane event)

@@ -1,24 +1,22 @@
 -- Each event of a port stands where the states of its ends and its queues let it, and what changes nothing is answered rightly.
-use Rattle.std.proofs.Common.{◌≡◌, ℕ, ◌+◌, ◌*◌, ◌≤◌, List, length, refl, sym, ap, ◌∙◌, subst, arith}
+use Rattle.std.proofs.Common.{◌≡◌, ℕ, ◌+◌, ◌*◌, ◌≤◌, List, length, sym, ap, ◌∙◌, subst, arith}
 use Rattle.ldc_link.specs.declared.phase.Role.TheVariants.{Initiator, Responder}
 use Rattle.ldc_queue.specs.declared.end.End.{End}
-use Rattle.ldc_queue.specs.declared.end.End.TheVariants.{A, B}
 use Rattle.ldc_queue.specs.Wire.{Wire, peer_of, waiting_for}
 use Rattle.runs.specs.Lawful.{Lawful, log_of}
 use Rattle.runs.specs.Run.{Run}
 use Rattle.vnet_msg.specs.Frames.{memory_pages}
-use Rattle.channel_model.specs.WireAt.{DeclinesAt, IsUp, Sizes, WireAnswersAt, WireTableAt}
+use Rattle.channel_model.specs.WireAt.{IsUp, Sizes, WireAnswersAt, WireTableAt}
 use Rattle.channel_model.specs.WireLog.{WireLog}
 use Rattle.channel_laws.proofs.Sessions.{converse_knows}
 use Rattle.channel_laws.specs.CoreLog as core
 use Rattle.channel_laws.specs.CoreLog.{RoomStands}
 use Rattle.channel_laws.specs.LaneCore.{CoreStands}
 use Rattle.port_model.proofs.Ruling.{says_of}
-use Rattle.port_model.specs.NetEndRule.{Idles}
-use Rattle.port_model.specs.NetEndStep.{Blocked, Frame, Idle, Joined, NetAnswer, Published}
-use Rattle.port_model.specs.NetEvent.{Asked, Declines, Injects, Loses, NetEvent, Pokes, Steps, Ticked}
-use Rattle.port_model.specs.NetLaneState.{IsNetShape, NetLaneState, NetShape, net_end, role_at, seen_at}
-use Rattle.port_model.specs.NetLaneStep.{NetLaneStep, declined_at, sizes_of}
+use Rattle.port_model.specs.NetEndStep.{Idle, NetAnswer}
+use Rattle.port_model.specs.NetEvent.{NetEvent, Steps}
+use Rattle.port_model.specs.NetLaneState.{IsNetShape, NetLaneState, NetShape}
+use Rattle.port_model.specs.NetLaneStep.{NetLaneStep, sizes_of}
 use Rattle.port_model.specs.Offers.{port_offer}
 use Rattle.port_model.specs.PortLog.{PortLog, after, no_events}
 use Rattle.port_model.specs.PortMay.{OfWire, sizes_in}
@@ -42,8 +40,7 @@ record SameSizes (s : NetLaneState) (l : PortLog) : Type 0 where
   room_b : length l.wire.wire.to_b + 1 ≤ l.shape.entries
 
 sizes_are : (s : NetLaneState) (l : PortLog) → SameSizes s l → (e : End) → sizes_of e s ≡ sizes_in l
-sizes_are s l same A = ap (λ (n : ℕ). record { entries = n; memory = length s.guest_memory }) same.entries ∙ ap (λ (n : ℕ). record { entries = l.shape.entries; memory = n }) same.guest
-sizes_are s l same B = ap (λ (n : ℕ). record { entries = n; memory = length s.hub_memory }) same.entries ∙ ap (λ (n : ℕ). record { entries = l.shape.entries; memory = n }) same.hub
+sizes_are s l same e = grind arith
 
 same_sizes : (shape : NetShape) (events : List PortEvent) (s : PortState) → IsNetShape shape → Run PortStep (fresh_port shape) events s → SameSizes s.lane (log_of after (no_events shape) events)
 same_sizes shape events s is run =
@@ -68,23 +65,14 @@ same_sizes shape events s is run =
 
 -- A STEP, by what stands on the channel
 full_at : (e : End) (l : PortLog) (s : NetLaneState) → SameSizes s l → l.shape.entries ≤ length (waiting_for (peer_of e) l.wire.wire) + 1 → length (waiting_for (peer_of e) l.wire.wire) + 1 ≡ l.shape.entries
-full_at A l s same full = let room = same.room_b in omega (arith, room, full)
-full_at B l s same full = let room = same.room_a in omega (arith, room, full)
+full_at e l s same full = grind arith
 
 answer_table : (e : End) (answer : NetAnswer) (s : NetLaneState) (l : PortLog) → SameSizes s l → (answer ≡ Idle → IsUp e l.wire.wire) → CoreStands l.shape.entries l.wire (core_event (Steps e answer))
     → OfWire (WireTableAt (sizes_in l) l.wire) (OnLane (Steps e answer))
-answer_table e Blocked s l same idle stands = (stands.0, full_at e l s same stands.1)
-answer_table e Idle s l same idle stands = idle refl
-answer_table e (Published id) s l same idle stands = tt
-answer_table e (Frame frame) s l same idle stands = tt
-answer_table e _ s l same idle stands = stands
+answer_table e answer s l same idle stands = grind (arith, full_at)
 
 idle_up : (e : End) (u t : NetLaneState) (l : PortLog) (answer : NetAnswer) → u.wire ≡ l.wire → NetLaneStep u (Steps e answer) t → answer ≡ Idle → IsUp e l.wire.wire
-idle_up e u t l answer wire step is =
-    let idle : NetLaneStep u (Steps e Idle) t = subst (λ (x : NetAnswer). NetLaneStep u (Steps e x) t) is step in
-    let says = says_of (role_at e) (net_end e u) (seen_at e u) Idles idle.step.0 in
-    subst (λ (w : WireLog). IsUp e w.wire) wire
-    (seen_up e u ∙ up_state (seen_at e u).state says.0.up)
+idle_up e u t l answer wire step is = grind (arith, says_of, seen_up, up_state)
 
 on_log : (e : End) (s : NetLaneState) (l : PortLog) → SameSizes s l → (P : Sizes → Wire → Type 0) → P (sizes_of e s) s.wire.wire → P (sizes_in l) l.wire.wire
 on_log e s l same P holds = subst (λ (n : Sizes). P n l.wire.wire) (sizes_are s l same e) (subst (λ (w : WireLog). P (sizes_of e s) w.wire) same.wire holds)
@@ -92,14 +80,7 @@ on_log e s l same P holds = subst (λ (n : Sizes). P n l.wire.wire) (sizes_are s
 -- THE TABLE
 table_event : (s : PortState) (l : PortLog) (event : NetEvent) (t : NetLaneState) → SameSizes s.lane l → CoreStands l.shape.entries l.wire (core_event event)
     → NetLaneStep (before event s).lane event t → OfWire (WireTableAt (sizes_in l) l.wire) (OnLane event)
-table_event s l (Steps e answer) t same stands step =
-    answer_table e answer s.lane l same (idle_up e (before (Steps e answer) s).lane t l answer (before_wire (Steps e answer) s ∙ same.wire) step) stands
-table_event s l (Asked e lost) t same stands step = refl
-table_event s l (Ticked queued lost) t same stands step = refl
-table_event s l (Loses e packet) t same stands step = stands
-table_event s l (Injects e packet) t same stands step = stands
-table_event s l (Pokes e at bytes) t same stands step = on_log e s.lane l same (λ n w. at + length bytes ≤ n.memory) step.0
-table_event s l _ t same stands step = tt
+table_event s l event t same stands step = grind (arith, answer_table, idle_up, before_wire, on_log)
 
 pub port_table : (shape : NetShape) (events : List PortEvent) (s : PortState) → IsNetShape shape → Run PortStep (fresh_port shape) events s
     → Lawful (λ (l : PortLog) (event : PortEvent). OfWire (WireTableAt (sizes_in l) l.wire) event) after (no_events shape) events
@@ -119,10 +100,7 @@ port_table shape events s is run = lawful_along shape (λ (l : PortLog) (event :
 -- THE ANSWERS
 answers_event : (s : PortState) (l : PortLog) (event : NetEvent) (t : NetLaneState) → SameSizes s.lane l → NetLaneStep (before event s).lane event t
     → OfWire (WireAnswersAt (sizes_in l) l.wire) (OnLane event)
-answers_event s l (Declines d) t same step =
-    subst (λ (n : Sizes). DeclinesAt n l.wire d) (sizes_are s.lane l same (declined_at d)) (subst (λ (w : WireLog). DeclinesAt (sizes_of (declined_at d) s.lane) w d) same.wire step.0)
-answers_event s l (Steps e (Joined lost)) t same step = tt
-answers_event s l _ t same step = tt
+answers_event s l event t same step = grind (arith, sizes_are)
 
 pub port_answers : (shape : NetShape) (events : List PortEvent) (s : PortState) → IsNetShape shape → Run PortStep (fresh_port shape) events s
     → Lawful (λ (l : PortLog) (event : PortEvent). OfWire (WireAnswersAt (sizes_in l) l.wire) event) after (no_events shape) events

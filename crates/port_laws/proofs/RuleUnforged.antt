@@ -1,6 +1,6 @@
 -- Where nobody forged, a frame that an end takes is one that the other end published in the last session of the same sid.
-use Rattle.std.proofs.Common.{◌≡◌, ℕ, ◌+◌, ◌-◌, ◌<◌, ◌≤◌, Bool, true, false, Option, Some, None, List, [], ◌∷◌, refl, sym, ap, ◌∙◌, subst, arith}
-use Rattle.std.specs.Prelude.{◌==◌, ◌%◌, if◌then◌else◌, is_some, slice_get}
+use Rattle.std.proofs.Common.{◌≡◌, ℕ, ◌+◌, ◌-◌, ◌<◌, ◌≤◌, true, Option, Some, List, [], ◌∷◌, refl, sym, ap, ◌∙◌, subst, arith}
+use Rattle.std.specs.Prelude.{◌%◌, is_some, slice_get}
 use Rattle.std.proofs.lemmas.Bool.{eq-eqb}
 use Rattle.ldc_link.specs.declared.phase.Role.{Role}
 use Rattle.ldc_queue.specs.declared.end.ChannelState.{ChannelState}
@@ -47,11 +47,7 @@ use Rattle.port_laws.proofs.RuleTwoIdle.{some_session}
 
 -- IN THE LOG of the end that published it
 last_is : (one : OpenedLog) (rest : List OpenedLog) (sid : ℕ) → one.sid ≡ sid → last_of sid (one ∷ rest) ≡ Some one
-last_is one rest sid same = by_test (one.sid == sid) (eq-eqb one.sid sid same)
-  where
-    by_test : (b : Bool) → b ≡ true → (if b then Some one else last_of sid rest) ≡ Some one
-    by_test true is = refl
-    by_test false is = true_false (sym is)
+last_is one rest sid same = grind (arith, eq-eqb, true_false)
 
 pub published_is : (role : Role) (slots : ℕ) (queue : List (List ℕ)) (s : NetEndState) (l : EndLog) (p : NetSession) (v : SessionLog) (frame : List ℕ) → EndCounts role slots queue s l
     → EndLogStands l → s.session ≡ Some p → ((w : SessionLog) → l.session ≡ Some w → w.sid ≡ v.sid) → p.seen ≤ v.taken → v.taken < p.published
@@ -82,14 +78,7 @@ published_is role slots queue s l p v frame counts logs is same first below next
 -- ONE SID
 sids_of : (shape : NetShape) (e : End) (u : PortState) (l : PortLog) (v w : SessionLog) → Finds shape u l → IsUp B u.lane.wire.wire → (log_of_end e l).session ≡ Some v
     → (log_of_end (peer_of e) l).session ≡ Some w → w.sid ≡ v.sid
-sids_of shape A u l v w finds up mine theirs =
-    let front = finds.talks.front up in
-    sym (same_sid l.transcript.client l.transcript.server v w front.0 front.1 (spoke_some _ l.transcript.client l.guest.session v mine finds.rings.guest_spoke)
-    (spoke_some _ l.transcript.server l.hub.session w theirs finds.rings.hub_spoke))
-sids_of shape B u l v w finds up mine theirs =
-    let front = finds.talks.front up in
-    same_sid l.transcript.client l.transcript.server w v front.0 front.1 (spoke_some _ l.transcript.client l.guest.session w theirs finds.rings.guest_spoke)
-    (spoke_some _ l.transcript.server l.hub.session v mine finds.rings.hub_spoke)
+sids_of shape e u l v w finds up mine theirs = grind (arith, same_sid, spoke_some)
 
 hub_up : (e : End) (u : NetLaneState) → state_of e u.wire.wire ≡ Up → state_of (peer_of e) u.wire.wire ≡ Up → IsUp B u.wire.wire
 hub_up A u mine theirs = theirs
@@ -107,24 +96,19 @@ pub record TakesPublished (shape : NetShape) (e : End) (u : PortState) (l : Port
   pub found : FetchesFrame shape.slots p.seen v.taken p.published (net_end (peer_of e) u.lane).frames frame (memory_of (peer_of e) u.lane) new
 
 in_some : (log : Option SessionLog) (P : SessionLog → Type 0) → InSession log P → (v : SessionLog) × (log ≡ Some v) × P v
-in_some None P holds = absurd holds
-in_some (Some v) P holds = (v, refl, holds)
+in_some log P holds = grind arith
 
 core_peer : (e : End) (u : NetLaneState) → PeerOpen e (lane_core u) → is_some (net_end (peer_of e) u).session ≡ true
-core_peer A u there = there.opened
-core_peer B u there = there.opened
+core_peer e u there = grind arith
 
 peer_is_up : (e : End) (u : NetLaneState) → PeerOpen e (lane_core u) → state_of (peer_of e) u.wire.wire ≡ Up
-peer_is_up A u there = there.up
-peer_is_up B u there = there.up
+peer_is_up e u there = grind arith
 
 core_up : (e : End) (u : NetLaneState) → state_of e u.wire.wire ≡ Up → IsUp e (lane_core u).wire.wire
-core_up A u up = up
-core_up B u up = up
+core_up e u up = grind arith
 
 pub reach_memory : (e : End) (u : NetLaneState) → (reach_of e u).memory ≡ memory_of (peer_of e) u
-reach_memory A u = refl
-reach_memory B u = refl
+reach_memory e u = grind arith
 
 pub takes_published : (shape : NetShape) (e : End) (u : PortState) (l : PortLog) (frame : List ℕ) (t : NetLaneState) → Finds shape u l → (step : EndSteps e u.lane (Frame frame) t)
     → TakesPublished shape e u l frame step.step.new
@@ -177,8 +161,7 @@ takes_published shape e u l frame t finds step =
     }
 
 logs_of : (e : End) (shape : NetShape) (u : PortState) (l : PortLog) → Finds shape u l → EndLogStands (log_of_end e l)
-logs_of A shape u l finds = finds.logs.guest
-logs_of B shape u l finds = finds.logs.hub
+logs_of e shape u l finds = grind arith
 
 frame_published : (shape : NetShape) (e : End) (u : PortState) (l : PortLog) (frame : List ℕ) (t : NetLaneState) → Finds shape u l → EndSteps e u.lane (Frame frame) t
     → InSession (log_of_end e l).session (IsPublished (log_of_end (peer_of e) l) frame)

@@ -1,6 +1,6 @@
 -- What an end's log says of its open session, by what the end said and heard: its sid is that of the sixth message that the initiator says, and
 -- a frame is taken only once a message of the session was heard.
-use Rattle.std.proofs.Common.{◌≡◌, ℕ, zero, suc, ◌+◌, ◌≤◌, Bool, true, false, Option, Some, None, List, [], ◌∷◌, ◌++◌, length, refl, sym, ap, ◌∙◌, subst, arith, length-append}
+use Rattle.std.proofs.Common.{◌≡◌, ℕ, zero, suc, ◌+◌, ◌≤◌, Bool, Option, Some, None, List, [], ◌∷◌, ◌++◌, length, refl, sym, ap, ◌∙◌, subst, arith, length-append}
 use Rattle.std.specs.Prelude.{◌&&◌, slice_get, ⊤}
 use Rattle.ldc_link.specs.declared.phase.Role.{Role}
 use Rattle.ldc_link.specs.declared.phase.Role.TheVariants.{Initiator, Responder}
@@ -10,7 +10,7 @@ use Rattle.channel_model.specs.Messages.{ended_by, opening_sid, sid_in, sid_of, 
 use Rattle.channel_model.specs.Sayings.{half_heard, half_said, heard, said, whole_by, whole_past}
 use Rattle.port_model.proofs.Refuting.{none_some}
 use Rattle.port_model.specs.EndLog.{SessionLog, heard_in, heard_kind, opened_log, said_in, said_kind}
-use Rattle.port_model.specs.Spoken.{GroupsInfo, GroupsNack, Other, RangeInfo, Spoken, spoken}
+use Rattle.port_model.specs.Spoken.{GroupsNack, Other, RangeInfo, Spoken}
 use Rattle.port_laws.proofs.PeerOpens.{row}
 
 -- A SESSION of the log
@@ -34,12 +34,10 @@ Grown None before now = now ≡ before
 Grown (Some message) before now = now ≡ before ++ message ∷ []
 
 grown_by : (stop : Bool) (message : List ℕ) (messages : List (List ℕ)) → Grown (whole_with stop message) messages (whole_by stop message messages)
-grown_by true message messages = refl
-grown_by false message messages = refl
+grown_by stop message messages = grind arith
 
 grown : (b : Bool) (part : Fragment) (half : List ℕ) (messages : List (List ℕ)) → Grown (whole_with (b && part.stop) (half ++ part.bytes)) messages (whole_past b part half messages)
-grown true part half messages = grown_by part.stop (half ++ part.bytes) messages
-grown false part half messages = refl
+grown b part half messages = grind (arith, grown_by)
 
 pub heard_grown : (turns : List Turn) (packet : List ℕ) → Grown (ended_by (half_heard turns) packet) (heard turns) (heard (Heard packet ∷ turns))
 heard_grown turns packet = grown (is_part packet) (fragment_at packet) (half_heard turns) (heard turns)
@@ -48,8 +46,7 @@ pub said_grown : (turns : List Turn) (packet : List ℕ) → Grown (ended_by (ha
 said_grown turns packet = grown (is_part packet) (fragment_at packet) (half_said turns) (said turns)
 
 pub grown_most : (o : Option (List ℕ)) (before now : List (List ℕ)) → Grown o before now → length now ≤ length before + 1
-grown_most None before now is = omega (arith, ap length is)
-grown_most (Some message) before now is = omega (arith, ap length is, length-append before (message ∷ []))
+grown_most o before now is = grind (arith, length-append)
 
 pub get_more : (messages more : List (List ℕ)) (n : ℕ) (message : List ℕ) → slice_get messages n ≡ Some message → slice_get (messages ++ more) n ≡ Some message
 get_more [] more n message get = none_some message get
@@ -63,8 +60,7 @@ get_last (one ∷ messages) zero message is = absurd (omega (arith, is))
 get_last (one ∷ messages) (suc n) message is = get_last messages n message (omega (arith, is))
 
 grown_get : (o : Option (List ℕ)) (before now : List (List ℕ)) (n : ℕ) (message : List ℕ) → Grown o before now → slice_get before n ≡ Some message → slice_get now n ≡ Some message
-grown_get None before now n message is get = ap (λ (xs : List (List ℕ)). slice_get xs n) is ∙ get
-grown_get (Some more) before now n message is get = ap (λ (xs : List (List ℕ)). slice_get xs n) is ∙ get_more before (more ∷ []) n message get
+grown_get o before now n message is get = grind (arith, get_more)
 
 -- of the row that the initiator says
 took_row : Role → Option (List ℕ) → Option (List ℕ)
@@ -77,13 +73,11 @@ sent_row Responder ended = None
 
 took_grown : (role : Role) (turns : List Turn) (packet : List ℕ) → Grown (took_row role (ended_by (half_heard turns) packet)) (row role turns) (row role (Heard packet ∷ turns))
 unfolding took_row
-took_grown Initiator turns packet = refl
-took_grown Responder turns packet = heard_grown turns packet
+took_grown role turns packet = grind (arith, heard_grown)
 
 sent_grown : (role : Role) (turns : List Turn) (packet : List ℕ) → Grown (sent_row role (ended_by (half_said turns) packet)) (row role turns) (row role (Said packet ∷ turns))
 unfolding sent_row
-sent_grown Initiator turns packet = said_grown turns packet
-sent_grown Responder turns packet = refl
+sent_grown role turns packet = grind (arith, said_grown)
 
 took_some : (role : Role) (ended : Option (List ℕ)) (message : List ℕ) → took_row role ended ≡ Some message → ended ≡ Some message
 unfolding took_row
@@ -92,8 +86,7 @@ took_some Responder ended message is = is
 
 sent_some : (role : Role) (ended : Option (List ℕ)) (message : List ℕ) → sent_row role ended ≡ Some message → ended ≡ Some message
 unfolding sent_row
-sent_some Initiator ended message is = is
-sent_some Responder ended message is = none_some message is
+sent_some role ended message is = grind (arith, none_some)
 
 -- IT OPENS by the sixth message of the row
 record Sixth (o : Option (List ℕ)) (now : List (List ℕ)) : Type 0 where
@@ -102,20 +95,11 @@ record Sixth (o : Option (List ℕ)) (now : List (List ℕ)) : Type 0 where
   sixth : slice_get now 5 ≡ Some message
 
 sixth_of : (o : Option (List ℕ)) (before now : List (List ℕ)) → Grown o before now → length before ≤ 5 → 6 ≤ length now → Sixth o now
-sixth_of None before now is few many = absurd (omega (arith, ap length is, few, many))
-sixth_of (Some message) before now is few many =
-    let five : length before ≡ 5 = omega (arith, ap length is, length-append before (message ∷ []), few, many) in
-    record { message = message; is = refl; sixth = ap (λ (xs : List (List ℕ)). slice_get xs 5) is ∙ get_last before 5 message five }
+sixth_of o before now is few many = grind (arith, length-append, get_last)
 
 opened_spoke : (role : Role) (now : List Turn) (ended : Option (List ℕ)) (message : List ℕ) → ended ≡ Some message → slice_get (row role now) 5 ≡ Some message
     → Spoke role now (opened_log (sid_in ended))
-opened_spoke role now ended message is sixth = record {
-  message = message;
-  sixth = sixth;
-  sid = ap sid_in is;
-  quiet = λ none. refl;
-  many = λ some. absurd (omega (arith, some));
-}
+opened_spoke role now ended message is sixth = grind arith
 
 pub took_opens : (role : Role) (turns : List Turn) (packet : List ℕ) → length (row role turns) ≤ 5 → 6 ≤ length (row role (Heard packet ∷ turns))
     → Spoke role (Heard packet ∷ turns) (opened_log (opening_sid (half_heard turns) packet))
@@ -148,12 +132,10 @@ same_spoke role turns now o v w spoke grows more same = record {
 }
 
 said_same : (k : Spoken) (message : List ℕ) (v : SessionLog) → SameTaking v (said_kind k message v)
-said_same GroupsInfo message v = record { sid = refl; asked = refl; taken = refl }
-said_same _ message v = record { sid = refl; asked = refl; taken = refl }
+said_same k message v = grind arith
 
 said_taking : (ended : Option (List ℕ)) (v : SessionLog) → SameTaking v (said_in ended v)
-said_taking None v = record { sid = refl; asked = refl; taken = refl }
-said_taking (Some message) v = said_same (spoken message) message v
+said_taking ended v = grind (arith, said_same)
 
 pub sent_spoke : (role : Role) (turns : List Turn) (packet : List ℕ) (v : SessionLog) → Spoke role turns v → Spoke role (Said packet ∷ turns) (said_in (ended_by (half_said turns) packet) v)
 sent_spoke role turns packet v spoke =
@@ -179,8 +161,7 @@ kind_spoke k role slots turns now o message v spoke grows is six =
 
 ended_spoke : (ended : Option (List ℕ)) (role : Role) (slots : ℕ) (turns now : List Turn) (o : Option (List ℕ)) (v : SessionLog) → Spoke role turns v → Grown o (row role turns) (row role now)
     → Grown ended (heard turns) (heard now) → 6 ≤ length (heard turns) → Spoke role now (heard_in slots ended v)
-ended_spoke None role slots turns now o v spoke grows is six = same_spoke role turns now o v v spoke grows (omega (arith, ap length is)) (record { sid = refl; asked = refl; taken = refl })
-ended_spoke (Some message) role slots turns now o v spoke grows is six = kind_spoke (spoken message) role slots turns now o message v spoke grows is six
+ended_spoke ended role slots turns now o v spoke grows is six = grind (arith, same_spoke, kind_spoke)
 
 pub took_spoke : (role : Role) (slots : ℕ) (turns : List Turn) (packet : List ℕ) (v : SessionLog) → Spoke role turns v → 6 ≤ length (heard turns)
     → Spoke role (Heard packet ∷ turns) (heard_in slots (ended_by (half_heard turns) packet) v)
@@ -193,13 +174,8 @@ pub published_spoke : (role : Role) (turns : List Turn) (v : SessionLog) → Spo
 published_spoke role turns v spoke = record { message = spoke.message; sixth = spoke.sixth; sid = spoke.sid; quiet = spoke.quiet; many = spoke.many }
 
 pub frame_spoke : (role : Role) (turns : List Turn) (v : SessionLog) → v.asked ≡ v.acks + 1 → Spoke role turns v → Spoke role turns (record v { taken = v.taken + 1 })
-frame_spoke role turns v active spoke =
-    record { message = spoke.message; sixth = spoke.sixth; sid = spoke.sid; quiet = λ none. absurd (omega (arith, none, active)); many = spoke.many }
+frame_spoke role turns v active spoke = grind arith
 
 -- ONE SID of both, where one heard a front of what the other said
 pub same_sid : (asks answers : List Turn) (v w : SessionLog) (more : List (List ℕ)) → said asks ≡ heard answers ++ more → Spoke Initiator asks v → Spoke Responder answers w → v.sid ≡ w.sid
-same_sid asks answers v w more front one other =
-    let both : Some one.message ≡ Some other.message =
-    sym one.sixth ∙ ap (λ (xs : List (List ℕ)). slice_get xs 5) front ∙ get_more (heard answers) more 5 other.message other.sixth in
-    let same : one.message ≡ other.message = cc both in
-    one.sid ∙ ap sid_of same ∙ sym other.sid
+same_sid asks answers v w more front one other = grind (arith, get_more)

@@ -1,12 +1,11 @@
 -- A message of a port's session has at most 56 bytes.
-use Rattle.std.proofs.Common.{◌≡◌, ℕ, zero, suc, ◌+◌, ◌*◌, ◌≤◌, List, [], ◌∷◌, ◌++◌, length, replicate, drop, refl, ap, arith}
+use Rattle.std.proofs.Common.{◌≡◌, ℕ, zero, suc, ◌+◌, ◌*◌, ◌≤◌, List, [], ◌∷◌, ◌++◌, length, replicate, drop, refl, arith}
 use Rattle.std.specs.List.{flat_map}
 use Rattle.std.proofs.lemmas.List.{length-append, length-take}
 use Rattle.vio_tag.proofs.Canonical.{length_canonical}
 use Rattle.vio_tag.specs.declared.message.Message.{Message}
-use Rattle.vio_tag.specs.declared.message.MsgBody.{MsgBody}
 use Rattle.vio_tag.specs.declared.message.MsgBody.TheVariants.{Mcast}
-use Rattle.vio_tag.specs.Spelling.{addresses_at, body_bytes, canonical}
+use Rattle.vio_tag.specs.Spelling.{addresses_at, canonical}
 use Rattle.port_model.specs.Groups.{membership, seven}
 use Rattle.port_model.specs.NetEndPutting.{announcement, answer, groups_answer}
 use Rattle.port_model.specs.NetEndState.{Activity, GroupsReply, NetEndState, NetSession}
@@ -43,15 +42,11 @@ read_long (suc n) at bytes = let rest = read_long n (at + 6) bytes in omega arit
 
 groups_long : (set count : ℕ) (addresses : List (List ℕ)) → length addresses ≤ 7 → AreShort addresses
     → length (joined addresses ++ replicate 4 0) ≤ 46
-groups_long set count addresses few short =
-    let long = joined_long addresses short in
-    omega (arith, length-append (joined addresses) (replicate 4 0))
+groups_long set count addresses few short = grind (arith, joined_long, length-append)
 
 pub groups_short : (sid set count : ℕ) (addresses : List (List ℕ)) (message : Message) → length addresses ≤ 7 → AreShort addresses
     → message.body ≡ Mcast set count addresses → length (canonical message) ≤ 56
-groups_short sid set count addresses message few short is =
-    let long : length (body_bytes message.body) ≡ length (body_bytes (Mcast set count addresses)) = ap (λ (x : MsgBody). length (body_bytes x)) is in
-    omega (arith, long, length_canonical message, groups_long set count addresses few short)
+groups_short sid set count addresses message few short is = grind (arith, length_canonical, groups_long)
 
 pub membership_short : (sid : ℕ) (groups : List (List ℕ)) → AreShort groups → length (canonical (membership sid groups)) ≤ 56
 membership_short sid groups short =

@@ -1,6 +1,6 @@
 -- What an end finds in a slot of the peer's ring, whatever stands there: a frame has 14 to 1,514 bytes, and what refuses the slot is its state, its
 -- descriptor or a copy.
-use Rattle.std.proofs.Common.{◌≡◌, ◌≢◌, ℕ, ◌+◌, ◌*◌, ◌<◌, ◌≤◌, Bool, true, false, ◌⊎◌, inl, inr, Option, Some, None, List, length, refl, sym, subst, ap, ◌∙◌, arith}
+use Rattle.std.proofs.Common.{◌≡◌, ◌≢◌, ℕ, ◌+◌, ◌*◌, ◌<◌, ◌≤◌, Bool, true, false, ◌⊎◌, Option, Some, None, List, length, refl, sym, ap, ◌∙◌, arith}
 use Rattle.std.specs.Prelude.{◌==◌, ◌%◌, ◌&&◌, nat_le, not, slice_index, if◌then◌else◌}
 use Rattle.std.proofs.lemmas.Bool.{leb-false, leb-true}
 use Rattle.std.proofs.lemmas.List.{length-map}
@@ -29,8 +29,7 @@ use Rattle.port_model.specs.NetEndStep.{FetchFails}
 -- A COPY that isn't refused moves as many bytes as it is asked for
 past_first : (up aligned holds : Bool) (rest : Option CopyFault)
     → (if not up then Some fault.Channel else if not aligned then Some fault.BadAlign else if not holds then Some fault.Short else rest) ≡ None → holds ≡ true
-past_first true true true rest is = refl
-past_first _ _ _ rest is = absurd (cc is)
+past_first up aligned holds rest is = grind arith
 
 copied_long : (reach : Reach) (cookies : List Cookie) (n : ℕ) → first_copy_fault reach.both Read reach.table cookies 0 n ≡ None → length (moved_in reach.table reach.memory cookies 0 n) ≡ n
 copied_long reach cookies n none =
@@ -46,28 +45,19 @@ Fits (NotReady state) = state ≢ 2
 Fits (Refuses why) = (slots : ℕ) (s : SessionLog) → SlotCause slots why s
 
 copy_fits : (why : CopyFault) → Fits (copy_refused why)
-copy_fits fault.BadAlign = λ slots s. (omega arith, omega arith)
-copy_fits _ = λ slots s. (omega arith, omega arith)
+copy_fits why = grind arith
 
 marked_fits : (s : NetEndState) (reach : Reach) (slot : ℕ) (desc : NetDesc) (frame : List ℕ) (why : Option CopyFault) → IsFrame frame → Fits (marked s reach slot desc frame why)
-marked_fits s reach slot desc frame None is = is
-marked_fits s reach slot desc frame (Some why) is = copy_fits why
+marked_fits s reach slot desc frame why is = grind (arith, copy_fits)
 
 abbrev holds_size : ℕ → Bool
 holds_size size = nat_le 14 size && nat_le size 1514
 
 sized : (size : ℕ) → holds_size size ≡ true → (14 ≤ size) × (size ≤ 1514)
-sized size is = by_tests (nat_le 14 size) (nat_le size 1514) refl refl is
-  where
-    by_tests : (a b : Bool) → nat_le 14 size ≡ a → nat_le size 1514 ≡ b → (a && b) ≡ true → (14 ≤ size) × (size ≤ 1514)
-    by_tests true true one two is = (leb-true 14 size one, leb-true size 1514 two)
-    by_tests false b one two is = absurd (cc is)
-    by_tests true false one two is = absurd (cc is)
+sized size is = grind (arith, leb-true)
 
 first_two : (a b c d : Bool) → (a && b && c && d) ≡ true → (a && b) ≡ true
-first_two true true c d is = refl
-first_two false b c d is = absurd (cc is)
-first_two true false c d is = absurd (cc is)
+first_two a b c d is = grind arith
 
 frame_long : (size : ℕ) (buffer : List ℕ) → holds_size size ≡ true → length buffer ≡ moved_size size → IsFrame (frame_in size buffer)
 frame_long size buffer fits long =
@@ -85,15 +75,10 @@ copied_fits s reach slot desc (Some why) holds is = copy_fits why
 
 not_frame : (size count : ℕ) (a b c d : Bool) → nat_le 14 size ≡ a → nat_le size 1514 ≡ b → nat_le 1 count ≡ c → nat_le count 3 ≡ d → (a && b && c && d) ≡ false
     → (size < 14) ⊎ ((1514 < size) ⊎ ((count < 1) ⊎ (3 < count)))
-not_frame size count false b c d one two three four is = inl (leb-false 14 size one)
-not_frame size count true false c d one two three four is = inr (inl (leb-false size 1514 two))
-not_frame size count true true false d one two three four is = inr (inr (inl (leb-false 1 count three)))
-not_frame size count true true true false one two three four is = inr (inr (inr (leb-false count 3 four)))
-not_frame size count true true true true one two three four is = true_false is
+not_frame size count a b c d one two three four is = grind (arith, leb-false, true_false)
 
 fits_if : (b : Bool) (one other : Fetched) → (b ≡ true → Fits one) → (b ≡ false → Fits other) → Fits (if b then one else other)
-fits_if true one other yes_ no_ = yes_ refl
-fits_if false one other yes_ no_ = no_ refl
+fits_if b one other yes_ no_ = grind arith
 
 described_fits : (s : NetEndState) (reach : Reach) (slot : ℕ) (desc : NetDesc) → Fits (described s reach slot desc)
 described_fits s reach slot desc =
@@ -117,6 +102,4 @@ fetched_fits s reach slot = slot_fits s reach slot (first_copy_fault reach.both 
 -- a slot that refuses is the next, and where it isn't READY none was taken before it
 pub fails_fit : (found : Fetched) (activity : Activity) (slot : ℕ) (cause : Cause) (slots : ℕ) (s : SessionLog) → Fits found → FetchFails found activity slot cause → slot ≡ s.taken % slots
     → (activity.last ≡ None → s.taken ≡ s.answered) → SlotCause slots cause s
-fails_fit (IsFetched frame new) activity slot cause slots s fits fails next none = absurd fails
-fails_fit (NotReady state) activity slot cause slots s fits fails next none = subst (λ (c : Cause). SlotCause slots c s) (sym fails.1) (next, none fails.0, fits)
-fails_fit (Refuses why) activity slot cause slots s fits fails next none = subst (λ (c : Cause). SlotCause slots c s) (sym fails) (fits slots s)
+fails_fit found activity slot cause slots s given fails next none = grind arith

@@ -1,14 +1,12 @@
 -- A step of an end is counted by its log as the end counts it, and stands where its laws let it.
-use Rattle.std.proofs.Common.{◌≡◌, ℕ, ◌+◌, ◌-◌, ◌<◌, ◌≤◌, Bool, true, Option, Some, None, List, [], length, refl, sym, subst, ap, ◌∙◌, arith}
+use Rattle.std.proofs.Common.{◌≡◌, ℕ, ◌+◌, ◌-◌, ◌<◌, ◌≤◌, Bool, true, Option, Some, List, [], length, refl, sym, subst, ap, ◌∙◌, arith}
 use Rattle.std.specs.Prelude.{◌%◌}
 use Rattle.std.proofs.Math.Nat.{mod-add-mod}
 use Rattle.ldc_link.specs.Calls.{Puts as PutsPacket}
 use Rattle.ldc_link.specs.declared.phase.Role.{Role}
-use Rattle.ldc_link.specs.declared.phase.Role.TheVariants.{Initiator, Responder}
 use Rattle.ldc_link.specs.Putting.{behind_put}
 use Rattle.ldc_queue.specs.Transcript.{Turn}
 use Rattle.vio_handshake.specs.declared.handshake.Phase.{Phase}
-use Rattle.vio_handshake.specs.declared.handshake.Phase.TheVariants.{Open}
 use Rattle.channel_model.specs.Messages.{ended_by, opening_sid}
 use Rattle.channel_model.specs.Sayings.{half_heard, half_said}
 use Rattle.channel_model.specs.Seeing.{Seen}
@@ -23,7 +21,7 @@ use Rattle.channel_laws.specs.Standing.{EndStands, is_open_in}
 use Rattle.vio_handshake.specs.declared.handshake.Handshake.{Handshake}
 use Rattle.port_model.proofs.Refuting.{false_true}
 use Rattle.port_model.proofs.Ruling.{says_of}
-use Rattle.port_model.specs.EndLog.{EndLog, SessionLog, change, ends_log, more_published, more_taken, publishes_log, takes_log}
+use Rattle.port_model.specs.EndLog.{EndLog, SessionLog, ends_log, publishes_log, takes_log}
 use Rattle.port_model.specs.FramesStand.{CountsStand, FramesStand}
 use Rattle.port_model.specs.NetEndPutting.{net_opens, net_put}
 use Rattle.port_model.specs.NetEndRule.{Fetches, Publishes, Takes, port_rule}
@@ -31,10 +29,10 @@ use Rattle.port_model.specs.NetEndState.{Activity, NetEndState, NetSession, join
 use Rattle.port_model.specs.NetEndStep.{Blocked, Frame, Idle, Joined, NetAnswer, NetEndStep, NetLeft, NetSends, Published, Reset, Sent, Took, published, taken}
 use Rattle.port_model.specs.PortLog.{after_answer}
 use Rattle.port_model.specs.RuleFacts.{IfOpen}
-use Rattle.port_laws.specs.Counted.{ActiveCounts, Counts, EndCounts, GuestGroups, LastCounts, NoneTold, SessionCounts, unsaid}
+use Rattle.port_laws.specs.Counted.{EndCounts, GuestGroups, LastCounts, NoneTold}
 use Rattle.port_laws.specs.NetCore.{net_core}
 use Rattle.port_laws.specs.NetFits.{NetFits}
-use Rattle.port_laws.proofs.EndCounting.{OpenCounts, ShutCounts, empty_unsaid, frames_leave, gone_within, guest_same, open_counts, shut_counts, open_empty}
+use Rattle.port_laws.proofs.EndCounting.{empty_unsaid, frames_leave, gone_within, guest_same, open_counts, shut_counts, open_empty}
 use Rattle.port_laws.proofs.EndMoves.{HeldCore, held_core, puts_behind, says_core, waits_core}
 use Rattle.channel_laws.proofs.HandshakeFitting.{same_fits}
 use Rattle.channel_laws.specs.HandshakeFits.{HandshakeFits, takes_ring}
@@ -60,36 +58,18 @@ counts_stand s p stands is = subst (λ (x : Option NetSession). IfOpen x (Counts
 
 -- IT BEGINS ANEW, and frames that are published and not acknowledged are lost
 kept : (role : Role) (s : NetEndState) → GuestGroups role s.groups → GuestGroups role (joined_net_end role s).groups
-kept Initiator s groups = groups
-kept Responder s groups = groups
+kept role s groups = grind arith
 
 none_kept : (role : Role) (groups : List (List ℕ)) → NoneTold role (kept_groups role groups)
-none_kept Initiator groups = tt
-none_kept Responder groups = refl
+none_kept role groups = grind arith
 
 lost_all : (role : Role) (slots : ℕ) (queue : List (List ℕ)) (s : NetEndState) (l : EndLog) → EndCounts role slots queue s l → FramesStand s → (session : Option NetSession) → s.session ≡ session
     → (l.published ≡ l.gone + unseen session) × (unseen session ≤ length s.frames)
-lost_all role slots queue s l counts stands None is =
-    let gone : ShutCounts role s.groups l.published l.gone l.session = shut_counts role slots queue s l counts is in (omega (arith, gone.gone_all), omega arith)
-lost_all role slots queue s l counts stands (Some p) is =
-    let here : OpenCounts role slots s.groups l.published l.gone (unsaid s) s.link.begun p l.session = open_counts role slots queue s l p counts is in
-    let stood : CountsStand s p = counts_stand s p stands is in
-    (omega (arith, here.counts.ring.all, here.counts.ring.left, stood.seen), stood.held)
+lost_all role slots queue s l counts stands session is = grind (arith, shut_counts, open_counts, counts_stand)
 
 pub begins_counts : (role : Role) (slots : ℕ) (queue : List (List ℕ)) (s : NetEndState) (l : EndLog) (lost : ℕ) → EndCounts role slots queue s l → FramesStand s → lost ≡ unseen s.session
     → EndCounts role slots queue (joined_net_end role s) (ends_log lost l)
-begins_counts role slots queue s l lost counts stands is =
-    let lost_here = lost_all role slots queue s l counts stands s.session refl in
-    let there : EndCounts role slots queue (joined_net_end role s) (ends_log (unseen s.session) l) =
-    record {
-      slots_is = counts.slots_is;
-      frames = frames_leave (unseen s.session) s.frames queue l.given l.gone lost_here.1 counts.frames;
-      gone = gone_within (unseen s.session) s.frames queue l.given l.gone lost_here.1 counts.gone counts.frames;
-      ids = counts.ids;
-      groups = kept role s counts.groups;
-      session = (lost_here.0, none_kept role s.groups);
-    } in
-    subst (λ (n : ℕ). EndCounts role slots queue (joined_net_end role s) (ends_log n l)) (sym is) there
+begins_counts role slots queue s l lost counts stands is = grind (arith, lost_all, frames_leave, gone_within, kept, none_kept)
 
 -- IT PUTS
 sent_counts : (role : Role) (slots : ℕ) (queue : List (List ℕ)) (s : NetEndState) (l : EndLog) (turns : List Turn) (at : Seen) (memory : List ℕ) (reach : Reach) (packet : List ℕ) (opens : Bool)
@@ -116,97 +96,29 @@ sent_counts role slots queue s l turns at memory reach packet opens t sid acting
 -- IT PUBLISHES
 published_counts : (role : Role) (slots : ℕ) (queue : List (List ℕ)) (s : NetEndState) (l : EndLog) (p : NetSession) → EndCounts role slots queue s l → s.session ≡ Some p → s.link.to_send ≡ []
     → EndCounts role slots queue (record s { session = Some (published p) }) (publishes_log l)
-published_counts role slots queue s l p counts is empty =
-    let left : unsaid s ≡ None = empty_unsaid s empty in
-    let here : OpenCounts role slots s.groups l.published l.gone None s.link.begun p l.session =
-    open_empty role slots queue s l p counts is empty in
-    let v : SessionLog = here.of_log in
-    let there : SessionCounts role slots s.groups (l.published + 1) l.gone None s.link.begun (published p) (more_published v) =
-    record {
-      right = tt;
-      ring = record {
-        all = omega (arith, here.counts.ring.all);
-        left = here.counts.ring.left;
-        here = ap (λ (n : ℕ). n + 1) here.counts.ring.here;
-        seen = here.counts.ring.seen;
-        infos = here.counts.ring.infos;
-        asking = here.counts.ring.asking;
-      };
-      peer = record { seq = here.counts.peer.seq; place = here.counts.peer.place; active = here.counts.peer.active };
-      guest = guest_same role p (published p) s.groups s.groups v (more_published v) here.counts.guest refl refl refl refl refl refl;
-      reply = here.counts.reply;
-    } in
-    record {
-      slots_is = counts.slots_is;
-      frames = counts.frames;
-      gone = counts.gone;
-      ids = counts.ids;
-      groups = counts.groups;
-      session = subst (λ (x : Option SessionLog). Counts role slots s.groups (l.published + 1) l.gone (unsaid s) s.link.begun (Some (published p)) (change more_published x)) (sym here.is)
-          (subst (λ (x : Option (List ℕ)). SessionCounts role slots s.groups (l.published + 1) l.gone x s.link.begun (published p) (more_published v)) (sym left) there);
-    }
+published_counts role slots queue s l p counts is empty = grind (arith, empty_unsaid, open_empty, guest_same)
 
 -- IT TAKES A FRAME
 last_before : (slots : ℕ) (v : SessionLog) (last : Option ℕ) → LastCounts slots v last → v.answered < v.taken + 1
-last_before slots v None is = omega (arith, is)
-last_before slots v (Some n) is = omega (arith, is.0)
+last_before slots v last is = grind arith
 
 next_place : (place taken slots peer : ℕ) → place ≡ taken % slots → peer ≡ slots → (place + 1) % peer ≡ (taken + 1) % slots
 next_place place taken slots peer is same = ap (λ (n : ℕ). (n + 1) % peer) is ∙ ap (λ (n : ℕ). (taken % slots + 1) % n) same ∙ mod-add-mod taken slots 1
 
 frame_counts : (role : Role) (slots : ℕ) (queue : List (List ℕ)) (s : NetEndState) (l : EndLog) (p : NetSession) (activity : Activity) (frame : List ℕ) → EndCounts role slots queue s l → s.session ≡ Some p
     → p.active ≡ Some activity → s.handshake.draft.peer_slots ≡ slots → s.link.to_send ≡ [] → EndCounts role slots queue (record s { session = Some (taken s p activity); last = frame }) (takes_log l)
-frame_counts role slots queue s l p activity frame counts is active peer empty =
-    let left : unsaid s ≡ None = empty_unsaid s empty in
-    let here : OpenCounts role slots s.groups l.published l.gone None s.link.begun p l.session =
-    open_empty role slots queue s l p counts is empty in
-    let v : SessionLog = here.of_log in
-    let busy : ActiveCounts slots v (Some activity) = subst (ActiveCounts slots v) active here.counts.peer.active in
-    let there : SessionCounts role slots s.groups l.published l.gone None s.link.begun (taken s p activity) (more_taken v) =
-    record {
-      right = tt;
-      ring = record {
-        all = here.counts.ring.all;
-        left = here.counts.ring.left;
-        here = here.counts.ring.here;
-        seen = here.counts.ring.seen;
-        infos = here.counts.ring.infos;
-        asking = here.counts.ring.asking;
-      };
-      peer = record {
-        seq = here.counts.peer.seq;
-        place = next_place p.place v.taken slots s.handshake.draft.peer_slots here.counts.peer.place peer;
-        active = (busy.0, busy.1, (last_before slots v activity.last busy.2, here.counts.peer.place ∙ ap (λ (n : ℕ). n % slots) (less_one v.taken)), busy.3);
-      };
-      guest = guest_same role p (taken s p activity) s.groups s.groups v (more_taken v) here.counts.guest refl refl refl refl refl refl;
-      reply = here.counts.reply;
-    } in
-    record {
-      slots_is = counts.slots_is;
-      frames = counts.frames;
-      gone = counts.gone;
-      ids = counts.ids;
-      groups = counts.groups;
-      session = subst (λ (x : Option SessionLog). Counts role slots s.groups l.published l.gone (unsaid s) s.link.begun (Some (taken s p activity)) (change more_taken x)) (sym here.is)
-          (subst (λ (x : Option (List ℕ)). SessionCounts role slots s.groups l.published l.gone x s.link.begun (taken s p activity) (more_taken v)) (sym left) there);
-    }
-  where
-    less_one : (n : ℕ) → n ≡ n + 1 - 1
-    less_one n = omega arith
+frame_counts role slots queue s l p activity frame counts is active peer empty = grind (arith, empty_unsaid, open_empty, next_place, last_before, guest_same)
 
 -- in session it knows as many slots of the peer's ring as its own has
 named_open : (role : Role) (ph : Phase) → is_open_in ph ≡ true → has_named role ph ≡ true
-named_open role Open is = refl
-named_open role ph is = false_true is
+named_open role ph is = grind (arith, false_true)
 
 takes_both : (role : Role) → takes_ring role true ≡ true
-takes_both Initiator = refl
-takes_both Responder = refl
+takes_both role = grind arith
 
 pub peer_slots_known : (role : Role) (slots : ℕ) (queue : List (List ℕ)) (s : NetEndState) (l : EndLog) (turns : List Turn) (p : NetSession) → Acting role slots queue s l turns → s.session ≡ Some p
     → s.handshake.draft.peer_slots ≡ slots
-peer_slots_known role slots queue s l turns p acting is =
-    acting.keeps.ring (takes_both role) (named_open role s.handshake.phase (session_open role s turns p acting.ends is)) ∙ acting.counts.slots_is
+peer_slots_known role slots queue s l turns p acting is = grind (arith, takes_both, named_open, session_open)
 
 -- IT IS UP where it puts, and takes what waits
 pub took_here : (role : Role) (slots : ℕ) (queue : List (List ℕ)) (s : NetEndState) (l : EndLog) (turns : List Turn) (at : Seen) (memory : List ℕ) (reach : Reach) (packet : List ℕ) (opens : Bool)

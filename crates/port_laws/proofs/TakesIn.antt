@@ -1,13 +1,13 @@
 -- What an end of a port in session, which nobody forged, notes of the packet that it takes.
-use Rattle.std.proofs.Common.{◌≡◌, ℕ, ◌+◌, ◌*◌, ◌⊎◌, Bool, true, false, Option, Some, None, List, [], ◌∷◌, ◌++◌, length, inl, inr, refl, sym, subst, ap, ◌∙◌, arith}
-use Rattle.std.specs.Prelude.{◌==◌, if◌then◌else◌, Ok, ◌≤◌, zero, suc, drop, take as first_of}
+use Rattle.std.proofs.Common.{◌≡◌, ℕ, ◌+◌, ◌*◌, ◌⊎◌, Bool, true, false, Some, None, List, [], ◌∷◌, ◌++◌, length, inl, inr, refl, sym, subst, ap, ◌∙◌, arith}
+use Rattle.std.specs.Prelude.{◌==◌, if◌then◌else◌, ◌≤◌, zero, suc, drop, take as first_of}
 use Rattle.std.proofs.lemmas.Bool.{eq-eqb}
 use Rattle.std.proofs.lemmas.List.{length-append, length-drop, length-take}
 use Rattle.std.specs.List.{flat_map}
 use Rattle.ldc_link.specs.declared.phase.Role.{Role}
 use Rattle.ldc_link.specs.declared.phase.Role.TheVariants.{Initiator, Responder}
 use Rattle.ldc_packet.specs.declared.packet.Subtype.{Subtype}
-use Rattle.ldc_packet.specs.declared.packet.Subtype.TheVariants.{Ack, Info, Nack}
+use Rattle.ldc_packet.specs.declared.packet.Subtype.TheVariants.{Ack, Info}
 use Rattle.ldc_queue.specs.declared.end.ChannelState.TheVariants.{Up}
 use Rattle.ldc_queue.specs.OneStream.{IsFront}
 use Rattle.ldc_queue.specs.Transcript.{Turn}
@@ -15,9 +15,8 @@ use Rattle.vio_handshake.specs.declared.session.Offer.{Offer}
 use Rattle.vio_handshake.specs.Rules.{is_declined, sid_fault}
 use Rattle.vio_tag.specs.declared.message.Message.{Message}
 use Rattle.vio_tag.specs.declared.message.MsgBody.{MsgBody}
-use Rattle.vio_tag.specs.declared.message.MsgBody.TheVariants.{DringData, Mcast}
+use Rattle.vio_tag.specs.declared.message.MsgBody.TheVariants.{Mcast}
 use Rattle.vio_tag.specs.Spelling.{SpellsBody, SpellsMessage, addresses_at, envelope_at, envelope_code}
-use Rattle.vio_tag.specs.declared.cause.Cause.{Cause}
 use Rattle.vio_tag.specs.declared.cause.Cause.TheVariants as the_cause
 use Rattle.channel_model.specs.Sayings.{heard, said}
 use Rattle.channel_laws.proofs.HandshakePlaces.{IsOwn, deal}
@@ -26,7 +25,7 @@ use Rattle.channel_laws.specs.EndStep.{IsOfSession}
 use Rattle.channel_laws.specs.Sides.{Sides}
 use Rattle.port_model.specs.Groups.{groups_after}
 use Rattle.port_model.specs.NetEndState.{GroupsReply, NetEndState, NetSession, with_session}
-use Rattle.port_model.specs.NetEndTaking.{GoesOn, NetTake, active, hears_message, in_session, reads, replying, sid_first, takes_groups}
+use Rattle.port_model.specs.NetEndTaking.{GoesOn, NetTake, active, hears_message, in_session, replying, takes_groups}
 use Rattle.port_model.specs.Spoken.{addresses_of, count_of, set_of, seven_of}
 use Rattle.port_laws.proofs.HearsIn.{HearsOne, OwnRead, decodes_as, own_read}
 use Rattle.port_laws.proofs.MessageDoes.{Acks, Asks, Declines, MessageDoes, Names, Told}
@@ -41,8 +40,7 @@ next_is_own asks answers role s bytes talks up opened other_up front =
     next_own asks answers role s bytes (record { mine = talks.mine; theirs = talks.theirs }) talks.meets.handshakes up opened other_up front
 
 fitting_long : (role : Role) (sid : ℕ) (bytes : List ℕ) → MessageFits role sid bytes → (envelope_at bytes ≡ 0x0042) ⊎ (envelope_at bytes ≡ 0x0101) → length bytes ≡ 56
-fitting_long role sid bytes fits (inl is) = (fits.range is).long
-fitting_long role sid bytes fits (inr is) = (fits.groups is).long
+fitting_long role sid bytes given given_2 = grind arith
 
 pub next_read : (asks answers : Offer) (role r : Role) (s : Sides) (bytes : List ℕ) (sid : ℕ) → (talks : Talks asks answers role s) → s.mine.state ≡ Up → s.mine.core.is_open ≡ true → s.theirs.state ≡ Up
     → IsFront (heard s.mine.turns ++ bytes ∷ []) (said s.theirs.turns) → MessageFits r sid bytes → OwnRead bytes talks.meets.handshakes.sid
@@ -66,16 +64,7 @@ same_number n = ap (λ (b : Bool). if b then None else Some (the_cause.Sid n n))
 
 pub in_own_session : (role : Role) (s : NetEndState) (p : NetSession) (memory packet : List ℕ) (turns : List Turn) (take : NetTake) (sid : ℕ) → (one : HearsOne role s memory turns packet take)
     → s.session ≡ Some p → s.handshake.sid ≡ Some sid → (own : OwnRead one.bytes sid) → InSession role (record s { link = one.link }) p memory own.message take
-in_own_session role s p memory packet turns take sid one session knows own =
-    let decoded : one.decoded ≡ Ok own.message = decodes_as one.bytes own.message one.decoded own.form own.spells one.decodes in
-    let fault : sid_fault s.handshake.sid own.message.sid ≡ None =
-    ap (λ (n : ℕ). sid_fault s.handshake.sid n) own.sid_is ∙ ap (λ (x : Option ℕ). sid_fault x sid) knows ∙ same_number sid in
-    let hears : take ≡ hears_message role (record s { link = one.link }) memory (Some p) own.message =
-    one.is ∙ ap (reads role (record s { link = one.link }) memory) decoded ∙ ap (λ (o : Option NetSession). hears_message role (record s { link = one.link }) memory o own.message) session in
-    record {
-      hears = hears;
-      is = hears ∙ ap (λ (o : Option Cause). sid_first o (in_session role (record s { link = one.link }) p memory own.message own.message.subtype own.message.body)) fault;
-    }
+in_own_session role s p memory packet turns take sid one session knows own = grind (arith, decodes_as, same_number)
 
 -- WHAT THE GUEST NOTES
 pub record GuestNotes (s t : NetEndState) (p q : NetSession) (m : List ℕ) : Type 0 where
@@ -98,13 +87,7 @@ wrong : {X : Type 0} (b : Bool) → b ≡ true → b ≡ false → X
 wrong {X} b one two = let never : true ≡ false = sym one ∙ two in absurd (cc never)
 
 of_session : {X : Type 0} (s : Subtype) (b : MsgBody) → IsOfSession b → is_declined s b ≡ true → X
-of_session {X} Info (DringData seq ident start end state) of is = absurd (cc is)
-of_session {X} Ack (DringData seq ident start end state) of is = absurd (cc is)
-of_session {X} Nack (DringData seq ident start end state) of is = absurd (cc is)
-of_session {X} Info (Mcast set count addresses) of is = absurd (cc is)
-of_session {X} Ack (Mcast set count addresses) of is = absurd (cc is)
-of_session {X} Nack (Mcast set count addresses) of is = absurd (cc is)
-of_session {X} s _ of is = absurd of
+of_session {X} s b of is = grind arith
 
 pub guest_notes : (s t : NetEndState) (p : NetSession) (memory new m : List ℕ) (message : Message) → IsOfSession message.body → SpellsMessage m message
     → MessageDoes Initiator s p memory message.subtype message.body t new → (q : NetSession) × GuestNotes s t p q m
@@ -175,8 +158,7 @@ pub record HubLearns (s t : NetEndState) (q : NetSession) (m : List ℕ) : Type 
 
 range_notes : (s t : NetEndState) (p q : NetSession) (m : List ℕ) → envelope_at m ≡ 0x0042 → q.reply ≡ p.reply → t.session ≡ Some q → t.handshake ≡ s.handshake → t.link.to_send ≡ s.link.to_send
     → t.groups ≡ s.groups → HubNotes s t p q m
-range_notes s t p q m range reply session handshake sends groups =
-    record { session = session; handshake = handshake; sends = sends; range = range_groups m range; groups = groups; reply = reply }
+range_notes s t p q m range reply session handshake sends groups = grind (arith, range_groups)
 
 addresses_long : (n at : ℕ) (bytes : List ℕ) → at + 6 * n ≤ length bytes → length (flat_map (λ (address : List ℕ). address) (addresses_at at n bytes)) ≡ 6 * n
 addresses_long zero at bytes within = omega arith

@@ -8,7 +8,6 @@ use Rattle.ldc_link.specs.LinkState.{is_up}
 use Rattle.ldc_queue.specs.declared.end.End.TheVariants.{A, B}
 use Rattle.ldc_queue.specs.OneStream.{IsFront}
 use Rattle.ldc_queue.specs.Transcript.{Heard, Said, Turn}
-use Rattle.vio_handshake.specs.declared.handshake.Handshake.{Handshake}
 use Rattle.channel_model.specs.Sayings.{heard, said}
 use Rattle.channel_model.specs.WireAt.{IsUp}
 use Rattle.channel_laws.specs.Sides.{sides_of, swapped}
@@ -24,8 +23,8 @@ use Rattle.port_model.specs.NetEvent.{Steps}
 use Rattle.port_model.specs.NetLaneState.{NetLaneState, NetShape, seen_at, reach_of}
 use Rattle.port_model.specs.PortLog.{PortLog, after}
 use Rattle.port_model.specs.PortState.{OnLane, PortState}
-use Rattle.port_laws.specs.Counted.{left_of, unsaid}
-use Rattle.port_laws.specs.NetCore.{lane_core, net_core, one_if}
+use Rattle.port_laws.specs.Counted.{unsaid}
+use Rattle.port_laws.specs.NetCore.{lane_core, net_core}
 use Rattle.port_laws.proofs.EndCounting.{empty_unsaid, shut_counts}
 use Rattle.port_laws.proofs.FormsOwn.{MayForm, PutsIt, formed_by, opens_unsaid, sends_own}
 use Rattle.port_laws.proofs.HearsIn.{AllAgreed, Hears, OwnRead, hears_in, mine_agreed, theirs_agreed}
@@ -38,7 +37,7 @@ use Rattle.port_laws.proofs.RingEvents.{Goes, turns_at, turns_now}
 use Rattle.port_laws.proofs.SessionsHeard.{grown_most, said_grown}
 use Rattle.port_laws.proofs.StepCounts.{Acting}
 use Rattle.port_laws.proofs.TakesIn.{GuestNotes, InSession, guest_notes, in_own_session, next_read}
-use Rattle.port_laws.proofs.Talking.{RepliesAgree, TalkIn, owed_replies, guest_hears, reply_in, same_talk}
+use Rattle.port_laws.proofs.Talking.{TalkIn, guest_hears, same_talk}
 use Rattle.port_laws.proofs.TalkSteps.{GuestForms, guest_forms, outbox_heard, outbox_put}
 use Rattle.port_laws.proofs.TookCounts.{free_empty, session_open, session_up}
 use Rattle.port_laws.proofs.WayMoves.{EachLow, Plain}
@@ -56,14 +55,10 @@ TalkStands u l = (p : NetSession) → IsUp A u.wire.wire → IsUp B u.wire.wire 
 -- an end of a guest as it is now
 pub guest_as : (s t : NetEndState) (q : NetSession) (asks now answers : List (List ℕ)) (session : Option NetSession) (known : List (List ℕ)) → t.groups ≡ s.groups → t.handshake ≡ s.handshake → now ≡ asks
     → TalkIn s.handshake.draft.sid s.groups q asks answers session known → TalkIn t.handshake.draft.sid t.groups q now answers session known
-guest_as s t q asks now answers session known groups handshake same talk =
-    subst (λ (h : Handshake). TalkIn h.draft.sid t.groups q now answers session known) (sym handshake)
-    (subst (λ (xs : List (List ℕ)). TalkIn s.handshake.draft.sid xs q now answers session known) (sym groups)
-    (subst (λ (xs : List (List ℕ)). TalkIn s.handshake.draft.sid s.groups q xs answers session known) (sym same) talk))
+guest_as s t q asks now answers session known groups handshake same talk = grind arith
 
 same_left : (s t : NetEndState) → t.handshake ≡ s.handshake → t.link.to_send ≡ s.link.to_send → unsaid t ≡ unsaid s
-same_left s t handshake sends =
-    ap (λ (h : Handshake). left_of (is_none h.owed) t.link.to_send) handshake ∙ ap (left_of (is_none s.handshake.owed)) sends
+same_left s t handshake sends = grind arith
 
 pub same_outbox : (s t : NetEndState) (mine theirs : List Turn) → t.handshake ≡ s.handshake → t.link.to_send ≡ s.link.to_send → outbox t mine theirs ≡ outbox s mine theirs
 same_outbox s t mine theirs handshake sends = ap (λ (o : Option (List ℕ)). unheard (said mine) (heard theirs) ++ listed o) (same_left s t handshake sends)
@@ -96,9 +91,7 @@ low_drop (suc n) [] low = tt
 low_drop (suc n) (m ∷ messages) low = low_drop n messages low.1
 
 pub low_outbox : (s : NetEndState) (mine theirs : List Turn) → EachLow (said mine) → unsaid s ≡ None → EachLow (outbox s mine theirs)
-low_outbox s mine theirs low none =
-    let u = unheard (said mine) (heard theirs) in
-    subst EachLow (sym (ap (λ (o : Option (List ℕ)). u ++ listed o) none ∙ append-nil u)) (low_drop (length (heard theirs)) (said mine) low)
+low_outbox s mine theirs low none = grind (arith, append-nil, low_drop)
 
 pub shut_unsaid : (role : Role) (s : NetEndState) (turns : List Turn) → EndStands role (net_core role s) turns → s.session ≡ None → unsaid s ≡ None
 shut_unsaid role s turns stands none = by_up (is_up s.link) refl
@@ -118,27 +111,14 @@ shut_unsaid role s turns stands none = by_up (is_up s.link) refl
 -- WHAT NO SESSION SAID YET
 low_talk : (sid : ℕ) (groups : List (List ℕ)) (q : NetSession) (asks answers : List (List ℕ)) (session : Option NetSession) (known : List (List ℕ)) → EachLow asks → EachLow answers → session ≡ None
     → known ≡ [] → q.telling ≡ false → q.reply ≡ None → q.untold ≡ true → TalkIn sid groups q asks answers session known
-low_talk sid groups q asks answers session known asks_low answers_low none nothing telling reply untold =
-    let owed : owed_replies session ≡ 0 = ap (λ (o : Option NetSession). owed_replies o) none in
-    subst (TalkIn sid groups q asks answers session) (sym nothing)
-    (record {
-      asks_fit = low_fits Initiator sid asks asks_low;
-      answers_fit = low_fits Responder sid answers answers_low;
-      counted = omega (arith, low_none asks asks_low, low_none answers answers_low, owed, ap one_if telling);
-      tells = low_tells groups 0 asks asks_low;
-      front = refl;
-      reply = subst (λ (o : Option NetSession). RepliesAgree (reply_in o)) (sym none) tt;
-      quiet = reply;
-      latest = λ is. true_false (sym untold ∙ is);
-    })
+low_talk sid groups q asks answers session known asks_low answers_low none nothing telling reply untold = grind (arith, low_fits, low_none, low_tells, true_false)
 
 pub one_session : {X : Type 0} (o : Option X) (x y : X) → o ≡ Some x → o ≡ Some y → x ≡ y
 one_session {X} o x y one two = let both : Some x ≡ Some y = sym one ∙ two in cc both
 
 -- a session that opens tells nothing yet
 opened_fresh : (s : NetEndState) (base : ℕ) (q : NetSession) → s.session ≡ Some q → s.session ≡ Some (opened_session base) → (q.telling ≡ false) × (q.reply ≡ None) × (q.untold ≡ true)
-opened_fresh s base q now is =
-    let same : q ≡ opened_session base = one_session s.session q (opened_session base) now is in (ap (λ (x : NetSession). x.telling) same, ap (λ (x : NetSession). x.reply) same, ap (λ (x : NetSession). x.untold) same)
+opened_fresh s base q now is = grind (arith, one_session)
 
 -- A STEP IN SESSION
 module _ (shape : NetShape) (u t : PortState) (l : PortLog) (left : NetLeft) (p q : NetSession) (session : u.lane.guest.session ≡ Some p) (now : left.end.session ≡ Some q) (other_up : IsUp B u.lane.wire.wire)
@@ -155,12 +135,7 @@ module _ (shape : NetShape) (u t : PortState) (l : PortLog) (left : NetLeft) (p 
   -- with the same link, handshake and groups
   quiet_now : (now_is : NetSession) → left.end.session ≡ Some now_is → left.end.groups ≡ s.groups → left.end.handshake ≡ s.handshake → left.end.link.to_send ≡ s.link.to_send → now_is.telling ≡ p.telling
       → now_is.reply ≡ p.reply → now_is.untold ≡ p.untold → Now l.transcript.client
-  quiet_now now_is is groups handshake sends telling reply untold =
-      let same : now_is ≡ q = some_same left.end.session now_is q is now in
-      guest_as s left.end q (outbox s l.transcript.client l.transcript.server) (outbox left.end l.transcript.client l.transcript.server) (outbox u.lane.hub l.transcript.server l.transcript.client)
-      u.lane.hub.session u.lane.hub.groups groups handshake (same_outbox s left.end l.transcript.client l.transcript.server handshake sends)
-      (same_talk s.handshake.draft.sid s.groups p q (outbox s l.transcript.client l.transcript.server) (outbox u.lane.hub l.transcript.server l.transcript.client) u.lane.hub.session u.lane.hub.session
-      u.lane.hub.groups (ap (λ (x : NetSession). x.telling) (sym same) ∙ telling) (ap (λ (x : NetSession). x.reply) (sym same) ∙ reply) (ap (λ (x : NetSession). x.untold) (sym same) ∙ untold) refl was)
+  quiet_now now_is is groups handshake sends telling reply untold = grind (arith, some_same, guest_as, same_outbox, same_talk)
 
   may_form : GuestSid u.lane → (acting : Acting Initiator shape.slots [] s l.guest l.transcript.client) → MayForm Initiator s.handshake.draft.sid s p
   may_form sid acting = record { session = session; agreed = sid.agreed; small = sid.small; empty = λ quiet. free_empty Initiator s l.transcript.client acting.ends quiet }

@@ -27,7 +27,7 @@ use Rattle.port_model.proofs.Refuting.{none_some, true_false}
 use Rattle.port_model.proofs.Ruling.{says_of}
 use Rattle.port_model.specs.NetEndPutting.{holding, net_holds}
 use Rattle.port_model.specs.NetEndRule.{Announces, Fetches, NetRule, Publishes, Puts, Replies, Says, Takes, Tells, port_rule}
-use Rattle.port_model.specs.NetEndState.{GroupsReply, NetEndState, NetSession, opened_net_end}
+use Rattle.port_model.specs.NetEndState.{NetEndState, NetSession, opened_net_end}
 use Rattle.port_model.specs.NetEndStep.{Blocked, Frame, Idle, Joined, NetAnswer, NetEndStep, NetLeft, Published, Reset, Sent, Took, published, taken}
 use Rattle.port_model.specs.NetEndTaking.{GoesOn, HearsLink, HearsWhole, NetTakes, Resets, by_handshake, hears_message, reads, risen}
 use Rattle.port_model.specs.NetEvent.{Steps}
@@ -37,7 +37,7 @@ use Rattle.port_model.specs.PortState.{OnLane, PortState}
 use Rattle.port_model.specs.RuleFacts.{IfOpen, MayListen}
 use Rattle.port_model.specs.Spoken.{addresses_of}
 use Rattle.port_laws.specs.Counted.{unsaid}
-use Rattle.port_laws.specs.NetCore.{is_begun, lane_core, net_core, net_core_at, one_if}
+use Rattle.port_laws.specs.NetCore.{is_begun, lane_core, net_core, net_core_at}
 use Rattle.port_laws.proofs.EndCounting.{empty_unsaid}
 use Rattle.port_laws.proofs.FormsOwn.{MayForm, PutsIt, formed_by, sends_own}
 use Rattle.port_laws.proofs.GroupsLearnt.{Fresh, learnt}
@@ -50,7 +50,7 @@ use Rattle.port_laws.proofs.RingEvents.{Goes, theirs_now, turns_at, turns_now, w
 use Rattle.port_laws.proofs.SessionsHeard.{Grown, heard_grown}
 use Rattle.port_laws.proofs.StepCounts.{Acting}
 use Rattle.port_laws.proofs.TakesIn.{HubLearns, HubNotes, InSession, hub_notes, in_own_session, next_read}
-use Rattle.port_laws.proofs.Talking.{RepliesAgree, TalkIn, hub_hears, hub_learns, reply_in, same_talk}
+use Rattle.port_laws.proofs.Talking.{TalkIn, hub_hears, hub_learns, reply_in, same_talk}
 use Rattle.port_laws.proofs.TalkGuest.{Between, TalkStands, guest_sid, hub_agreed, low_outbox, one_session, same_outbox, shut_unsaid}
 use Rattle.port_laws.proofs.TalkSteps.{HubForms, hub_forms, outbox_heard, outbox_put}
 use Rattle.port_laws.proofs.TookCounts.{free_empty, heard_send, session_open, session_up}
@@ -73,14 +73,7 @@ module _ (shape : NetShape) (u t : PortState) (l : PortLog) (left : NetLeft) (p 
 
   quiet_now : (now_is : NetSession) → left.end.session ≡ Some now_is → left.end.groups ≡ u.lane.hub.groups → left.end.handshake ≡ u.lane.hub.handshake → left.end.link.to_send ≡ u.lane.hub.link.to_send
       → now_is.reply ≡ q.reply → Now l.transcript.server
-  quiet_now now_is is groups handshake sends reply =
-      let same : reply_in left.end.session ≡ reply_in u.lane.hub.session = ap reply_in is ∙ reply ∙ sym (ap reply_in session) in
-      subst (λ (xs : List (List ℕ)). TalkIn sid u.lane.guest.groups p (outbox u.lane.guest l.transcript.client l.transcript.server) (outbox left.end l.transcript.server l.transcript.client) left.end.session xs)
-      (sym groups)
-      (subst (λ (xs : List (List ℕ)). TalkIn sid u.lane.guest.groups p (outbox u.lane.guest l.transcript.client l.transcript.server) xs left.end.session u.lane.hub.groups)
-      (sym (same_outbox u.lane.hub left.end l.transcript.server l.transcript.client handshake sends))
-      (same_talk sid u.lane.guest.groups p p (outbox u.lane.guest l.transcript.client l.transcript.server) (outbox u.lane.hub l.transcript.server l.transcript.client) u.lane.hub.session left.end.session
-      u.lane.hub.groups refl refl refl same was))
+  quiet_now now_is is groups handshake sends reply = grind (arith, same_outbox, same_talk)
 
   forms_now : (held : NetEndState) → Acting Responder shape.slots u.queue u.lane.hub l.hub l.transcript.server → MayForm Responder sid u.lane.hub q
       → net_holds (port_rule Responder u.lane.hub (seen_at B u.lane)) u.lane.hub (reach_of B u.lane) ≡ Some held
@@ -292,26 +285,11 @@ shut_after s at memory reach _ left none goes step = absurd goes
 
 -- WHAT IS ON THE WAY then
 not_low : (m : List ℕ) → envelope_at m < 0x0042 → is_groups m ≡ false
-not_low m low = by_test (is_groups m) refl
-  where
-    by_test : (b : Bool) → is_groups m ≡ b → is_groups m ≡ false
-    by_test false is = is
-    by_test true is = absurd (omega (arith, named_in m is, low))
+not_low m low = grind (arith, named_in)
 
 shut_same : (sid : ℕ) (groups : List (List ℕ)) (p : NetSession) (asks answers now : List (List ℕ)) (session after_session : Option NetSession) (known : List (List ℕ)) → EachLow answers → EachLow now
     → reply_in session ≡ None → reply_in after_session ≡ None → TalkIn sid groups p asks answers session known → TalkIn sid groups p asks now after_session known
-shut_same sid groups p asks answers now session after_session known low low_now none none_now talk =
-    let counted = talk.counted in
-    record {
-      asks_fit = talk.asks_fit;
-      answers_fit = low_fits Responder sid now low_now;
-      counted = omega (arith, counted, low_none answers low, low_none now low_now, ap (λ (o : Option GroupsReply). one_if (is_some o)) none, ap (λ (o : Option GroupsReply). one_if (is_some o)) none_now);
-      tells = talk.tells;
-      front = talk.front;
-      reply = subst RepliesAgree (sym none_now) tt;
-      quiet = talk.quiet;
-      latest = talk.latest;
-    }
+shut_same sid groups p asks answers now session after_session known low low_now none none_now talk = grind (arith, low_fits, low_none)
 
 abbrev HeardAs : PortState → PortLog → NetSession → List (List ℕ) → Option NetSession → List (List ℕ) → Type 0
 HeardAs u l p now after_session messages =

@@ -1,5 +1,5 @@
 -- Along every run of a port that nobody forged, what is on the way between its ends fits, and no message of a session is refused.
-use Rattle.std.proofs.Common.{◌≡◌, ℕ, true, false, Option, Some, None, List, [], refl, sym, ap, ◌∙◌, subst}
+use Rattle.std.proofs.Common.{◌≡◌, true, false, Option, Some, List, [], refl, sym, ap, ◌∙◌, subst, arith}
 use Rattle.std.specs.Prelude.{is_some, ⊤}
 use Rattle.ldc_link.specs.declared.phase.Role.TheVariants.{Initiator}
 use Rattle.ldc_queue.specs.declared.end.End.TheVariants.{A, B}
@@ -9,9 +9,8 @@ use Rattle.runs.specs.Run.{Run}
 use Rattle.channel_model.specs.WireLog.{WireLog}
 use Rattle.port_model.proofs.Moving.{before_keeps}
 use Rattle.port_model.proofs.Refuting.{none_some, true_false}
-use Rattle.port_model.specs.Groups.{is_in}
 use Rattle.port_model.specs.NetEndState.{NetEndState, NetSession}
-use Rattle.port_model.specs.NetEndStep.{Already, BadLength, Full, Given, GroupsFull, Joining, Member, NetGives, NetJoins, Queued, untold}
+use Rattle.port_model.specs.NetEndStep.{Already, Given, GroupsFull, Joining, Member, NetGives, NetJoins, untold}
 use Rattle.port_model.specs.NetEvent.{Asked, Gives, Injects, Joins, Loses, NetEvent, Pokes, Steps, Ticked, on_wire}
 use Rattle.port_model.specs.NetLaneState.{IsNetShape, NetLaneState, NetShape}
 use Rattle.port_model.specs.NetLaneStep.{NetLaneStep, moved_on}
@@ -31,21 +30,14 @@ use Rattle.port_laws.proofs.Outbox.{outbox}
 
 -- THE GROUPS of a guest are repeated nowhere
 fresh_event : (u : NetLaneState) (l : PortLog) (event : NetEvent) (t : NetLaneState) → u.guest.groups ≡ l.members → NetLaneStep u event t → Fresh [] l.members → Fresh [] (after l (OnLane event)).members
-fresh_event u l (Joins (Member address)) t are step fresh = fresh_more [] l.members address fresh (subst (λ (xs : List (List ℕ)). is_in xs address ≡ false) are step.0.0)
-fresh_event u l _ t are step fresh = fresh
+fresh_event u l event t are step fresh = grind (arith, fresh_more)
 
 -- A GUEST that is given a frame, or joins a group
 given_talk : (s : NetEndState) (given : Given) (t hub : NetEndState) (client server : List Turn) (p : NetSession) → NetGives s given t → (s.session ≡ Some p → Between s hub client server p) → t.session ≡ Some p → Between t hub client server p
-given_talk s (BadLength frame) t hub client server p gives had is =
-    subst (λ (x : NetEndState). Between x hub client server p) (sym gives.1) (had (ap (λ (x : NetEndState). x.session) (sym gives.1) ∙ is))
-given_talk s (Full frame) t hub client server p gives had is =
-    subst (λ (x : NetEndState). Between x hub client server p) (sym gives.2) (had (ap (λ (x : NetEndState). x.session) (sym gives.2) ∙ is))
-given_talk s (Queued id frame) t hub client server p gives had is =
-    subst (λ (x : NetEndState). Between x hub client server p) (sym gives.4) (had (ap (λ (x : NetEndState). x.session) (sym gives.4) ∙ is))
+given_talk s given t hub client server p gives had is = grind arith
 
 untold_some : (session : Option NetSession) (q : NetSession) → untold session ≡ Some q → (p : NetSession) × (session ≡ Some p) × (q.telling ≡ p.telling) × (q.reply ≡ p.reply) × (q.untold ≡ true)
-untold_some None q is = absurd (cc is)
-untold_some (Some p) q is = let same : record p { untold = true } ≡ q = cc is in (p, refl, ap (λ (x : NetSession). x.telling) (sym same), ap (λ (x : NetSession). x.reply) (sym same), ap (λ (x : NetSession). x.untold) (sym same))
+untold_some session q is = grind arith
 
 joined_talk : (s : NetEndState) (joining : Joining) (t hub : NetEndState) (client server : List Turn) (q : NetSession) → NetJoins s joining t → ((p : NetSession) → s.session ≡ Some p → Between s hub client server p)
     → t.session ≡ Some q → Between t hub client server q

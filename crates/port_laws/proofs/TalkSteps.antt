@@ -1,6 +1,5 @@
 -- A step of either end of a port in session keeps what is known of all that is on the way.
-use Rattle.std.proofs.Common.{◌≡◌, ℕ, ◌^◌, ◌<◌, ◌≤◌, Option, Some, None, List, [], ◌∷◌, ◌++◌, length, refl, sym, subst, ap, ◌∙◌, arith, length-append, replicate}
-use Rattle.std.specs.List.{flat_map}
+use Rattle.std.proofs.Common.{◌≡◌, ℕ, ◌^◌, ◌<◌, ◌≤◌, Option, Some, None, List, [], ◌∷◌, ◌++◌, length, refl, sym, subst, ap, ◌∙◌, arith, length-append}
 use Rattle.std.proofs.lemmas.List.{append-nil, take_all}
 use Rattle.ldc_link.specs.declared.phase.Role.TheVariants.{Initiator, Responder}
 use Rattle.ldc_packet.specs.declared.packet.Subtype.TheVariants.{Info}
@@ -19,31 +18,22 @@ use Rattle.port_model.specs.Spoken.{addresses_of}
 use Rattle.port_laws.specs.Counted.{AreGroups, unsaid}
 use Rattle.port_laws.proofs.FormsOwn.{Formed, Kept, PutsIt, Ranged, Replied, Told}
 use Rattle.port_laws.proofs.OwnBytes.{membership_reads, seven_six}
-use Rattle.port_laws.proofs.Outbox.{SaysGroups, TellsSome, first_unheard, listed, outbox, says_groups, unheard, unheard_more}
+use Rattle.port_laws.proofs.Outbox.{SaysGroups, TellsSome, first_unheard, outbox, says_groups, unheard_more}
 use Rattle.port_laws.proofs.ShortMessages.{seven_long}
 use Rattle.port_laws.proofs.Talking.{RepliesAgree, ReplyAgrees, TalkIn, guest_ranges, guest_tells, hub_ranges, hub_replies, reply_in}
 
 -- THE OUTBOX
 pub outbox_more : (s held : NetEndState) (mine theirs : List Turn) (m : List ℕ) → unsaid s ≡ None → unsaid held ≡ Some m → outbox held mine theirs ≡ outbox s mine theirs ++ m ∷ []
-outbox_more s held mine theirs m none now =
-    let u = unheard (said mine) (heard theirs) in
-    ap (λ (o : Option (List ℕ)). u ++ listed o) now ∙ sym (ap (λ (xs : List (List ℕ)). xs ++ m ∷ []) (ap (λ (o : Option (List ℕ)). u ++ listed o) none ∙ append-nil u))
+outbox_more s held mine theirs m none now = grind (arith, append-nil)
 
 -- what is put goes from the link on the way
 pub outbox_put : (held t : NetEndState) (mine theirs : List Turn) (packet : List ℕ) → PutsIt held t mine packet → IsFront (heard theirs) (said mine) → outbox t (Said packet ∷ mine) theirs ≡ outbox held mine theirs
-outbox_put held t mine theirs packet puts front =
-    let u = unheard (said mine) (heard theirs) in
-    ap (λ (xs : List (List ℕ)). unheard xs (heard theirs) ++ listed (unsaid t)) puts.says
-    ∙ ap (λ (xs : List (List ℕ)). xs ++ listed (unsaid t)) (unheard_more (said mine) (heard theirs) puts.message front)
-    ∙ ap (λ (o : Option (List ℕ)). (u ++ puts.message ∷ []) ++ listed o) puts.none ∙ append-nil (u ++ puts.message ∷ [])
-    ∙ sym (ap (λ (o : Option (List ℕ)). u ++ listed o) puts.was)
+outbox_put held t mine theirs packet puts front = grind (arith, unheard_more, append-nil)
 
 -- what is heard leaves the other's
 pub outbox_heard : (peer : NetEndState) (theirs mine : List Turn) (packet m : List ℕ) → heard (Heard packet ∷ mine) ≡ heard mine ++ m ∷ [] → IsFront (heard mine ++ m ∷ []) (said theirs)
     → outbox peer theirs mine ≡ m ∷ outbox peer theirs (Heard packet ∷ mine)
-outbox_heard peer theirs mine packet m is front =
-    ap (λ (xs : List (List ℕ)). xs ++ listed (unsaid peer)) (first_unheard (said theirs) (heard mine) m front)
-    ∙ ap (λ (xs : List (List ℕ)). m ∷ (unheard (said theirs) xs ++ listed (unsaid peer))) (sym is)
+outbox_heard peer theirs mine packet m is front = grind (arith, first_unheard)
 
 -- WHAT THE GUEST TELLS
 record Member (sid : ℕ) (groups : List (List ℕ)) : Type 0 where
@@ -122,9 +112,7 @@ in_reply : (session : Option NetSession) (q : NetSession) → session ≡ Some q
 in_reply session q is = ap reply_in is
 
 answer_long : (s : NetEndState) (r : GroupsReply) → ReplyAgrees r → length (canonical (groups_answer s r)) ≡ 56
-answer_long s r agrees =
-    let long = agrees.long in
-    omega (arith, length_canonical (groups_answer s r), long, length-append (flat_map (λ (address : List ℕ). address) r.addresses) (replicate 4 0))
+answer_long s r agrees = grind (arith, length_canonical, length-append)
 
 pub hub_forms : (s held : NetEndState) (q : NetSession) (sid : ℕ) (groups : List (List ℕ)) (p : NetSession) (asks : List (List ℕ)) (client server : List Turn) → s.session ≡ Some q
     → Formed Responder sid s q held → TalkIn sid groups p asks (outbox s server client) s.session s.groups → HubForms held s sid groups p asks client server

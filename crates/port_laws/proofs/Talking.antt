@@ -1,5 +1,5 @@
 -- What is on the way between both ends of a port in session fits, and of groups there is one thing under way while the guest waits for it.
-use Rattle.std.proofs.Common.{◌≡◌, ℕ, ◌+◌, ◌≤◌, Bool, true, false, Option, Some, None, List, [], ◌∷◌, ◌++◌, length, refl, sym, subst, ap, ◌∙◌, arith, length-append}
+use Rattle.std.proofs.Common.{◌≡◌, ℕ, ◌+◌, ◌≤◌, Bool, true, false, Option, Some, None, List, [], ◌∷◌, ◌++◌, length, sym, subst, ap, ◌∙◌, arith, length-append}
 use Rattle.std.specs.Prelude.{is_some, ⊤, take}
 use Rattle.std.specs.List.{flat_map}
 use Rattle.std.proofs.lemmas.Bool.{eq-eqb}
@@ -40,15 +40,13 @@ AllTold groups known [] = known ≡ groups
 AllTold groups known (m ∷ asks) = ToldBy (is_groups m) m groups (AllTold groups known asks)
 
 told_by : (b : Bool) (m : List ℕ) (groups : List (List ℕ)) (P Q : Type 0) → (P → Q) → ToldBy b m groups P → ToldBy b m groups Q
-told_by true m groups P Q means told = told
-told_by false m groups P Q means told = means told
+told_by b m groups P Q means told = grind arith
 
 told_past : (m : List ℕ) (groups : List (List ℕ)) (Rest : Type 0) → is_groups m ≡ false → Rest → ToldBy (is_groups m) m groups Rest
 told_past m groups Rest not_ rest = subst (λ (b : Bool). ToldBy b m groups Rest) (sym not_) rest
 
 one_none : (b : Bool) (n : ℕ) → one_if b + n ≡ 0 → b ≡ false
-one_none false n is = refl
-one_none true n is = absurd (omega (arith, is))
+one_none b n is = grind arith
 
 told_more : (groups known asks : List (List ℕ)) (m : List ℕ) → is_groups m ≡ false → AllTold groups known asks → AllTold groups known (asks ++ m ∷ [])
 told_more groups known [] m not_ told = told_past m groups (known ≡ groups) not_ told
@@ -78,8 +76,7 @@ pub record TalkIn (sid : ℕ) (groups : List (List ℕ)) (p : NetSession) (asks 
   pub latest : p.untold ≡ false → AllTold groups known asks
 
 known_few : (groups known : List (List ℕ)) → known ≡ take (length known) groups → length known ≤ length groups
-known_few groups known front =
-    let long : length known ≡ length (take (length known) groups) = ap length front in omega (arith, long, length-take (length known) groups)
+known_few groups known front = grind (arith, length-take)
 
 -- THE GUEST says a range
 pub guest_ranges : (sid : ℕ) (groups : List (List ℕ)) (p q : NetSession) (asks answers : List (List ℕ)) (session : Option NetSession) (known : List (List ℕ)) (m : List ℕ)
@@ -99,8 +96,7 @@ guest_ranges sid groups p q asks answers session known m says telling reply unto
     }
 
 one_some : (b : Bool) → one_if b + 0 ≡ 1 → b ≡ true
-one_some true is = refl
-one_some false is = absurd (omega (arith, is))
+one_some b is = grind arith
 
 -- it tells its groups
 pub guest_tells : (sid : ℕ) (groups : List (List ℕ)) (p q : NetSession) (asks answers : List (List ℕ)) (session : Option NetSession) (known : List (List ℕ)) (m : List ℕ)
@@ -122,8 +118,7 @@ guest_tells sid groups p q asks answers session known m says tells all before no
 
 -- it hears what comes first
 told_now : (b was now : Bool) (rest : ℕ) → rest + one_if b ≡ one_if was → (b ≡ true → now ≡ false) → (b ≡ false → now ≡ was) → rest ≡ one_if now
-told_now true was now rest is told same = omega (arith, is, one_most was, ap one_if (told refl))
-told_now false was now rest is told same = omega (arith, is, ap one_if (same refl))
+told_now b was now rest is told same = grind (arith, one_most)
 
 pub guest_hears : (sid : ℕ) (groups : List (List ℕ)) (p q : NetSession) (asks answers : List (List ℕ)) (session : Option NetSession) (known : List (List ℕ)) (m : List ℕ)
     → (is_groups m ≡ true → q.telling ≡ false) → (is_groups m ≡ false → q.telling ≡ p.telling) → q.reply ≡ p.reply → q.untold ≡ p.untold → TalkIn sid groups p asks (m ∷ answers) session known
@@ -143,113 +138,37 @@ guest_hears sid groups p q asks answers session known m told same reply untold t
 
 pub is_telling : (sid : ℕ) (groups : List (List ℕ)) (p : NetSession) (asks answers : List (List ℕ)) (session : Option NetSession) (known : List (List ℕ)) (m : List ℕ)
     → TalkIn sid groups p asks (m ∷ answers) session known → envelope_at m ≡ 0x0101 → p.telling ≡ true
-is_telling sid groups p asks answers session known m talk is = by_telling p.telling refl
-  where
-    by_telling : (b : Bool) → p.telling ≡ b → p.telling ≡ true
-    by_telling true one = one
-    by_telling false none =
-        let counted = talk.counted in
-        let here : is_groups m ≡ true = eq-eqb (envelope_at m) 0x0101 is in
-        absurd (omega (arith, counted, ap one_if here, ap one_if none))
+is_telling sid groups p asks answers session known m talk is = grind (arith, eq-eqb)
 
 -- THE SWITCH'S END says what speaks of no groups
 pub hub_ranges : (sid : ℕ) (groups : List (List ℕ)) (p : NetSession) (asks answers : List (List ℕ)) (session now : Option NetSession) (known : List (List ℕ)) (m : List ℕ)
     → MessageFits Responder sid m → count_groups (m ∷ []) ≡ 0 → reply_in now ≡ reply_in session → TalkIn sid groups p asks answers session known
     → TalkIn sid groups p asks (answers ++ m ∷ []) now known
-hub_ranges sid groups p asks answers session now known m fits none same talk =
-    let counted = talk.counted in
-    let owed : owed_replies now ≡ owed_replies session = ap (λ (o : Option GroupsReply). one_if (is_some o)) same in
-    record {
-      asks_fit = talk.asks_fit;
-      answers_fit = fits_more Responder sid answers (m ∷ []) talk.answers_fit (fits, tt);
-      counted = omega (arith, counted, none, owed, count-append answers (m ∷ []));
-      tells = talk.tells;
-      front = talk.front;
-      reply = subst RepliesAgree (sym same) talk.reply;
-      quiet = talk.quiet;
-      latest = talk.latest;
-    }
+hub_ranges sid groups p asks answers session now known m given none same talk = grind (arith, fits_more, count-append)
 
 -- it answers
 pub hub_replies : (sid : ℕ) (groups : List (List ℕ)) (p : NetSession) (asks answers : List (List ℕ)) (session now : Option NetSession) (known : List (List ℕ)) (m : List ℕ) (r : GroupsReply)
     → SaysGroups Responder sid m → reply_in session ≡ Some r → reply_in now ≡ None → TalkIn sid groups p asks answers session known → TalkIn sid groups p asks (answers ++ m ∷ []) now known
-hub_replies sid groups p asks answers session now known m r says before none talk =
-    let counted = talk.counted in
-    let one = says.one in
-    let owed : owed_replies session ≡ 1 = ap (λ (o : Option GroupsReply). one_if (is_some o)) before in
-    let owes : owed_replies now ≡ 0 = ap (λ (o : Option GroupsReply). one_if (is_some o)) none in
-    record {
-      asks_fit = talk.asks_fit;
-      answers_fit = fits_more Responder sid answers (m ∷ []) talk.answers_fit (says.fits, tt);
-      counted = omega (arith, counted, one, owed, owes, count-append answers (m ∷ []));
-      tells = talk.tells;
-      front = talk.front;
-      reply = subst RepliesAgree (sym none) tt;
-      quiet = talk.quiet;
-      latest = talk.latest;
-    }
+hub_replies sid groups p asks answers session now known m r says before none talk = grind (arith, fits_more, count-append)
 
 -- it hears what speaks of no groups
 pub hub_hears : (sid : ℕ) (groups : List (List ℕ)) (p : NetSession) (asks answers : List (List ℕ)) (session now : Option NetSession) (known : List (List ℕ)) (m : List ℕ)
     → is_groups m ≡ false → reply_in now ≡ reply_in session → TalkIn sid groups p (m ∷ asks) answers session known → TalkIn sid groups p asks answers now known
-hub_hears sid groups p asks answers session now known m not_ same talk =
-    let counted = talk.counted in
-    let owed : owed_replies now ≡ owed_replies session = ap (λ (o : Option GroupsReply). one_if (is_some o)) same in
-    record {
-      asks_fit = talk.asks_fit.1;
-      answers_fit = talk.answers_fit;
-      counted = omega (arith, counted, owed, ap one_if not_);
-      tells = talk.tells.1;
-      front = talk.front;
-      reply = subst RepliesAgree (sym same) talk.reply;
-      quiet = talk.quiet;
-      latest = λ is. subst (λ (b : Bool). ToldBy b m groups (AllTold groups known asks)) not_ (talk.latest is);
-    }
+hub_hears sid groups p asks answers session now known m not_ same talk = grind arith
 
 -- it hears groups, which it knows then
 front_taken : (many : ℕ) (groups : List (List ℕ)) → many ≤ length groups → take many groups ≡ take (length (take many groups)) groups
-front_taken many groups few =
-    let long : length (take many groups) ≡ many = omega (arith, length-take many groups, few) in ap (λ (n : ℕ). take n groups) (sym long)
+front_taken many groups few = grind (arith, length-take)
 
 pub hub_learns : (sid : ℕ) (groups : List (List ℕ)) (p : NetSession) (asks answers : List (List ℕ)) (session now : Option NetSession) (known : List (List ℕ)) (m : List ℕ) (r : GroupsReply)
     (some : TellsSome groups (length known) m) → is_groups m ≡ true → reply_in session ≡ None → reply_in now ≡ Some r → ReplyAgrees r → TalkIn sid groups p (m ∷ asks) answers session known
     → TalkIn sid groups p asks answers now (addresses_of m)
-hub_learns sid groups p asks answers session now known m r some is before after_is agrees talk =
-    let counted = talk.counted in
-    let owed : owed_replies session ≡ 0 = ap (λ (o : Option GroupsReply). one_if (is_some o)) before in
-    let owes : owed_replies now ≡ 1 = ap (λ (o : Option GroupsReply). one_if (is_some o)) after_is in
-    let most = one_most p.telling in
-    let one = ap one_if is in
-    subst (TalkIn sid groups p asks answers now) (sym some.is)
-    (record {
-      asks_fit = talk.asks_fit.1;
-      answers_fit = talk.answers_fit;
-      counted = omega (arith, counted, owed, owes, one);
-      tells = none_tells groups (length (take some.many groups)) asks (omega (arith, counted, one, most));
-      front = front_taken some.many groups some.inside;
-      reply = subst RepliesAgree (sym after_is) agrees;
-      quiet = talk.quiet;
-      latest = λ untold.
-          none_told groups (take some.many groups) asks (omega (arith, counted, one, most))
-          (sym some.is ∙ subst (λ (b : Bool). ToldBy b m groups (AllTold groups known asks)) is (talk.latest untold));
-    })
+hub_learns sid groups p asks answers session now known m r some is before after_is agrees talk = grind (arith, one_most, none_tells, front_taken, none_told)
 
 -- NOTHING of this changes
 pub same_talk : (sid : ℕ) (groups : List (List ℕ)) (p q : NetSession) (asks answers : List (List ℕ)) (session now : Option NetSession) (known : List (List ℕ))
     → q.telling ≡ p.telling → q.reply ≡ p.reply → q.untold ≡ p.untold → reply_in now ≡ reply_in session → TalkIn sid groups p asks answers session known → TalkIn sid groups q asks answers now known
-same_talk sid groups p q asks answers session now known telling reply untold same talk =
-    let counted = talk.counted in
-    let owed : owed_replies now ≡ owed_replies session = ap (λ (o : Option GroupsReply). one_if (is_some o)) same in
-    record {
-      asks_fit = talk.asks_fit;
-      answers_fit = talk.answers_fit;
-      counted = omega (arith, counted, owed, ap one_if telling);
-      tells = talk.tells;
-      front = talk.front;
-      reply = subst RepliesAgree (sym same) talk.reply;
-      quiet = reply ∙ talk.quiet;
-      latest = λ is. talk.latest (sym untold ∙ is);
-    }
+same_talk sid groups p q asks answers session now known telling reply untold same talk = grind arith
 
 -- the guest joins one more group
 more_tells : (groups : List (List ℕ)) (address : List ℕ) (known : ℕ) (asks : List (List ℕ)) → EachTells groups known asks → EachTells (groups ++ address ∷ []) known asks
@@ -270,15 +189,4 @@ more_tells groups address known (m ∷ asks) tells = (
 
 pub guest_joins : (sid : ℕ) (groups : List (List ℕ)) (address : List ℕ) (p q : NetSession) (asks answers : List (List ℕ)) (session : Option NetSession) (known : List (List ℕ))
     → q.telling ≡ p.telling → q.reply ≡ p.reply → q.untold ≡ true → TalkIn sid groups p asks answers session known → TalkIn sid (groups ++ address ∷ []) q asks answers session known
-guest_joins sid groups address p q asks answers session known telling reply untold talk =
-    let counted = talk.counted in
-    record {
-      asks_fit = talk.asks_fit;
-      answers_fit = talk.answers_fit;
-      counted = omega (arith, counted, ap one_if telling);
-      tells = more_tells groups address (length known) asks talk.tells;
-      front = talk.front ∙ sym (take-append-le (length known) groups (address ∷ []) (known_few groups known talk.front));
-      reply = talk.reply;
-      quiet = reply ∙ talk.quiet;
-      latest = λ is. true_false (sym untold ∙ is);
-    }
+guest_joins sid groups address p q asks answers session known telling reply untold talk = grind (arith, more_tells, take-append-le, known_few, true_false)

@@ -10,14 +10,13 @@ use Rattle.ldc_queue.specs.Fragments.{fragment_at, is_part}
 use Rattle.ldc_queue.specs.Transcript.{Turn}
 use Rattle.vio_handshake.specs.declared.handshake.Handshake.{Handshake}
 use Rattle.vio_handshake.specs.Rules.{Faults, Goes, GoesOpen, HandshakeTake, handshake_take}
-use Rattle.vio_handshake.specs.State.{handshake_up}
 use Rattle.vio_tag.specs.declared.message.Message.{Message}
 use Rattle.vio_tag.specs.declared.message.TagFault.{TagFault}
 use Rattle.vio_tag.specs.Decoding.{Decodes}
 use Rattle.channel_model.specs.Messages.{ended_by, whole_with}
 use Rattle.channel_model.specs.Sayings.{half_heard, heard, whole_by, whole_past}
 use Rattle.channel_laws.proofs.EndStanding.{up_empty}
-use Rattle.channel_laws.proofs.LinkCases.{ControlHeard, LinkHeard, PartHeard, ReadyHeard, link_heard}
+use Rattle.channel_laws.proofs.LinkCases.{LinkHeard, link_heard}
 use Rattle.channel_laws.proofs.TurnCases.{HearsOn, hears_on}
 use Rattle.channel_laws.specs.Standing.{EndStands, is_open_in}
 use Rattle.port_model.proofs.FramesTaken.{stands_with}
@@ -38,42 +37,27 @@ use Rattle.port_laws.proofs.PutCounts.{ended_if, opened_counts}
 
 -- A LINK THAT OWES NOTHING holds nothing
 pub free_empty : (role : Role) (s : NetEndState) (turns : List Turn) → EndStands role (net_core role s) turns → owes s.link ≡ false → s.link.to_send ≡ []
-free_empty role s turns stands quiet = by_up (is_up s.link) refl
-  where
-    by_up : (b : Bool) → is_up s.link ≡ b → s.link.to_send ≡ []
-    by_up true up = up_empty s.link up quiet
-    by_up false down = (stands.below down).left
+free_empty role s turns stands quiet = grind (arith, up_empty)
 
 -- in session it is up, and the handshake is open
 pub session_open : (role : Role) (s : NetEndState) (turns : List Turn) (p : NetSession) → EndStands role (net_core role s) turns → s.session ≡ Some p → is_open_in s.handshake.phase ≡ true
 session_open role s turns p stands is = sym stands.opened ∙ ap (λ (x : Option NetSession). is_some x) is
 
 pub session_up : (role : Role) (s : NetEndState) (turns : List Turn) (p : NetSession) → EndStands role (net_core role s) turns → s.session ≡ Some p → is_up s.link ≡ true
-session_up role s turns p stands is = by_up (is_up s.link) refl
-  where
-    by_up : (b : Bool) → is_up s.link ≡ b → is_up s.link ≡ true
-    by_up true up = up
-    by_up false down = true_false (sym (session_open role s turns p stands is) ∙ ap is_open_in (stands.below down).down)
+session_up role s turns p stands is = grind (arith, true_false, session_open)
 
 risen_if : (b a : Bool) (h g : Handshake) → a ≡ true → (if b && not a then g else h) ≡ h
-risen_if true true h g up = refl
-risen_if false true h g up = refl
-risen_if b false h g up = false_true up
+risen_if b a h g up = grind (arith, false_true)
 
 pub risen_up : (role : Role) (before behind : LinkState) (h : Handshake) → is_up before ≡ true → risen role before behind h ≡ h
-risen_up Initiator before behind h up = refl
-risen_up Responder before behind h up = risen_if (is_up behind) (is_up before) h (handshake_up h) up
+risen_up role before behind h up = grind (arith, risen_if)
 
 -- WHAT THE PACKET ENDS is what became whole
 pub heard_send : (k m : LinkState) (packet : List ℕ) → LinkHeard k packet m → m.to_send ≡ k.to_send
-heard_send k m packet (ControlHeard next taken is) = ap (λ (x : LinkState). x.to_send) is
-heard_send k m packet (ReadyHeard at ready number is) = ap (λ (x : LinkState). x.to_send) is
-heard_send k m packet (PartHeard at part may number is) = ap (λ (x : LinkState). x.to_send) is
+heard_send k m packet given = grind arith
 
 unended : (part stop : Bool) (message : List ℕ) → (part ≡ true → stop ≡ true → ⊥) → whole_with (part && stop) message ≡ None
-unended true true message never = absurd (never refl refl)
-unended true false message never = refl
-unended false stop message never = refl
+unended part stop message never = grind arith
 
 whole_ended : (turns : List Turn) (packet : List ℕ) (whole : Option (List ℕ)) → HearsOn turns packet whole → ended_by (half_heard turns) packet ≡ whole
 whole_ended turns packet (Some message) on =
@@ -90,24 +74,16 @@ whole_ended turns packet None on =
 
 -- THE LOG where no message became whole, and where no session is open
 change_same : (slots : ℕ) (x : Option SessionLog) → change (heard_in slots None) x ≡ x
-change_same slots None = refl
-change_same slots (Some v) = refl
+change_same slots x = grind arith
 
 hears_none : (slots : ℕ) (l : EndLog) → hears_log slots None l ≡ l
-hears_none slots l =
-    let plus : l.gone + 0 ≡ l.gone = omega arith in
-    ap (λ (x : Option SessionLog). record l { session = x; gone = l.gone + 0 }) (change_same slots l.session) ∙ ap (λ (n : ℕ). record l { gone = n }) plus
+hears_none slots l = grind (arith, change_same)
 
 acked_none : (slots : ℕ) (whole : Option (List ℕ)) → acked_in slots whole None ≡ 0
-acked_none slots None = refl
-acked_none slots (Some message) = refl
+acked_none slots whole = grind arith
 
 hears_shut : (slots : ℕ) (whole : Option (List ℕ)) (l : EndLog) → l.session ≡ None → hears_log slots whole l ≡ l
-hears_shut slots whole l is =
-    let plus : l.gone + 0 ≡ l.gone = omega arith in
-    ap (λ (x : Option SessionLog). record l { session = change (heard_in slots whole) x; gone = l.gone + acked_in slots whole x }) is
-    ∙ ap (λ (n : ℕ). record l { session = None; gone = l.gone + n }) (acked_none slots whole) ∙ ap (λ (n : ℕ). record l { session = None; gone = n }) plus
-    ∙ ap (λ (x : Option SessionLog). record l { session = x }) (sym is)
+hears_shut slots whole l is = grind (arith, acked_none)
 
 -- AN END THAT TAKES
 pub record Taking (role : Role) (slots : ℕ) (queue : List (List ℕ)) (s : NetEndState) (l : EndLog) (turns : List Turn) : Type 0 where

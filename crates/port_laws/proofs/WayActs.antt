@@ -1,5 +1,5 @@
 -- What a step of an end leaves of what is on the way, by its answer.
-use Rattle.std.proofs.Common.{◌≡◌, ℕ, ◌+◌, ◌≤◌, true, false, Option, Some, None, List, ◌∷◌, refl, sym, subst}
+use Rattle.std.proofs.Common.{◌≡◌, ℕ, ◌+◌, ◌≤◌, true, false, Option, Some, None, List, ◌∷◌, sym, subst, arith}
 use Rattle.std.specs.Prelude.{⊤}
 use Rattle.ldc_queue.specs.OneStream.{IsFront}
 use Rattle.ldc_queue.specs.Transcript.{Heard, Said, Turn}
@@ -8,7 +8,7 @@ use Rattle.channel_model.specs.Sayings.{half_heard, half_said, heard, said}
 use Rattle.port_model.specs.EndLog.{EndLog, SessionLog, change, heard_in, more_published, more_taken, opened_log, said_in}
 use Rattle.port_model.specs.NetEndStep.{Blocked, Frame, Idle, Joined, NetAnswer, Published, Reset, Sent, Took}
 use Rattle.port_model.specs.PortLog.{after_answer}
-use Rattle.port_laws.specs.WaysStand.{Rests, Ways, or_new}
+use Rattle.port_laws.specs.WaysStand.{Ways, or_new}
 use Rattle.port_laws.proofs.RingEvents.{Goes, turns_now}
 use Rattle.port_laws.proofs.SessionsHeard.{heard_grown, said_grown}
 use Rattle.port_laws.proofs.WayMoves.{Plain, RightIn, frame_ways, hears_plain, hears_ways, plain_rest, published_ways, same_answers, same_asks, says_plain, says_ways, ways_as}
@@ -51,9 +51,7 @@ pub record ClosedFits (turns others : List Turn) (answer : NetAnswer) : Type 0 w
   pub front : IsFront (heard (turns_now answer turns)) (said others)
 
 new_again : (slots sid : ℕ) (turns others : List Turn) (w : SessionLog) → Between slots turns others (opened_log 0) w → Between slots turns others (opened_log sid) w
-new_again slots sid turns others w ways =
-    ways_as slots (said turns) (heard turns) (said others) (heard others) (opened_log 0) (opened_log sid) w w (record { asking = refl; infos = refl; seen = refl })
-    (record { asked = refl; acks = refl; answered = refl; taken = refl }) (same_asks w) (same_answers w) ways
+new_again slots sid turns others w ways = grind (arith, ways_as, same_asks, same_answers)
 
 pub closed_acts : (slots : ℕ) (turns others : List Turn) (answer : NetAnswer) (l : EndLog) (w : SessionLog) → l.session ≡ None → Goes answer → ClosedFits turns others answer
     → Between slots turns others (opened_log 0) w → Between slots (turns_now answer turns) others (or_new (after_answer slots turns answer l).session) w
@@ -80,14 +78,4 @@ closed_acts slots turns others _ l w is goes fits ways = subst (λ (o : Option S
 -- THE FIRST SESSION of both opens, with nothing on the way
 pub first_ways : (slots sid : ℕ) (turns others : List Turn) → IsFront (heard turns) (said others) → IsFront (heard others) (said turns) → Plain (said turns) → Plain (said others)
     → Between slots turns others (opened_log sid) (opened_log 0)
-first_ways slots sid turns others comes goes mine theirs =
-    let going : Plain goes.0 = plain_rest (heard others) goes.0 (subst Plain goes.1 mine) in
-    let coming : Plain comes.0 = plain_rest (heard turns) comes.0 (subst Plain comes.1 theirs) in
-    record {
-      going = goes.0;
-      coming = comes.0;
-      goes = goes.1;
-      comes = comes.1;
-      mine = Rests refl refl refl refl refl going.infos coming.acks;
-      theirs = Rests refl refl refl refl refl coming.infos going.acks;
-    }
+first_ways slots sid turns others comes goes mine theirs = grind (arith, plain_rest)

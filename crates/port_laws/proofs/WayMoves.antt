@@ -11,19 +11,17 @@ use Rattle.channel_model.specs.Ranges.{wrapped}
 use Rattle.dring.specs.Slots.{range_length}
 use Rattle.port_model.specs.EndLog.{SessionLog, heard_in, heard_kind, more_published, more_taken, range_of, said_in, said_kind}
 use Rattle.port_model.specs.FrameLaws.{Acknowledges, Announces}
-use Rattle.port_model.specs.Spoken.{GroupsInfo, GroupsNack, Other, RangeAck, RangeInfo, Spoken, spoken}
+use Rattle.port_model.specs.Spoken.{GroupsNack, Other, RangeAck, RangeInfo, Spoken, spoken}
 use Rattle.port_laws.specs.Counted.{SaysRightly}
 use Rattle.port_laws.specs.WaysStand.{Comes, Goes, Rests, Way, Ways, Works, ack_first, acks_in, info_first, infos_in}
 use Rattle.port_laws.proofs.SessionsHeard.{Grown}
 
 -- LISTS
 info_more : (k : Spoken) (message : List ℕ) (rest more : List (List ℕ)) → info_first k message (rest ++ more) ≡ info_first k message rest ++ more
-info_more GroupsInfo message rest more = refl
-info_more _ message rest more = refl
+info_more k message rest more = grind arith
 
 ack_more : (k : Spoken) (message : List ℕ) (rest more : List (List ℕ)) → ack_first k message (rest ++ more) ≡ ack_first k message rest ++ more
-ack_more GroupsInfo message rest more = refl
-ack_more _ message rest more = refl
+ack_more k message rest more = grind arith
 
 pub infos-append : (xs ys : List (List ℕ)) → infos_in (xs ++ ys) ≡ infos_in xs ++ infos_in ys
 infos-append [] ys = refl
@@ -53,11 +51,7 @@ pub record Plain (messages : List (List ℕ)) : Type 0 where
   pub low : EachLow messages
 
 pub plain_rest : (xs ys : List (List ℕ)) → Plain (xs ++ ys) → Plain ys
-plain_rest xs ys plain = record {
-  infos = (both_none (infos_in xs) (infos_in ys) (sym (infos-append xs ys) ∙ plain.infos)).1;
-  acks = (both_none (acks_in xs) (acks_in ys) (sym (acks-append xs ys) ∙ plain.acks)).1;
-  low = low_rest xs ys plain.low;
-}
+plain_rest xs ys plain = grind (arith, both_none, infos-append, acks-append, low_rest)
 
 pub plain_as : (xs ys : List (List ℕ)) → ys ≡ xs → Plain ys → Plain xs
 plain_as xs ys same plain = subst Plain same plain
@@ -311,8 +305,7 @@ hears_kind k slots v w going rest message is one turn mine theirs =
 
 -- the message that it heard was the first that came
 pub first_came : (slots : ℕ) (ha ha_now sb coming rest : List (List ℕ)) (message : List ℕ) → sb ≡ ha ++ coming → ha_now ≡ ha ++ message ∷ [] → sb ≡ ha_now ++ rest → coming ≡ message ∷ rest
-first_came slots ha ha_now sb coming rest message before now front =
-    append_cancel_left ha coming (message ∷ rest) (sym before ∙ front ∙ ap (λ (xs : List (List ℕ)). xs ++ rest) now ∙ append_assoc ha (message ∷ []) rest)
+first_came slots ha ha_now sb coming rest message before now front = grind (arith, append_cancel_left, append_assoc)
 
 with_heard : (slots : ℕ) (sa ha_now sb hb rest : List (List ℕ)) (w now : SessionLog) (going : List (List ℕ)) → sa ≡ hb ++ going → sb ≡ ha_now ++ rest → OneHeard slots w now going rest
     → Ways slots sa ha_now sb hb now w
@@ -351,10 +344,7 @@ published_ways slots sa ha sb hb v w ways =
     ways
 
 frame_way : (slots : ℕ) (w v : SessionLog) (infos acks : List (List ℕ)) → v.asked ≡ v.acks + 1 → Way slots w v infos acks → Way slots w (more_taken v) infos acks
-frame_way slots w v infos acks active (Rests asking asked acked answered taken none no_ack) = absurd (omega (arith, active, asked, acked))
-frame_way slots w v infos acks active (Goes info asking asked acked answered taken some seq start end no_ack) = absurd (omega (arith, active, acked))
-frame_way slots w v infos acks active (Works asking asked busy answered none no_ack) = Works asking asked busy answered none no_ack
-frame_way slots w v infos acks active (Comes ack asking asked acked answered some none one_ack start end) = absurd (omega (arith, active, acked))
+frame_way slots w v infos acks active given = grind arith
 
 pub frame_ways : (slots : ℕ) (sa ha sb hb : List (List ℕ)) (v w : SessionLog) → v.asked ≡ v.acks + 1 → Ways slots sa ha sb hb v w → Ways slots sa ha sb hb (more_taken v) w
 frame_ways slots sa ha sb hb v w active ways = record {

@@ -14,8 +14,7 @@ use Rattle.channel_laws.proofs.HandshakePlaces.{deal, open_place, place_open}
 use Rattle.channel_laws.proofs.Script.{before, bytes_at, is_role, last_or, one_if, said_at, said_by}
 use Rattle.channel_laws.specs.Sides.{Sides, other}
 use Rattle.port_model.proofs.Refuting.{true_false}
-use Rattle.port_model.specs.Spoken.{Other, Spoken, spoken}
-use Rattle.port_laws.specs.WaysStand.{ack_first, acks_in, info_first, infos_in}
+use Rattle.port_model.specs.Spoken.{Other, spoken}
 use Rattle.port_laws.proofs.PeerOpens.{Talks, mine_at, six_said}
 use Rattle.port_laws.proofs.WayMoves.{Plain}
 
@@ -27,16 +26,10 @@ place_other d _ = refl
 
 place_low : (d : Deal) (n : Place) → envelope_at (bytes_at d n) < 0x0042
 unfolding canonical
-place_low d AttributesAnswered = ltb-true (envelope_at (bytes_at d AttributesAnswered)) 0x0042 refl
-place_low d n = ltb-true (envelope_at (bytes_at d n)) 0x0042 refl
+place_low d n = grind (arith, ltb-true, bytes_at)
 
 plain_one : (b : Bool) (message : List ℕ) (messages : List (List ℕ)) → spoken message ≡ Other → envelope_at message < 0x0042 → Plain messages → Plain (one_if b message messages)
-plain_one true message messages is low plain = record {
-  infos = ap (λ (k : Spoken). info_first k message (infos_in messages)) is ∙ plain.infos;
-  acks = ap (λ (k : Spoken). ack_first k message (acks_in messages)) is ∙ plain.acks;
-  low = (low, plain.low);
-}
-plain_one false message messages is low plain = plain
+plain_one b message messages is low plain = grind arith
 
 row_plain : (d : Deal) (r : Role) (places : List Place) → Plain (said_by d r places)
 row_plain d r [] = record { infos = refl; acks = refl; low = tt }

@@ -20,16 +20,14 @@ use Rattle.channel_laws.specs.Sides.{sides_of, swapped}
 use Rattle.port_model.proofs.Refuting.{none_some, true_false}
 use Rattle.port_model.specs.EndLog.{EndLog, SessionLog, change, opened_log}
 use Rattle.port_model.specs.NetEndState.{NetSession}
-use Rattle.port_model.specs.NetEndStep.{Frame, Given, Joined, NetAnswer, NetLeft, Queued, Reset, Sent, Took}
+use Rattle.port_model.specs.NetEndStep.{Frame, Given, Joined, NetAnswer, NetLeft, Reset, Sent, Took}
 use Rattle.port_model.specs.NetEvent.{Asked, Gives, Injects, Loses, NetEvent, Pokes, Steps, Ticked, on_wire}
 use Rattle.port_model.specs.NetLaneState.{IsNetShape, NetLaneState, NetShape, memory_of, net_end, reach_of, role_at, seen_at}
 use Rattle.port_model.specs.NetLaneStep.{EndSteps, NetLaneStep, moved_on}
 use Rattle.port_model.specs.PortLog.{PortLog, after, after_answer, after_given, log_of_end, no_events}
 use Rattle.port_model.specs.PortState.{OfQueue, OnLane, PortEvent, PortState, PortStep, Receives, before, fresh_port}
-use Rattle.port_laws.specs.Counted.{unsaid}
 use Rattle.port_laws.specs.NetCore.{lane_core}
-use Rattle.port_laws.specs.RingHolds.{RingHolds}
-use Rattle.port_laws.specs.RingStands.{RingIn, taken_by, taken_in}
+use Rattle.port_laws.specs.RingStands.{RingIn, taken_in}
 use Rattle.port_laws.specs.WaysStand.{Ways, WaysStand, or_new}
 use Rattle.port_laws.proofs.EndCounting.{left_seen}
 use Rattle.port_laws.proofs.PortCounts.{PortCounts, before_queue, before_wire, queue_of}
@@ -48,28 +46,15 @@ use Rattle.port_laws.proofs.WayPlain.{BothPlain, closed_plain, open_heard, open_
 
 -- THE FRAMES THAT THE PEER TOOK are at most a turn of the ring
 pub new_taken : (log : Option SessionLog) → (or_new log).taken ≡ taken_in log
-new_taken None = refl
-new_taken (Some w) = refl
+new_taken log = grind arith
 
 turn_of : (slots taken seen : ℕ) (session : Option NetSession) (frames : List (List ℕ)) (memory : List ℕ) (p : NetSession) → session ≡ Some p → p.seen ≡ seen → RingIn slots taken session frames memory
     → taken ≤ seen + slots
-turn_of slots taken seen session frames memory p is same ring =
-    let here : RingHolds slots p.seen taken p.published frames memory = subst (λ (o : Option NetSession). RingIn slots taken o frames memory) is ring in
-    let first = here.taken_first in
-    let turn = here.turn in
-    omega (arith, first, turn, same)
+turn_of slots taken seen session frames memory p is same ring = grind arith
 
 pub turn_at : (shape : NetShape) (e : End) (u : PortState) (l : PortLog) (v : SessionLog) → Finds shape u l → state_of e u.lane.wire.wire ≡ Up → state_of (peer_of e) u.lane.wire.wire ≡ Up
     → (log_of_end e l).session ≡ Some v → (or_new (log_of_end (peer_of e) l).session).taken ≤ v.seen + l.shape.slots
-turn_at shape e u l v finds up other is =
-    let both = both_open (role_at e) shape.slots (queue_of e u) (net_end e u.lane) (log_of_end e l) v (end_counted shape e u l finds.ready) is in
-    let log : Option SessionLog = (log_of_end (peer_of e) l).session in
-    let seen : both.p.seen ≡ v.seen =
-    sym both.open_is.counts.ring.seen ∙ left_seen (unsaid (net_end e u.lane)) both.open_is.of_log ∙ ap (λ (x : SessionLog). x.seen) both.same in
-    let taken : taken_by (state_of (peer_of e) u.lane.wire.wire) log ≡ taken_in log = ap (λ (x : ChannelState). taken_by x log) other in
-    let turn = turn_of l.shape.slots (taken_by (state_of (peer_of e) u.lane.wire.wire) log) v.seen (net_end e u.lane).session (net_end e u.lane).frames (memory_of e u.lane) both.p both.is seen
-    (ring_of_end e u.lane l finds.rings up) in
-    omega (arith, turn, taken, new_taken log)
+turn_at shape e u l v finds up other is = grind (arith, both_open, end_counted, left_seen, turn_of, ring_of_end, new_taken)
 
 -- WHAT AN ANSWER FITS in a session
 right_in : (slots : ℕ) (groups : List (List ℕ)) (l : EndLog) (v : SessionLog) (ended : Option (List ℕ)) → l.session ≡ Some v
@@ -78,8 +63,7 @@ right_in slots groups l v None is right = tt
 right_in slots groups l v (Some message) is right = right message v refl is
 
 not_opens : (opens : Bool) → (opens ≡ true → ⊥) → opens ≡ false
-not_opens false not = refl
-not_opens true not = absurd (not refl)
+not_opens opens not = grind arith
 
 fits_at : (shape : NetShape) (e : End) (u t : PortState) (l : PortLog) (answer : NetAnswer) (left : NetLeft) (v : SessionLog) → Acts shape e u t l answer left → state_of (peer_of e) u.lane.wire.wire ≡ Up
     → (log_of_end e l).session ≡ Some v → IsFront (heard (turns_now answer (transcript_of e l.transcript))) (said (transcript_of (peer_of e) l.transcript))
@@ -117,21 +101,15 @@ fits_at shape e u t l answer left v acts other is front = by_answer answer acts 
     by_answer _ moves ahead = tt
 
 pub goes_theirs : (answer : NetAnswer) (x y : ChannelState) → Goes answer → theirs_now answer x y ≡ y
-goes_theirs (Joined lost) x y goes = absurd goes
-goes_theirs (Reset cause packet lost) x y goes = absurd goes
-goes_theirs _ x y goes = refl
+goes_theirs answer x y goes = grind arith
 
 pub peer_was_up : (shape : NetShape) (e : End) (u t : PortState) (l : PortLog) (answer : NetAnswer) (left : NetLeft) → Acts shape e u t l answer left → Goes answer → state_of (peer_of e) t.lane.wire.wire ≡ Up
     → state_of (peer_of e) u.lane.wire.wire ≡ Up
-peer_was_up shape e u t l answer left acts goes up =
-    sym (ap (λ (w : WireLog). state_of (peer_of e) w.wire) acts.now.wire ∙ (wire_now e u.lane answer).theirs
-    ∙ goes_theirs answer (state_of e u.lane.wire.wire) (state_of (peer_of e) u.lane.wire.wire) goes) ∙ up
+peer_was_up shape e u t l answer left acts goes up = grind (arith, wire_now, goes_theirs)
 
 -- A STEP OF THE GUEST
 pub guest_goes : (slots : ℕ) (turns : List Turn) (answer : NetAnswer) (l : EndLog) → (after_answer slots turns answer l).session ≢ None → Goes answer
-guest_goes slots turns (Joined lost) l some = absurd (some refl)
-guest_goes slots turns (Reset cause packet lost) l some = absurd (some refl)
-guest_goes slots turns _ l some = tt
+guest_goes slots turns answer l some = grind arith
 
 none_change : (f : SessionLog → SessionLog) (log : Option SessionLog) → log ≡ None → change f log ≡ None
 none_change f log is = ap (change f) is
@@ -146,16 +124,7 @@ opening_sent slots turns (Reset cause packet lost) l none some few many = absurd
 opening_sent slots turns _ l none some few many = absurd (omega (arith, few, many))
 
 pub hub_none : (shape : NetShape) (u : PortState) (l : PortLog) → Finds shape u l → IsUp B u.lane.wire.wire → l.guest.session ≡ None → l.hub.session ≡ None
-hub_none shape u l finds up none = by_log l.hub.session refl
-  where
-    by_log : (log : Option SessionLog) → l.hub.session ≡ log → l.hub.session ≡ None
-    by_log None is = is
-    by_log (Some w) is =
-        let hub = open_both Responder shape.slots u.queue u.lane.hub l.hub finds.ready.hub in
-        let guest = open_both Initiator shape.slots [] u.lane.guest l.guest finds.ready.guest in
-        let some : l.hub.session ≢ None = λ gone. none_some w (sym gone ∙ is) in
-        let there = six_open shape (lane_core u.lane) l finds.talks up (hub.opened some) in
-        true_false (sym there ∙ guest.shut none)
+hub_none shape u l finds up none = grind (arith, open_both, none_some, six_open, true_false)
 
 open_step : (shape : NetShape) (e : End) (u t : PortState) (l : PortLog) (answer : NetAnswer) (left : NetLeft) (v : SessionLog) → Acts shape e u t l answer left → Goes answer
     → state_of (peer_of e) u.lane.wire.wire ≡ Up → (log_of_end e l).session ≡ Some v
@@ -290,13 +259,10 @@ hub_plain shape u t l answer left acts goes up none = by_log then_.hub.session r
 
 -- an end in session has a peer that is up
 pub guest_open_up : (shape : NetShape) (u : PortState) (l : PortLog) → Finds shape u l → IsUp A u.lane.wire.wire → l.guest.session ≢ None → IsUp B u.lane.wire.wire
-guest_open_up shape u l finds up some =
-    let guest = open_both Initiator shape.slots [] u.lane.guest l.guest finds.ready.guest in up_open shape (lane_core u.lane) l finds.talks up (guest.opened some)
+guest_open_up shape u l finds up some = grind (arith, open_both, up_open)
 
 pub hub_goes : (answer : NetAnswer) (x y : ChannelState) → (y ≡ Up → x ≡ Up) → theirs_now answer x y ≡ Up → Goes answer
-hub_goes (Joined lost) x y means up = let both = peer_up x y up in absurd (both.0 (means both.1))
-hub_goes (Reset cause packet lost) x y means up = let both = peer_up x y up in absurd (both.0 (means both.1))
-hub_goes _ x y means up = tt
+hub_goes answer x y means up = grind (arith, peer_up)
 
 hub_ways : (shape : NetShape) (u t : PortState) (l : PortLog) (answer : NetAnswer) (left : NetLeft) → Acts shape B u t l answer left → WaysStand u.lane l
     → WaysStand t.lane (after l (OnLane (Steps B answer)))
@@ -351,12 +317,10 @@ hub_ways shape u t l answer left acts ways other up some = by_log l.hub.session 
 
 -- WHAT ISN'T A STEP
 pub never_alone : (shape : NetShape) (u : PortState) (l : PortLog) (X : Type 0) → Finds shape u l → l.guest.session ≢ None → peer_behind u.lane.wire.wire.end_b u.lane.wire.wire.end_a ≡ Up → X
-never_alone shape u l X finds some up =
-    let both = peer_up u.lane.wire.wire.end_b u.lane.wire.wire.end_a up in absurd (both.0 (guest_open_up shape u l finds both.1 some))
+never_alone shape u l X finds some up = grind (arith, peer_up, guest_open_up)
 
 given_same : (given : Given) (l : EndLog) → (after_given given l).session ≡ l.session
-given_same (Queued id frame) l = refl
-given_same _ l = refl
+given_same given l = grind arith
 
 pub acts_of : (shape : NetShape) (e : End) (u t : PortState) (l : PortLog) (answer : NetAnswer) → Finds shape u l → (step : EndSteps e u.lane answer t.lane)
     → PortCounts shape t (after l (OnLane (Steps e answer))) → PortTalks shape (lane_core t.lane) (after l (OnLane (Steps e answer))) → Acts shape e u t l answer step.left

@@ -1,8 +1,7 @@
 -- What a port's ends say and hear, and how their sessions open, event by event.
-use Rattle.std.proofs.Common.{◌≡◌, ℕ, Bool, true, false, Option, Some, None, List, ◌∷◌, refl, sym, subst, ap, ◌∙◌}
+use Rattle.std.proofs.Common.{◌≡◌, ℕ, Bool, true, false, Option, List, ◌∷◌, refl, sym, subst, ap, ◌∙◌, arith}
 use Rattle.ldc_link.specs.declared.phase.Role.TheVariants.{Initiator, Responder}
 use Rattle.ldc_queue.specs.declared.end.End.{End}
-use Rattle.ldc_queue.specs.declared.end.End.TheVariants.{A, B}
 use Rattle.ldc_queue.specs.Transcript.{Heard, Said, Turn}
 use Rattle.runs.specs.Lawful.{Lawful, log_of}
 use Rattle.runs.specs.Run.{Run}
@@ -16,12 +15,12 @@ use Rattle.channel_laws.specs.LaneCore.{end_of, role_of, transcript_behind}
 use Rattle.channel_laws.proofs.OpeningOrder.{opens_hearing, opens_saying}
 use Rattle.port_model.specs.FrameLaws.{OpeningsAt}
 use Rattle.port_model.specs.NetEndStep.{Sent, Took}
-use Rattle.port_model.specs.NetEvent.{Steps, on_wire}
+use Rattle.port_model.specs.NetEvent.{Steps}
 use Rattle.port_model.specs.NetLaneState.{IsNetShape, NetShape, role_at}
 use Rattle.port_model.specs.Offers.{port_offer}
 use Rattle.port_model.specs.PortLog.{PortLog, after, no_events}
 use Rattle.port_model.specs.PortMay.{IfOnWire, OfWire}
-use Rattle.port_model.specs.PortState.{OnLane, PortEvent, PortState, PortStep, Receives, fresh_port}
+use Rattle.port_model.specs.PortState.{OnLane, PortEvent, PortState, PortStep, fresh_port}
 use Rattle.port_laws.specs.NetCore.{event_core}
 use Rattle.port_laws.specs.PortCore.{port_core, port_event, port_events}
 use Rattle.port_laws.proofs.CoreLaws.{order_of, role_same, sizes_fit}
@@ -29,20 +28,13 @@ use Rattle.port_laws.proofs.PortRuns.{SameLog, fresh_port_core, lawful_along, la
 
 -- of the channel's event
 of_event : (Holds : WireEvent → Type 0) (event : Option WireEvent) → core.OfChannel Holds (event_core event) → IfOnWire Holds event
-of_event Holds None holds = tt
-of_event Holds (Some event) holds = holds
+of_event Holds event holds = grind arith
 
 said_means : (c : core.CoreLog) (l : PortLog) (event : PortEvent) → SameLog c l → core.SaidAt c (port_event event) → OfWire (WireSaidAt l.transcript) event
-said_means c l (OnLane event) same said =
-    of_event (WireSaidAt l.transcript) (on_wire event)
-    (subst (λ (x : TranscriptLog). core.OfChannel (WireSaidAt x) (event_core (on_wire event))) same.transcript said)
-said_means c l (Receives frame) same said = tt
+said_means c l event same said = grind (arith, of_event)
 
 heard_means : (c : core.CoreLog) (l : PortLog) (event : PortEvent) → SameLog c l → core.HeardAt c (port_event event) → OfWire (WireHeardAt l.transcript) event
-heard_means c l (OnLane event) same heard =
-    of_event (WireHeardAt l.transcript) (on_wire event)
-    (subst (λ (x : TranscriptLog). core.OfChannel (WireHeardAt x) (event_core (on_wire event))) same.transcript heard)
-heard_means c l (Receives frame) same heard = tt
+heard_means c l event same heard = grind (arith, of_event)
 
 same_start : (shape : NetShape) → SameLog (core.nothing_yet shape.entries) (no_events shape)
 same_start shape = record { entries = refl; wire = refl; transcript = refl }
@@ -63,16 +55,13 @@ port_hears shape events s is run =
 
 -- SESSIONS OPEN in the order of the handshake
 port_rings : (s : PortState) (e : End) → (end_of e (port_core s)).offer.both_rings ≡ true
-port_rings s A = refl
-port_rings s B = refl
+port_rings s e = grind arith
 
 turn_says : (e : End) (packet : List ℕ) (l : TranscriptLog) → transcript_of e (says e packet l) ≡ Said packet ∷ transcript_of e l
-turn_says A packet l = refl
-turn_says B packet l = refl
+turn_says e packet l = grind arith
 
 turn_hears : (e : End) (packet : List ℕ) (l : TranscriptLog) → transcript_of e (hears e packet l) ≡ Heard packet ∷ transcript_of e l
-turn_hears A packet l = refl
-turn_hears B packet l = refl
+turn_hears e packet l = grind arith
 
 order_in : (e : End) (turns now : List Turn) → turns ≡ now → HandshakeOrder true (role_at e) turns → HandshakeOrder true (role_at e) now
 order_in e turns now is order = subst (HandshakeOrder true (role_at e)) is order
@@ -103,9 +92,7 @@ hears_order shape events s e packet true t is run step =
 
 opens_at : (shape : NetShape) (is : IsNetShape shape) (events : List PortEvent) (s : PortState) (event : PortEvent) (t : PortState) → Run PortStep (fresh_port shape) events s → PortStep s event t
     → OpeningsAt (log_of after (no_events shape) events) event
-opens_at shape is events s (OnLane (Steps e (Sent packet opens))) t run step = says_order shape events s e packet opens t is run step
-opens_at shape is events s (OnLane (Steps e (Took packet opens))) t run step = hears_order shape events s e packet opens t is run step
-opens_at shape is events s _ t run step = tt
+opens_at shape is events s event t run step = grind (arith, says_order, hears_order)
 
 pub port_opens : (shape : NetShape) (events : List PortEvent) (s : PortState) → IsNetShape shape → Run PortStep (fresh_port shape) events s
     → Lawful OpeningsAt after (no_events shape) events
