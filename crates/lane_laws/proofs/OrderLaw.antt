@@ -21,15 +21,16 @@ use Rattle.disk_model.specs.LaneStep.{CallsReset, EndOnWire, LaneStep, ResetBy, 
 use Rattle.disk_model.specs.ServerRule as server
 use Rattle.disk_model.specs.ServerState.{ServerSession, ServerState, Work, joined_server, restarted_server}
 use Rattle.disk_model.specs.ServerStep.{ServerFails}
-use Rattle.lane_laws.specs.BlockLog.{Clear}
+use Rattle.channel_laws.specs.Blockage.{Clear}
 use Rattle.lane_laws.specs.DiskLog.{DiskLog}
 use Rattle.lane_laws.specs.OrderLaws.{HasAnswered, HasCompleted, HasPublished, OrderAt, OwesNothing, PublishesAt, PutsAt, ServesAt, TakesAt}
 use Rattle.lane_laws.specs.Sound.{InOrder}
 use Rattle.lane_laws.specs.WorkLog.{ClientCounts}
 use Rattle.lane_laws.proofs.BlockedLaw.{Told, client_to_put, server_to_put}
-use Rattle.lane_laws.proofs.ClientFolds.{not_stuck}
+use Rattle.channel_laws.proofs.EndSending.{not_stuck}
 use Rattle.lane_laws.proofs.Counting.{of_client}
-use Rattle.lane_laws.proofs.EndsFold.{BothAre, first_false}
+use Rattle.lane_laws.proofs.EndsFold.{BothAre}
+use Rattle.lane_laws.specs.ChannelEnds.{client_core, server_core}
 use Rattle.channel_laws.proofs.Apart.{some_same}
 use Rattle.channel_laws.proofs.EndsAtRest.{none_waits}
 use Rattle.lane_laws.proofs.IdleLaw.{not_below, past_all, same_waiting, some_client}
@@ -74,7 +75,7 @@ publishes_order s l session request told rule =
       completed_in_log s l told.grounded rests.completed,
       client_owes_nothing s l told (control_free s.client.link (owes_control s.client.link) refl rests.free) rests.owed,
       same_waiting A s l told.grounded (none_waits (waiting_for A s.wire.wire) rests.first),
-      not_stuck s.client.link l.blocked.client told.both.client.link rests.free,
+      not_stuck (client_core s.client) l.blocked.client told.both.client rests.free,
     )
 
 -- IT TAKES
@@ -112,7 +113,7 @@ answered_in_log : (s : LaneState) (l : DiskLog) → Grounded s l → TakesFree s
 answered_in_log s l grounded free = grind arith
 
 server_clear : (s : LaneState) (l : DiskLog) → BothAre s l → owes s.server.link ≡ false → l.blocked.server ≡ Clear
-server_clear s l both free = not_stuck s.server.link l.blocked.server both.server.link free
+server_clear s l both free = not_stuck (server_core s.server) l.blocked.server both.server free
 
 fetches_clear : (s : LaneState) (l : DiskLog) (session : ServerSession) → Told s l → server.server_rule s.server (at_server s) ≡ server.Fetches session → ServesAt l
 fetches_clear s l session told rule =
