@@ -1,7 +1,7 @@
 -- The ranges that an end says and hears. An INFO that is said has the next number, begins where the one before it ended and names all that
 -- was published since; one that is heard is the next too. An ACK that is heard names announced ones alone, and one that is said is that of the
 -- range in work, the last of it finished.
-use Rattle.std.proofs.Common.{◌≡◌, ◌≢◌, ℕ, ◌+◌, ◌-◌, ◌%◌, ◌^◌, ◌<◌, ◌≤◌, Bool, true, Option, Some, None, List, ◌∷◌, ◌++◌, drop, length, length-drop, refl, sym, ap, ◌∙◌, subst, arith, inl, inr, ◌⊎◌}
+use Rattle.std.proofs.Common.{◌≡◌, ◌≢◌, ℕ, ◌+◌, ◌-◌, ◌%◌, ◌^◌, ◌<◌, ◌≤◌, Bool, true, Option, Some, None, List, ◌∷◌, ◌++◌, drop, length, length-drop, refl, sym, ap, ◌∙◌, subst, arith, inl, inr, ◌⊎◌, false}
 use Rattle.std.specs.Prelude.{is_none, is_some}
 use Rattle.std.proofs.lemmas.Nat.{mod_below}
 use Rattle.ldc_packet.specs.declared.packet.Subtype.{Subtype}

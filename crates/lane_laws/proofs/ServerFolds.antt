@@ -12,7 +12,6 @@ use Rattle.vio_tag.specs.declared.message.Message.{Message}
 use Rattle.vio_tag.specs.declared.message.MsgBody.TheVariants.{DringData}
 use Rattle.vio_tag.specs.Spelling.{SpellsBody, canonical, envelope_code}
 use Rattle.lane_laws.proofs.Speaking.{server_holds_owed}
-use Rattle.lane_laws.specs.BlockLog.{Blockage, Clear, hearing, stuck}
 use Rattle.lane_laws.specs.EndLog.{answered_by, asked_by, range_in_work, range_of}
 use Rattle.channel_model.specs.EndPuts.{ComesUp, EndsOwn, EndsHandshake, Goes, PutKind}
 use Rattle.channel_model.specs.Messages.{ended_by, is_range, range_if, range_in}
@@ -23,7 +22,6 @@ use Rattle.disk_model.specs.ServerRule.{Fetches, Puts, Says, ServerRule}
 use Rattle.disk_model.specs.ServerState.{ServerSession, ServerState, SlotRange, joined_server, restarted_server}
 use Rattle.disk_model.specs.ServerStep.{ServerFetches, ServerFinishes, ServerMoves, ServerStores}
 use Rattle.cookie_copy.specs.Reach.{Reach}
-use Rattle.lane_laws.proofs.ClientFolds.{LinkIs, link_begins, link_puts, link_stuck, owes_up}
 use Rattle.channel_laws.proofs.Apart.{none_is_some, some_same}
 use Rattle.channel_laws.proofs.PutSayings.{PutSays}
 use Rattle.channel_laws.proofs.EndStanding.{SameSending, open_up, owing_up}
