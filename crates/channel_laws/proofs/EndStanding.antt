@@ -105,7 +105,7 @@ offered_stands : (role : Role) (c held : EndCore) (turns : List Turn) (message :
 offered_stands role c held turns message stands up quiet long link handshake offer is_open more carries = grind arith
 
 pub held_stands : (role : Role) (c held : EndCore) (turns : List Turn) (what : Holding) → EndStands role c turns → Holds c what held → EndStands role held turns
-held_stands role c held turns HoldsOn stands is = subst (λ (x : EndCore). EndStands role x turns) (sym is) stands
+held_stands role c held turns HoldsOn stands still = subst (λ (x : EndCore). EndStands role x turns) (sym still.is) stands
 held_stands role c held turns (HoldsOwed message) stands offers =
     offered_stands role c held turns message stands (owing_up role c turns message stands offers.owed) offers.quiet
     (short_within message (subst OwedIsShort offers.owed stands.handshake.owed)) offers.link offers.handshake offers.offer offers.is_open

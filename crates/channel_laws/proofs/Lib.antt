@@ -49,3 +49,5 @@ pub mod KnownAttributes
 pub mod PacketCauses
 pub mod CausesSaid
 pub mod LossesTold
+pub mod EndSending
+pub mod NextHeard

@@ -87,8 +87,13 @@ pub record OffersOwn (c : EndCore) (message : Message) (held : EndCore) : Type 0
   pub most : held.more ≤ c.more
   pub more : is_up c.link ≡ true → held.more + 1 ≤ c.more
 
+-- it has something to put already
+pub record HoldsStill (c held : EndCore) : Type 0 where
+  pub is : held ≡ c
+  pub owing : owes c.link ≡ true
+
 abbrev pub Holds : EndCore → Holding → EndCore → Type 0
-Holds c HoldsOn held = held ≡ c
+Holds c HoldsOn held = HoldsStill c held
 Holds c (HoldsOwed message) held = OffersOwed c message held
 Holds c (HoldsOwn message) held = OffersOwn c message held
 

@@ -21,3 +21,4 @@ pub mod KnownAttributes
 pub mod PacketCauses
 pub mod LossStands
 pub mod EndRests
+pub mod Blockage

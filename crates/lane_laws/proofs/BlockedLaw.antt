@@ -22,7 +22,7 @@ use Rattle.lane_laws.specs.OrderLaws.{HasToPut}
 use Rattle.lane_laws.specs.RuleFacts.{ClientMay}
 use Rattle.lane_laws.specs.Sound.{InOrder}
 use Rattle.lane_laws.specs.WorkLaws.{client_handshake, server_handshake}
-use Rattle.lane_laws.proofs.ClientFolds.{calm_up, sends_some}
+use Rattle.channel_laws.proofs.EndSending.{calm_up, sends_some}
 use Rattle.lane_laws.proofs.ClientPutCounting.{OwnInfo, own_info}
 use Rattle.lane_laws.proofs.EndsFold.{BothAre}
 use Rattle.lane_laws.proofs.RangeLaw.{AreTold}

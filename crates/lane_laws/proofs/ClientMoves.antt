@@ -29,7 +29,7 @@ use Rattle.channel_laws.specs.EndStep.{EndBegins, EndFails, EndHears, EndSays, E
 use Rattle.lane_laws.proofs.ClientAnswers.{Answers, comes_to, goes_by}
 use Rattle.lane_laws.proofs.ClientHolding.{client_held, not_own}
 use Rattle.channel_laws.proofs.EndStanding.{SameSending, heard_leaves, up_empty}
-use Rattle.lane_laws.proofs.RulesFree.{nothing_owed, takes_calm}
+use Rattle.lane_laws.proofs.RulesFree.{nothing_owed, puts_owe, takes_calm}
 use Rattle.lane_laws.proofs.Ruling.{client_may}
 use Rattle.lane_laws.proofs.Sharing.{in_order, infos_few}
 use Rattle.lane_laws.specs.Budget.{infos_left, one_if}
@@ -204,21 +204,22 @@ holds_announces s session sound quiet owed is more =
 to_the : (s one other : ClientState) → Some one ≡ Some other → HoldsTo s one → HoldsTo s other
 to_the s one other is to = let same : one ≡ other = some_same is in subst (HoldsTo s) same to
 
-holds_by : (s : ClientState) (at : Seen) (rule : ClientRule) (held : ClientState) → ClientSound s → ClientMay s at rule → client_holds rule s ≡ Some held → HoldsTo s held
-holds_by s at Puts held sound may is = to_the s s held is (record { what = HoldsOn; holds = refl })
-holds_by s at (Says message) held sound may is = to_the s (holding message s) held is (holds_says s message sound may.1 may.2)
-holds_by s at (Announces session) held sound may is =
+holds_by : (s : ClientState) (at : Seen) (rule : ClientRule) (held : ClientState) → client_rule s at ≡ rule → ClientSound s → ClientMay s at rule → client_holds rule s ≡ Some held
+    → HoldsTo s held
+holds_by s at Puts held rule_is sound may is = to_the s s held is (record { what = HoldsOn; holds = record { is = refl; owing = puts_owe s at rule_is } })
+holds_by s at (Says message) held rule_is sound may is = to_the s (holding message s) held is (holds_says s message sound may.1 may.2)
+holds_by s at (Announces session) held rule_is sound may is =
     to_the s (announcing session (holding (announcement s session) s)) held is (holds_announces s session sound may.1 may.2 may.3 may.4)
-holds_by s at _ held sound may is = none_is_some is
+holds_by s at _ held rule_is sound may is = none_is_some is
 
 pub client_waits : (s : ClientState) (at : Seen) (t : ClientState) → ClientSound s → client_holds (client_rule s at) s ≡ Some t → EndWaits (client_core s) (client_core t)
-client_waits s at t sound is = let to = holds_by s at (client_rule s at) t sound (client_may s at) is in record { what = to.what; holds = to.holds }
+client_waits s at t sound is = let to = holds_by s at (client_rule s at) t refl sound (client_may s at) is in record { what = to.what; holds = to.holds }
 
 pub held_open : (s : ClientState) (at : Seen) (held : ClientState) → ClientSound s → client_holds (client_rule s at) s ≡ Some held → is_some held.session ≡ is_some s.session
-held_open s at held sound is = let to = holds_by s at (client_rule s at) held sound (client_may s at) is in by_what to.what to.holds
+held_open s at held sound is = let to = holds_by s at (client_rule s at) held refl sound (client_may s at) is in by_what to.what to.holds
   where
     by_what : (what : Holding) → Holds (client_core s) what (client_core held) → is_some held.session ≡ is_some s.session
-    by_what HoldsOn same = ap (λ (x : EndCore). x.is_open) same
+    by_what HoldsOn still = ap (λ (x : EndCore). x.is_open) still.is
     by_what (HoldsOwed message) offers = offers.is_open
     by_what (HoldsOwn message) offers = offers.is_open
 
@@ -248,7 +249,7 @@ puts_to packet opens held sound is = grind (arith, put_own_in)
 pub client_says : (s : ClientState) (at : Seen) (memory packet : List ℕ) (opens : Bool) (t : ClientState) (new : List ℕ) → ClientSound s → ClientSound t
     → ClientSends s at memory packet opens t new → EndSays Initiator (client_core s) packet opens (client_core t)
 client_says s at memory packet opens t new sound behind sends =
-    let to = holds_by s at (client_rule s at) sends.held sound (client_may s at) sends.holds in
+    let to = holds_by s at (client_rule s at) sends.held refl sound (client_may s at) sends.holds in
     let puts : PutsTo packet opens sends.held t = subst (PutsTo packet opens sends.held) (sym sends.is) (puts_to packet opens sends.held (client_held s at (client_rule s at) sends.held (client_may s at) sends.holds sound) sends.opens_is) in
     record {
       held = client_core sends.held;

@@ -1,42 +1,31 @@
 -- On a lane that nobody forged each message that an end heard is as the other's handshake has it.
-use Rattle.std.proofs.Common.{◌≡◌, ℕ, false, List, [], ◌∷◌, ◌++◌, subst}
+use Rattle.std.proofs.Common.{◌≡◌, false, List, map, subst}
 use Rattle.runs.specs.Run.{Run}
-use Rattle.ldc_link.specs.declared.phase.Role.{Role}
 use Rattle.ldc_link.specs.declared.phase.Role.TheVariants.{Initiator, Responder}
 use Rattle.ldc_queue.specs.declared.end.End.TheVariants.{A, B}
-use Rattle.ldc_queue.specs.OneStream.{IsFront}
-use Rattle.vio_handshake.specs.declared.handshake.Phase.{Phase}
-use Rattle.vio_handshake.specs.declared.session.Offer.{Offer}
-use Rattle.vio_handshake.specs.declared.session.Session.{Session}
-use Rattle.channel_model.specs.Sayings.{heard, said}
+use Rattle.channel_model.specs.Sayings.{heard}
+use Rattle.channel_model.specs.TranscriptLog.{TranscriptLog}
 use Rattle.channel_model.specs.WireAt.{IsUp}
 use Rattle.disk_model.specs.DiskEvent.{DiskEvent}
 use Rattle.disk_model.specs.LaneState.{IsShape, LaneState, Shape, fresh}
 use Rattle.disk_model.specs.LaneStep.{LaneStep}
-use Rattle.lane_laws.proofs.HeardFront.{heard_messages}
-use Rattle.lane_laws.proofs.Speaking.{client_said, server_said}
-use Rattle.lane_laws.specs.LaneTranscripts.{transcript_behind}
+use Rattle.channel_laws.proofs.Sessions.{heard_as_said}
 use Rattle.channel_laws.specs.Utterances.{SaysEach}
-
-each_before : (role : Role) (p : Phase) (offer : Offer) (draft : Session) (xs rest : List (List ℕ)) → SaysEach role p offer draft (xs ++ rest) → SaysEach role p offer draft xs
-each_before role p offer draft [] rest says = tt
-each_before role p offer draft (bytes ∷ xs) rest says = (says.0, each_before role p offer draft xs rest says.1)
-
-each_front : (role : Role) (p : Phase) (offer : Offer) (draft : Session) (xs ys : List (List ℕ)) → IsFront xs ys → SaysEach role p offer draft ys
-    → SaysEach role p offer draft xs
-each_front role p offer draft xs ys front says =
-    each_before role p offer draft xs front.0 (subst (λ (zs : List (List ℕ)). SaysEach role p offer draft zs) front.1 says)
+use Rattle.lane_laws.proofs.LaneChannel.{answers_of, asks_of}
+use Rattle.lane_laws.proofs.LaneCores.{lane_cores, lane_fits, said_same}
+use Rattle.lane_laws.specs.ChannelEnds.{core_event, core_of}
+use Rattle.lane_laws.specs.LaneTranscripts.{transcript_behind}
 
 pub client_heard : (shape : Shape) (events : List DiskEvent) (s : LaneState) → IsShape shape → Run LaneStep (fresh shape) events s
     → s.wire.forged ≡ false → IsUp A s.wire.wire
     → SaysEach Responder s.server.handshake.phase s.server.handshake.offer s.server.handshake.draft (heard (transcript_behind events).client)
 client_heard shape events s sound run clean up =
-    each_front Responder s.server.handshake.phase s.server.handshake.offer s.server.handshake.draft (heard (transcript_behind events).client) (said (transcript_behind events).server)
-    (heard_messages shape events s A sound run clean up) (server_said shape events s sound run)
+    subst (λ (l : TranscriptLog). SaysEach Responder s.server.handshake.phase s.server.handshake.offer s.server.handshake.draft (heard l.client)) (said_same events)
+    (heard_as_said shape.entries (asks_of shape) (answers_of shape) (map core_event events) (core_of s) A (lane_fits shape sound) (lane_cores shape events s sound run) clean up)
 
 pub server_heard : (shape : Shape) (events : List DiskEvent) (s : LaneState) → IsShape shape → Run LaneStep (fresh shape) events s
     → s.wire.forged ≡ false → IsUp B s.wire.wire
     → SaysEach Initiator s.client.handshake.phase s.client.handshake.offer s.client.handshake.draft (heard (transcript_behind events).server)
 server_heard shape events s sound run clean up =
-    each_front Initiator s.client.handshake.phase s.client.handshake.offer s.client.handshake.draft (heard (transcript_behind events).server) (said (transcript_behind events).client)
-    (heard_messages shape events s B sound run clean up) (client_said shape events s sound run)
+    subst (λ (l : TranscriptLog). SaysEach Initiator s.client.handshake.phase s.client.handshake.offer s.client.handshake.draft (heard l.server)) (said_same events)
+    (heard_as_said shape.entries (asks_of shape) (answers_of shape) (map core_event events) (core_of s) B (lane_fits shape sound) (lane_cores shape events s sound run) clean up)

@@ -1,7 +1,7 @@
 -- What an end heard is a front of what the other said, on a lane that nobody forged.
 use Rattle.std.proofs.Common.{◌≡◌, false, List, [], map, subst}
 use Rattle.runs.specs.Run.{Run}
-use Rattle.ldc_link.specs.declared.phase.Role.TheVariants.{Initiator, Responder}
+use Rattle.ldc_link.specs.declared.phase.Role.TheVariants.{Initiator}
 use Rattle.ldc_queue.specs.declared.end.ChannelState.TheVariants.{Up}
 use Rattle.ldc_queue.specs.declared.end.End.{End}
 use Rattle.ldc_queue.specs.declared.end.End.TheVariants.{A, B}
@@ -14,12 +14,11 @@ use Rattle.channel_model.specs.WireAt.{IsUp}
 use Rattle.disk_model.specs.DiskEvent.{DiskEvent}
 use Rattle.disk_model.specs.LaneState.{IsShape, LaneState, Shape, fresh}
 use Rattle.disk_model.specs.LaneStep.{LaneStep}
-use Rattle.channel_laws.proofs.Conversations.{swap_converse}
 use Rattle.channel_laws.proofs.ConversingRuns as core
 use Rattle.channel_laws.proofs.CoreLaws.{conversing}
 use Rattle.channel_laws.proofs.Sessions.{open_sessions_up}
 use Rattle.channel_laws.specs.Conversing.{Converse}
-use Rattle.channel_laws.specs.Sides.{sides_of, swapped}
+use Rattle.channel_laws.specs.Sides.{sides_of}
 use Rattle.lane_laws.proofs.LaneChannel.{answers_of, asks_of}
 use Rattle.lane_laws.proofs.LaneCores.{lane_cores, lane_fits, said_same}
 use Rattle.lane_laws.specs.ChannelEnds.{core_event, core_of}
@@ -50,12 +49,6 @@ pub unheard_client : (shape : Shape) (events : List DiskEvent) (s : LaneState) �
     → IsUp A s.wire.wire → (s.wire.wire.end_b ≡ Up → ⊥) → heard (transcript_behind events).client ≡ []
 unheard_client shape events s sound run clean up not =
     core.unheard Initiator (sides_of (core_of s) (transcript_behind events)) (lane_converses shape events s sound run clean) up not
-
-pub unheard_server : (shape : Shape) (events : List DiskEvent) (s : LaneState) → IsShape shape → Run LaneStep (fresh shape) events s → s.wire.forged ≡ false
-    → IsUp B s.wire.wire → (s.wire.wire.end_a ≡ Up → ⊥) → heard (transcript_behind events).server ≡ []
-unheard_server shape events s sound run clean up not =
-    core.unheard Responder (swapped (sides_of (core_of s) (transcript_behind events)))
-    (swap_converse Initiator (sides_of (core_of s) (transcript_behind events)) (lane_converses shape events s sound run clean)) up not
 
 -- BOTH ARE UP where both sessions are open
 pub both_up : (shape : Shape) (events : List DiskEvent) (s : LaneState) → IsShape shape → Run LaneStep (fresh shape) events s → s.wire.forged ≡ false

@@ -3,10 +3,9 @@ use Rattle.std.proofs.Common.{◌≡◌, ℕ, ◌+◌, ◌*◌, ◌≤◌, Bool,
 use Rattle.std.specs.Prelude.{is_some}
 use Rattle.runs.specs.Lawful.{log_of}
 use Rattle.runs.specs.Run.{Run}
+use Rattle.ldc_link.specs.declared.phase.Role.TheVariants.{Initiator}
 use Rattle.ldc_queue.specs.declared.end.ChannelState.{ChannelState}
 use Rattle.ldc_queue.specs.declared.end.ChannelState.TheVariants.{Up}
-use Rattle.vio_tag.specs.declared.message.MsgBody.TheVariants.{Ver}
-use Rattle.vio_handshake.specs.Messages.{ack, info}
 use Rattle.channel_model.specs.Sayings.{heard}
 use Rattle.lane_laws.specs.DiskLog.{after, nothing_yet}
 use Rattle.disk_model.specs.ClientState.{ClientState}
@@ -17,14 +16,16 @@ use Rattle.disk_model.specs.ServerState.{ServerState}
 use Rattle.lane_laws.proofs.FlightAlong.{run_flight}
 use Rattle.lane_laws.proofs.FlightRuns.{InFlight}
 use Rattle.lane_laws.proofs.FlightSums.{FewFly}
-use Rattle.lane_laws.proofs.Speaking.{client_open_rests, server_open_rests}
+use Rattle.lane_laws.proofs.Speaking.{run_rests}
 use Rattle.lane_laws.proofs.LifeBound.{RequestsLeft, by_sessions}
 use Rattle.lane_laws.specs.Budget.{infos_begun}
 use Rattle.lane_laws.specs.Counted.{one_where, range_count}
 use Rattle.lane_laws.specs.LaneTranscripts.{transcript_behind}
 use Rattle.lane_laws.specs.Remaining.{absent, asked_by, client_left, client_packets, life, remaining, second_life, server_left, server_packets}
-use Rattle.lane_laws.proofs.HeardFront.{unheard_client, unheard_server}
-use Rattle.channel_laws.proofs.Sessions.{not_among}
+use Rattle.lane_laws.proofs.HeardFront.{unheard_client}
+use Rattle.lane_laws.proofs.OneSession.{client_in_session}
+use Rattle.channel_laws.proofs.Sessions.{open_heard}
+use Rattle.lane_laws.specs.ChannelEnds.{client_core}
 
 -- an end that is up has no session where the other isn't
 closed_by : {X : Type 0} (o : Option X) → (is_some o ≡ true → ⊥) → o ≡ None
@@ -34,16 +35,13 @@ closed_by {X} (Some x) never = absurd (never refl)
 client_closed : (shape : Shape) (events : List DiskEvent) (s : LaneState) → IsShape shape → Run LaneStep (fresh shape) events s → s.wire.forged ≡ false → s.wire.wire.end_a ≡ Up
     → (s.wire.wire.end_b ≡ Up → ⊥) → s.client.session ≡ None
 client_closed shape events s sound run clean up alone =
+    let rests = (run_rests shape events s sound run).client in
     closed_by s.client.session (λ now.
-    let rests = client_open_rests shape events s sound run now in
-    not_among (ack s.client.handshake.draft.sid (Ver 1 s.client.handshake.draft.minor rests.version.0)) (heard (transcript_behind events).client) (unheard_client shape events s sound run clean up alone) rests.version.1)
+    open_heard Initiator (client_core s.client) (transcript_behind events).client (record { stands = rests.stands; rests = rests.rests }) now (unheard_client shape events s sound run clean up alone))
 
 server_closed : (shape : Shape) (events : List DiskEvent) (s : LaneState) → IsShape shape → Run LaneStep (fresh shape) events s → s.wire.forged ≡ false → s.wire.wire.end_b ≡ Up
     → (s.wire.wire.end_a ≡ Up → ⊥) → s.server.session ≡ None
-server_closed shape events s sound run clean up alone =
-    closed_by s.server.session (λ now.
-    let rests = server_open_rests shape events s sound run now in
-    not_among (info s.server.handshake.draft.sid (Ver 1 rests.version.0 rests.version.1)) (heard (transcript_behind events).server) (unheard_server shape events s sound run clean up alone) rests.version.2)
+server_closed shape events s sound run clean up alone = closed_by s.server.session (λ now. alone (client_in_session shape events s sound run clean up now).up)
 
 -- THE SUMS, by who is up
 record Facts (x y : ChannelState) (a b : ℕ) (lossy : Bool) (c : ClientState) (v : ServerState) (answers : ℕ) : Type 0 where

@@ -20,7 +20,7 @@ use Rattle.disk_model.specs.LaneState.{LaneState, NearCounts, near_disturbed}
 use Rattle.disk_model.specs.LaneStep.{EndOnWire, LaneStep, ResetBy, RestStep, ServerWorks, TurnStep, WireStep, WorkStep, failed_worked, near_on_wire, near_worked, reach}
 use Rattle.disk_model.specs.ServerState.{ServerState, joined_server, restarted_server}
 use Rattle.disk_model.specs.ServerStep.{ServerStep}
-use Rattle.lane_laws.specs.BlockLog.{Blockage, Clear}
+use Rattle.channel_laws.specs.Blockage.{Blockage, Clear}
 use Rattle.lane_laws.specs.DiskLog.{DiskLog, after, after_failed, after_wire}
 use Rattle.lane_laws.specs.WorkLog.{ClientCounts, ServerCounts}
 

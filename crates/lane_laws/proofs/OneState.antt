@@ -5,7 +5,7 @@ use Rattle.ldc_queue.specs.Transcript.{Turn}
 use Rattle.vio_tag.specs.declared.message.Message.{Message}
 use Rattle.vio_handshake.specs.declared.handshake.Handshake.{Handshake}
 use Rattle.lane_laws.specs.Agreement.{AgreesWithLog, LinkAgrees, NearAgrees, RangeAgrees, ServerAgrees, WorkNextAgrees}
-use Rattle.lane_laws.specs.BlockLog.{Blockage}
+use Rattle.channel_laws.specs.Blockage.{Blockage}
 use Rattle.lane_laws.specs.DiskLog.{DiskLog}
 use Rattle.lane_laws.specs.EndLog.{server_left}
 use Rattle.disk_model.specs.LaneState.{LaneState}

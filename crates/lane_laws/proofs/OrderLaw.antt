@@ -1,7 +1,8 @@
 -- An end does what its session has to do before it takes a packet, and a client takes before it publishes.
-use Rattle.std.proofs.Common.{◌≡◌, ℕ, ◌+◌, Bool, true, false, Some, None, List, refl, sym, ap, ◌∙◌, subst, arith, length, length-drop}
+use Rattle.std.proofs.Common.{◌≡◌, ℕ, ◌+◌, ◌-◌, Bool, true, false, Some, None, List, refl, sym, ap, ◌∙◌, subst, arith, length, length-drop}
 use Rattle.std.specs.Prelude.{◌&&◌, is_none, is_some}
 use Rattle.cookie_copy.specs.Reach.{Reach}
+use Rattle.ldc_link.specs.declared.phase.Role.TheVariants.{Initiator}
 use Rattle.ldc_link.specs.LinkState.{LinkState}
 use Rattle.ldc_link.specs.Putting.{owes, owes_control, owes_in}
 use Rattle.ldc_queue.specs.declared.end.End.{End}
@@ -21,21 +22,26 @@ use Rattle.disk_model.specs.LaneStep.{CallsReset, EndOnWire, LaneStep, ResetBy, 
 use Rattle.disk_model.specs.ServerRule as server
 use Rattle.disk_model.specs.ServerState.{ServerSession, ServerState, Work, joined_server, restarted_server}
 use Rattle.disk_model.specs.ServerStep.{ServerFails}
-use Rattle.lane_laws.specs.BlockLog.{Clear}
+use Rattle.channel_laws.specs.Blockage.{Clear}
 use Rattle.lane_laws.specs.DiskLog.{DiskLog}
 use Rattle.lane_laws.specs.OrderLaws.{HasAnswered, HasCompleted, HasPublished, OrderAt, OwesNothing, PublishesAt, PutsAt, ServesAt, TakesAt}
 use Rattle.lane_laws.specs.Sound.{InOrder}
 use Rattle.lane_laws.specs.WorkLog.{ClientCounts}
 use Rattle.lane_laws.proofs.BlockedLaw.{Told, client_to_put, server_to_put}
-use Rattle.lane_laws.proofs.ClientFolds.{not_stuck}
+use Rattle.channel_laws.proofs.EndSending.{calm_up, not_stuck, sends_some}
+use Rattle.channel_laws.proofs.MessagesHeld.{owed_held}
+use Rattle.lane_laws.proofs.ClientFolds.{clear_quiet}
+use Rattle.lane_laws.proofs.Ruling.{client_may}
+use Rattle.lane_laws.specs.RuleFacts.{ClientMay}
 use Rattle.lane_laws.proofs.Counting.{of_client}
 use Rattle.lane_laws.proofs.EndsFold.{BothAre, first_false}
-use Rattle.channel_laws.proofs.Apart.{some_same}
+use Rattle.lane_laws.specs.ChannelEnds.{client_core, server_core}
+use Rattle.channel_laws.proofs.Apart.{none_is_some, some_same}
 use Rattle.channel_laws.proofs.EndsAtRest.{none_waits}
 use Rattle.lane_laws.proofs.IdleLaw.{not_below, past_all, same_waiting, some_client}
-use Rattle.lane_laws.proofs.IdleRules.{client_idles, server_idles}
-use Rattle.lane_laws.proofs.RuleTests.{CompletedAll, TakesFree, client_test, control_in}
-use Rattle.lane_laws.proofs.RulesFree.{ServerFree, owes_nothing, puts_calm, server_free, takes_calm}
+use Rattle.lane_laws.proofs.IdleRules.{client_idles, published_all, server_idles}
+use Rattle.lane_laws.proofs.RuleTests.{CompletedAll, PublishedAll, TakesFree, client_test, control_in}
+use Rattle.lane_laws.proofs.RulesFree.{ServerFree, owes_nothing, puts_calm, puts_owe, server_free, takes_calm}
 use Rattle.lane_laws.proofs.Sharing.{in_order}
 use Rattle.lane_laws.proofs.WorkNumbers.{Grounded}
 use Rattle.lane_laws.proofs.LaneViews.{at_client, at_server}
@@ -74,7 +80,7 @@ publishes_order s l session request told rule =
       completed_in_log s l told.grounded rests.completed,
       client_owes_nothing s l told (control_free s.client.link (owes_control s.client.link) refl rests.free) rests.owed,
       same_waiting A s l told.grounded (none_waits (waiting_for A s.wire.wire) rests.first),
-      not_stuck s.client.link l.blocked.client told.both.client.link rests.free,
+      not_stuck (client_core s.client) l.blocked.client told.both.client rests.free,
     )
 
 -- IT TAKES
@@ -94,8 +100,41 @@ client_fails s rule memory cause packet P fails taking = grind arith
 client_calm : (s : LaneState) (l : DiskLog) → Told s l → OwesNothing A l → client.is_urgent s.client ≡ false
 client_calm s l told nothing = grind arith
 
+-- what its link has to put is of no message that its handshake owes, so that a client that isn't blocked has none there
+puts_none : {X : Type 0} (s : LaneState) (l : DiskLog) → Told s l → OwesNothing A l → client.client_rule s.client (at_client s) ≡ client.Puts → l.blocked.client ≡ Clear → X
+puts_none {X} s l told nothing rule clear =
+    let knows = told.grounded.knows in
+    let owing = puts_owe s.client (at_client s) rule in
+    let some = sends_some s.client.link (calm_up s.client.link (ap owes_in told.client_phase ∙ nothing.0) owing) owing in
+    let quiet = clear_quiet s.client l.transcript.client l.blocked.client knows.all.sound knows.rests.client told.both.client clear in
+    let owed = owed_held Initiator (client_core s.client) l.transcript.client knows.rests.client.stands quiet some in
+    none_is_some (sym nothing.1 ∙ ap (λ (h : Handshake). h.owed) (sym told.are.client) ∙ owed.owed)
+
+published_by : (s : LaneState) (l : DiskLog) (rule : client.ClientRule) (held : ClientState) → Told s l → OwesNothing A l → client.client_rule s.client (at_client s) ≡ rule
+    → client_holds rule s.client ≡ Some held → ClientMay s.client (at_client s) rule → (session : ClientSession) → s.client.session ≡ Some session → l.blocked.client ≡ Clear
+    → PublishedAll s.client session
+published_by s l client.Puts held told nothing rule is may session there clear = puts_none s l told nothing rule clear
+published_by s l (client.Says message) held told nothing rule is may session there clear =
+    none_is_some (sym nothing.1 ∙ ap (λ (h : Handshake). h.owed) (sym told.are.client) ∙ may.2)
+published_by s l (client.Announces one) held told nothing rule is may session there clear =
+    let same : one ≡ session = some_same (sym may.3 ∙ there) in subst (PublishedAll s.client) same (published_all s.client (at_client s) one rule)
+published_by s l _ held told nothing rule is may session there clear = none_is_some is
+
 published_in_log : (s : LaneState) (l : DiskLog) (held : ClientState) → Told s l → OwesNothing A l → client_holds (client.client_rule s.client (at_client s)) s.client ≡ Some held → HasPublished l
-published_in_log s l held told nothing is = grind (arith, past_all, length-drop)
+published_in_log s l held told nothing is =
+    let grounded = told.grounded in
+    some_client s.client.session l.work.done l.work.client (λ (c : ClientCounts). l.blocked.client ≡ Clear → c.base + c.published ≡ length l.work.issued) grounded.knows.counted.client.agrees
+    (λ session c there has. λ clear.
+    let of = of_client s.client.session session l.work.done l.work.client there grounded.knows.counted.client.agrees in
+    let both : Some of.counts ≡ Some c = sym of.is ∙ has in
+    let same : of.counts ≡ c = some_same both in
+    let order : InOrder (length s.client.pending) session =
+    in_order (length s.client.pending) s.client.session session there grounded.knows.all.sound.counts in
+    let stand = grounded.knows.all.stands.requests in
+    let all = published_by s l (client.client_rule s.client (at_client s)) held told nothing refl is (client_may s.client (at_client s)) session there clear in
+    let published = past_all s.client.pending (session.published - session.completed) all in
+    subst (λ (k : ClientCounts). k.base + k.published ≡ length l.work.issued) same
+    (omega (arith, of.agree.base, of.agree.published, of.agree.completed, published, order.published, order.completed, order.acked, order.announced, ap length stand.pending, length-drop l.work.done l.work.issued, stand.done)))
 
 client_may_put : (s : LaneState) (l : DiskLog) (held : ClientState) → Told s l → client_holds (client.client_rule s.client (at_client s)) s.client ≡ Some held → PutsAt A l
 client_may_put s l held told is = (
@@ -112,7 +151,7 @@ answered_in_log : (s : LaneState) (l : DiskLog) → Grounded s l → TakesFree s
 answered_in_log s l grounded free = grind arith
 
 server_clear : (s : LaneState) (l : DiskLog) → BothAre s l → owes s.server.link ≡ false → l.blocked.server ≡ Clear
-server_clear s l both free = not_stuck s.server.link l.blocked.server both.server.link free
+server_clear s l both free = not_stuck (server_core s.server) l.blocked.server both.server free
 
 fetches_clear : (s : LaneState) (l : DiskLog) (session : ServerSession) → Told s l → server.server_rule s.server (at_server s) ≡ server.Fetches session → ServesAt l
 fetches_clear s l session told rule =

@@ -1,21 +1,16 @@
 -- Where nobody forged, a packet for which an end resets itself is a gap after a loss, or ends a message that the end hears badly in session.
-use Rattle.std.proofs.Common.{◌≡◌, ℕ, Bool, true, false, Option, Some, None, List, [], ◌∷◌, ◌++◌, refl, sym, ap, ◌∙◌, subst, ◌⊎◌, inl, inr, arith}
+use Rattle.std.proofs.Common.{◌≡◌, ℕ, true, false, Option, Some, None, List, refl, subst, ◌⊎◌, inl, inr}
 use Rattle.std.specs.Prelude.{is_some}
 use Rattle.runs.specs.Run.{Run}
 use Rattle.ldc_link.specs.declared.phase.Role.TheVariants.{Initiator, Responder}
 use Rattle.ldc_link.specs.LinkState.{LinkState}
-use Rattle.ldc_link.specs.Taking.{Heard, LinkTake, TakesBytes, Unheard}
-use Rattle.ldc_queue.specs.declared.end.ChannelState.{ChannelState}
+use Rattle.ldc_link.specs.Taking.{Heard, LinkTake, Unheard}
 use Rattle.ldc_queue.specs.declared.end.ChannelState.TheVariants.{Up}
 use Rattle.ldc_queue.specs.declared.end.End.TheVariants.{A, B}
-use Rattle.ldc_queue.specs.OneStream.{IsFront}
-use Rattle.ldc_queue.specs.Transcript.{Heard as Heard_, Turn}
 use Rattle.vio_tag.specs.declared.cause.Cause.{Cause}
 use Rattle.channel_model.specs.EndPuts.{handshake_risen}
-use Rattle.channel_model.specs.Sayings.{heard, said}
 use Rattle.channel_model.specs.TranscriptLog.{TranscriptLog}
 use Rattle.channel_model.specs.WireAt.{IsOwnReset}
-use Rattle.channel_model.specs.WireLog.{WireLog}
 use Rattle.disk_model.specs.ClientRule as client_rules
 use Rattle.disk_model.specs.ClientState.{ClientSession}
 use Rattle.disk_model.specs.ClientTaking as client
@@ -26,8 +21,7 @@ use Rattle.channel_model.specs.Seeing.{seen}
 use Rattle.disk_model.specs.ServerRule as server_rules
 use Rattle.disk_model.specs.ServerState.{ServerSession}
 use Rattle.disk_model.specs.ServerTaking as server
-use Rattle.channel_laws.proofs.ConversingRuns.{HeardFrom, hears_next}
-use Rattle.channel_laws.proofs.LinkRefuses.{link_refuses}
+use Rattle.channel_laws.proofs.NextHeard.{ComesTo, NextHeard, comes_to, own_gap}
 use Rattle.channel_laws.proofs.UnforgedResets.{side_fails}
 use Rattle.channel_laws.specs.Resetting.{IsGapBehindLoss}
 use Rattle.channel_laws.specs.Sides.{Sides, sides_of, swapped}
@@ -35,36 +29,12 @@ use Rattle.lane_laws.proofs.ClientMoves.{client_refuses}
 use Rattle.lane_laws.proofs.LaneChannel.{OnLane, answers_of, asks_of, lane_matches, lane_meets, lane_meets_other, transcript_in}
 use Rattle.lane_laws.proofs.Ruling.{client_may, server_may}
 use Rattle.lane_laws.proofs.ServerMoves.{server_refuses}
-use Rattle.channel_laws.proofs.EndCases.{link_hears}
-use Rattle.channel_laws.proofs.TurnCases.{with_whole}
 use Rattle.lane_laws.specs.ChannelEnds.{core_of}
 use Rattle.lane_laws.specs.RuleFacts.{ClientMay, ServerMay}
-
--- THE NEXT MESSAGE: the other end is up, and said it after all that this end heard
-pub record NextHeard (mine theirs : List Turn) (peer : ChannelState) (message : List ℕ) : Type 0 where
-  pub up : peer ≡ Up
-  pub front : IsFront (heard mine ++ message ∷ []) (said theirs)
-
-not_none : (messages : List (List ℕ)) (message : List ℕ) → messages ++ message ∷ [] ≡ [] → ⊥
-not_none [] message is = cc is
-not_none (one ∷ messages) message is = cc is
-
-peer_up : (peer : ChannelState) (messages : List (List ℕ)) (message : List ℕ) → ((peer ≡ Up → ⊥) → messages ++ message ∷ [] ≡ []) → peer ≡ Up
-peer_up peer messages message none = grind (arith, not_none)
-
-next_of : (s : Sides) (packet message : List ℕ) (messages : List (List ℕ)) → HeardFrom s (Heard_ packet ∷ s.mine.turns) → heard (Heard_ packet ∷ s.mine.turns) ≡ messages
-    → messages ≡ heard s.mine.turns ++ message ∷ [] → NextHeard s.mine.turns s.theirs.turns s.theirs.state message
-next_of s packet message messages from is more = record {
-  up = peer_up s.theirs.state (heard s.mine.turns) message (λ not. sym (is ∙ more) ∙ from.none not);
-  front = subst (λ (xs : List (List ℕ)). IsFront xs (said s.theirs.turns)) (is ∙ more) from.front;
-}
 
 open_one : (X : Type 0) (o : Option X) → is_some o ≡ true → (x : X) × (o ≡ Some x)
 open_one X None is = absurd (cc is)
 open_one X (Some x) is = (x, refl)
-
-own_gap : (w : WireLog) (lossy : Bool) (cause : Cause) → w.lossy ≡ lossy → IsGapBehindLoss lossy cause → IsOwnReset w cause
-own_gap w lossy cause is gap = record { expected = gap.expected; found = gap.found; gap = gap.gap; lossy = is ∙ gap.lossy_is }
 
 -- IN SESSION an end hears the next message that the other said, and resets itself for it
 pub record ClientHearsBadly (s : LaneState) (transcript : TranscriptLog) (cause : Cause) : Type 0 where
@@ -93,7 +63,9 @@ client_packet shape events s packet cause sound run clean rule takes =
     elim (side_fails (asks_of shape) (answers_of shape) Initiator sides packet cause (lane_matches shape sound) on.stand on.meets on.parts_theirs may.0 may.1
     (client_refuses s.client (seen A s.shape.entries s.wire.wire) packet cause rule takes)) [
       | inl gap ↦ inl (own_gap s.wire s.wire.lossy cause refl gap)
-      | inr lies ↦ by_link (open_one ClientSession s.client.session lies.opened) takes.link takes.takes takes.hears
+      | inr lies ↦
+          by_link (open_one ClientSession s.client.session lies.opened) takes.link
+          (comes_to (asks_of shape) (answers_of shape) Initiator sides packet takes.link on.stand on.meets on.parts_theirs may.0 may.1 takes.takes) takes.hears
     ]
   where
     sides : Sides
@@ -105,28 +77,17 @@ client_packet shape events s packet cause sound run clean rule takes =
     may : ClientMay s.client (seen A s.shape.entries s.wire.wire) (client_rules.Takes packet)
     may = subst (ClientMay s.client (seen A s.shape.entries s.wire.wire)) rule (client_may s.client (seen A s.shape.entries s.wire.wire))
 
-    by_whole : (one : (session : ClientSession) × (s.client.session ≡ Some session)) (k : LinkState) (whole : Option (List ℕ)) → k.whole ≡ whole → TakesBytes s.client.link packet (Heard k)
+    by_whole : (one : (session : ClientSession) × (s.client.session ≡ Some session)) (k : LinkState) (whole : Option (List ℕ)) → k.whole ≡ whole → ComesTo sides (Heard k)
         → client.HearsWhole (record s.client { link = k }) whole (client.Resets cause) → ClientHearsBadly s (transcript_in shape events) cause
-    by_whole one k None is took hears = absurd (cc hears)
-    by_whole one k (Some message) is took hears = record {
-      up = may.0;
-      session = one.0;
-      is = one.1;
-      message = message;
-      next = next_of sides packet message (with_whole k.whole (heard sides.mine.turns)) (hears_next Initiator sides packet k on.meets.converse may.0 may.1 on.stand.mine.link.follows took)
-          (link_hears s.client.link k sides.mine.turns packet on.stand.mine.link.seen on.stand.mine.link.follows took).on.messages
-          (ap (λ (w : Option (List ℕ)). with_whole w (heard sides.mine.turns)) is);
-      link = k;
-      hears = hears;
-    }
+    by_whole one k None is comes hears = absurd (cc hears)
+    by_whole one k (Some message) is comes hears =
+        record { up = may.0; session = one.0; is = one.1; message = message; next = comes message is; link = k; hears = hears }
 
-    by_link : (session : ClientSession) × (s.client.session ≡ Some session) → (link : LinkTake) → TakesBytes s.client.link packet link → client.HearsLink s.client link (client.Resets cause)
+    by_link : (session : ClientSession) × (s.client.session ≡ Some session) → (link : LinkTake) → ComesTo sides link → client.HearsLink s.client link (client.Resets cause)
         → IsOwnReset s.wire cause ⊎ ClientHearsBadly s (transcript_in shape events) cause
-    by_link one (Heard k) took hears = inr (by_whole one k k.whole refl took hears)
-    by_link one (Unheard other) took hears =
-        let same : other ≡ cause = cc hears in
-        inl (own_gap s.wire s.wire.lossy cause refl (subst (IsGapBehindLoss s.wire.lossy) same
-        (link_refuses Initiator sides packet other on.meets.converse on.meets.links on.stand.mine.link.follows on.parts_theirs may.0 may.1 took)))
+    by_link one (Heard k) comes hears = inr (by_whole one k k.whole refl comes hears)
+    by_link one (Unheard other) comes hears =
+        let same : other ≡ cause = cc hears in inl (own_gap s.wire s.wire.lossy cause refl (subst (IsGapBehindLoss s.wire.lossy) same comes))
 
 -- THE SERVER
 pub server_packet : (shape : Shape) (events : List DiskEvent) (s : LaneState) (packet : List ℕ) (cause : Cause) → IsShape shape → Run LaneStep (fresh shape) events s → s.wire.forged ≡ false
@@ -136,7 +97,9 @@ server_packet shape events s packet cause sound run clean rule takes =
     elim (side_fails (asks_of shape) (answers_of shape) Responder sides packet cause (lane_matches shape sound) on.stand on.meets on.parts_theirs may.0 may.1
     (server_refuses s.server (seen B s.shape.entries s.wire.wire) packet cause rule takes)) [
       | inl gap ↦ inl (own_gap s.wire s.wire.lossy cause refl gap)
-      | inr lies ↦ by_link (open_one ServerSession s.server.session lies.opened) takes.link takes.takes takes.hears
+      | inr lies ↦
+          by_link (open_one ServerSession s.server.session lies.opened) takes.link
+          (comes_to (asks_of shape) (answers_of shape) Responder sides packet takes.link on.stand on.meets on.parts_theirs may.0 may.1 takes.takes) takes.hears
     ]
   where
     sides : Sides
@@ -148,26 +111,14 @@ server_packet shape events s packet cause sound run clean rule takes =
     may : ServerMay s.server (seen B s.shape.entries s.wire.wire) (server_rules.Takes packet)
     may = subst (ServerMay s.server (seen B s.shape.entries s.wire.wire)) rule (server_may s.server (seen B s.shape.entries s.wire.wire))
 
-    by_whole : (one : (session : ServerSession) × (s.server.session ≡ Some session)) (k : LinkState) (whole : Option (List ℕ)) → k.whole ≡ whole → TakesBytes s.server.link packet (Heard k)
-        → server.HearsWhole (record s.server { link = k; handshake = handshake_risen s.server.link k s.server.handshake }) whole (server.Resets cause)
-        → ServerHearsBadly s (transcript_in shape events) cause
-    by_whole one k None is took hears = absurd (cc hears)
-    by_whole one k (Some message) is took hears = record {
-      up = may.0;
-      session = one.0;
-      is = one.1;
-      message = message;
-      next = next_of sides packet message (with_whole k.whole (heard sides.mine.turns)) (hears_next Responder sides packet k on.meets.converse may.0 may.1 on.stand.mine.link.follows took)
-          (link_hears s.server.link k sides.mine.turns packet on.stand.mine.link.seen on.stand.mine.link.follows took).on.messages
-          (ap (λ (w : Option (List ℕ)). with_whole w (heard sides.mine.turns)) is);
-      link = k;
-      hears = hears;
-    }
+    by_whole : (one : (session : ServerSession) × (s.server.session ≡ Some session)) (k : LinkState) (whole : Option (List ℕ)) → k.whole ≡ whole → ComesTo sides (Heard k)
+        → server.HearsWhole (record s.server { link = k; handshake = handshake_risen s.server.link k s.server.handshake }) whole (server.Resets cause) → ServerHearsBadly s (transcript_in shape events) cause
+    by_whole one k None is comes hears = absurd (cc hears)
+    by_whole one k (Some message) is comes hears =
+        record { up = may.0; session = one.0; is = one.1; message = message; next = comes message is; link = k; hears = hears }
 
-    by_link : (session : ServerSession) × (s.server.session ≡ Some session) → (link : LinkTake) → TakesBytes s.server.link packet link → server.HearsLink s.server link (server.Resets cause)
+    by_link : (session : ServerSession) × (s.server.session ≡ Some session) → (link : LinkTake) → ComesTo sides link → server.HearsLink s.server link (server.Resets cause)
         → IsOwnReset s.wire cause ⊎ ServerHearsBadly s (transcript_in shape events) cause
-    by_link one (Heard k) took hears = inr (by_whole one k k.whole refl took hears)
-    by_link one (Unheard other) took hears =
-        let same : other ≡ cause = cc hears in
-        inl (own_gap s.wire s.wire.lossy cause refl (subst (IsGapBehindLoss s.wire.lossy) same
-        (link_refuses Responder sides packet other on.meets.converse on.meets.links on.stand.mine.link.follows on.parts_theirs may.0 may.1 took)))
+    by_link one (Heard k) comes hears = inr (by_whole one k k.whole refl comes hears)
+    by_link one (Unheard other) comes hears =
+        let same : other ≡ cause = cc hears in inl (own_gap s.wire s.wire.lossy cause refl (subst (IsGapBehindLoss s.wire.lossy) same comes))

@@ -1,7 +1,7 @@
 -- The ranges that an end says and hears. An INFO that is said has the next number, begins where the one before it ended and names all that
 -- was published since; one that is heard is the next too. An ACK that is heard names announced ones alone, and one that is said is that of the
 -- range in work, the last of it finished.
-use Rattle.std.proofs.Common.{◌≡◌, ◌≢◌, ℕ, ◌+◌, ◌-◌, ◌%◌, ◌^◌, ◌<◌, ◌≤◌, Bool, true, Option, Some, None, List, ◌∷◌, ◌++◌, drop, length, length-drop, refl, sym, ap, ◌∙◌, subst, arith, inl, inr, ◌⊎◌}
+use Rattle.std.proofs.Common.{◌≡◌, ◌≢◌, ℕ, ◌+◌, ◌-◌, ◌%◌, ◌^◌, ◌<◌, ◌≤◌, Bool, true, Option, Some, None, List, ◌∷◌, ◌++◌, drop, length, length-drop, refl, sym, ap, ◌∙◌, subst, arith, inl, inr, ◌⊎◌, false}
 use Rattle.std.specs.Prelude.{is_none, is_some}
 use Rattle.std.proofs.lemmas.Nat.{mod_below}
 use Rattle.ldc_packet.specs.declared.packet.Subtype.{Subtype}
@@ -19,7 +19,7 @@ use Rattle.channel_model.specs.Sayings.{half_heard, half_said, said}
 use Rattle.channel_model.specs.WireEvent.{Sent, Took}
 use Rattle.lane_laws.proofs.ServerSpeaking.{server_holds_link}
 use Rattle.lane_laws.specs.DiskLog.{DiskLog}
-use Rattle.lane_laws.specs.BlockLog.{Blockage, Clear}
+use Rattle.channel_laws.specs.Blockage.{Blockage, Clear}
 use Rattle.lane_laws.specs.EndLog.{ident_of, range_in_work, state_of}
 use Rattle.channel_model.specs.Messages.{end_of, ended_by, range_ended, range_in, seq_of, sid_of, start_of}
 use Rattle.lane_laws.specs.WorkLaws.{Acknowledges, AcknowledgesRange, Announces, AsksFor, HearsNoOther, IfRange, NamesOwn, NamesRing, OfClientRange, OfServerRange, RangesAt, client_handshake, server_handshake}
@@ -43,7 +43,7 @@ use Rattle.dring.specs.Slots.{range_length}
 use Rattle.disk_model.specs.ServerState.{ServerState, SlotRange}
 use Rattle.disk_model.specs.ServerStep.{ServerSends}
 use Rattle.channel_laws.proofs.TurnCases.{heard_none, heard_some, said_none, said_some}
-use Rattle.lane_laws.proofs.ClientFolds.{ClientIs}
+use Rattle.lane_laws.proofs.ClientFolds.{clear_quiet}
 use Rattle.lane_laws.proofs.ClientPuts.{putting}
 use Rattle.lane_laws.proofs.ClientTaken.{ClientAcked, ClientTook, HearsMessage, client_took_what}
 use Rattle.lane_laws.proofs.ClientPutCounting.{OwnInfo, own_info}
@@ -120,8 +120,8 @@ server_shaken s rule held is = ap (λ (x : ServerState). x.handshake) (server_ho
 
 -- AN INFO THAT IS SAID. A client that isn't blocked announces only once all that is pending is published.
 holds_all : (s : ClientState) (at : Seen) (rule : client_rules.ClientRule) (held : ClientState) (b : Blockage) (session : ClientSession) → client_rules.client_rule s at ≡ rule
-    → client_holds rule s ≡ Some held → ClientIs s b → b ≡ Clear → held.session ≡ Some session → session.announcing ≡ true → PublishedAll held session
-holds_all s at rule held b session is_holds is stands clear now own = grind (arith, published_all)
+    → client_holds rule s ≡ Some held → (b ≡ Clear → is_announcing s.session ≡ false) → b ≡ Clear → held.session ≡ Some session → session.announcing ≡ true → PublishedAll held session
+holds_all s at rule held b session is_holds is quiet clear now own = let silent : is_announcing s.session ≡ false = quiet clear in grind (arith, published_all)
 
 record Pending (l : DiskLog) (held : ClientState) : Type 0 where
   pending : held.pending ≡ drop l.work.done l.work.issued
@@ -197,7 +197,8 @@ said_info s l packet opens t new both told sends =
       pending = (held_kept s.client at rule sends.held (client_may s.client at) sends.holds).pending ∙ requests.pending;
       done = requests.done;
       shaken = client_shaken s.client rule sends.held sends.holds ∙ told.client;
-      published = λ session clear is own. holds_all s.client at rule sends.held l.blocked.client session refl sends.holds both.client clear is own;
+      published = λ session clear is own. holds_all s.client at rule sends.held l.blocked.client session refl sends.holds
+          (clear_quiet s.client l.transcript.client l.blocked.client both.knows.all.sound both.knows.rests.client both.client) clear is own;
     }) put.rests put.sound put.counted put.says
 
 -- A RANGE THAT IS HEARD names the end's ring
@@ -315,7 +316,7 @@ said_ack s l packet opens t sound both told sends =
     let rule = server_rules.server_rule s.server at in
     let knows = both.knows in
     let rests = server_blocked_rests s.server at sends.held l.transcript.server sends.holds knows.rests.server in
-    answers_by (server_kind sends.held) l packet sends.held (server_shaken s.server rule sends.held sends.holds ∙ told.server) rests sound (ap ranged (held_session s.server rule sends.held sends.holds) ∙ both.server.range)
+    answers_by (server_kind sends.held) l packet sends.held (server_shaken s.server rule sends.held sends.holds ∙ told.server) rests sound (ap ranged (held_session s.server rule sends.held sends.holds) ∙ both.range)
     (server_holds_counting l.shape s.server rule sends.held l.transcript.server l.work.server knows.rests.server knows.utters.server (server_free s.server at) sends.holds knows.counted.server)
     (put_says (is_none sends.held.handshake.owed) sends.held.link t.link l.transcript.server packet
     rests.stands.link.follows sends.packet)

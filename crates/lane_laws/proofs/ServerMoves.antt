@@ -268,13 +268,13 @@ holds_says s message quiet says = grind (arith, holds_owed, holds_answer)
 to_the : (s one other : ServerState) → Some one ≡ Some other → HoldsTo s one → HoldsTo s other
 to_the s one other is to = let same : one ≡ other = some_same is in subst (HoldsTo s) same to
 
-holds_by : (s : ServerState) (at : Seen) (rule : ServerRule) (held : ServerState) → ServerMay s at rule → server_holds rule s ≡ Some held → HoldsTo s held
-holds_by s at Puts held may is = to_the s s held is (record { what = HoldsOn; holds = refl })
-holds_by s at (Says message) held may is = to_the s (holding message s) held is (holds_says s message may.1 may.2)
-holds_by s at _ held may is = none_is_some is
+holds_by : (s : ServerState) (at : Seen) (rule : ServerRule) (held : ServerState) → ServerFree s rule → ServerMay s at rule → server_holds rule s ≡ Some held → HoldsTo s held
+holds_by s at Puts held free may is = to_the s s held is (record { what = HoldsOn; holds = record { is = refl; owing = free } })
+holds_by s at (Says message) held free may is = to_the s (holding message s) held is (holds_says s message may.1 may.2)
+holds_by s at _ held free may is = none_is_some is
 
 pub server_waits : (s : ServerState) (at : Seen) (t : ServerState) → server_holds (server_rule s at) s ≡ Some t → EndWaits (server_core s) (server_core t)
-server_waits s at t is = let to = holds_by s at (server_rule s at) t (server_may s at) is in record { what = to.what; holds = to.holds }
+server_waits s at t is = let to = holds_by s at (server_rule s at) t (server_free s at) (server_may s at) is in record { what = to.what; holds = to.holds }
 
 -- IT PUTS a packet
 abbrev behind_in : LinkPhase → ServerState → Handshake
@@ -336,7 +336,7 @@ puts_to held = grind (arith, put_own_in, put_left_in)
 pub server_says : (s : ServerState) (at : Seen) (packet : List ℕ) (opens : Bool) (t : ServerState) → ServerSends s at packet opens t
     → EndSays Responder (server_core s) packet opens (server_core t)
 server_says s at packet opens t sends =
-    let to = holds_by s at (server_rule s at) sends.held (server_may s at) sends.holds in
+    let to = holds_by s at (server_rule s at) sends.held (server_free s at) (server_may s at) sends.holds in
     let puts : PutsTo sends.held t = subst (PutsTo sends.held) (sym sends.is) (puts_to sends.held) in
     let kind = server_kind_is sends.held packet t.link sends.packet in
     record {

@@ -18,17 +18,18 @@ use Rattle.lane_laws.specs.WorkLog.{ClientCounts, ServerCounts, WorkLog}
 use Rattle.disk_model.specs.DiskEvent.{DiskEvent, OnWire}
 use Rattle.disk_model.specs.LaneState.{IsShape, LaneState, Shape, fresh}
 use Rattle.disk_model.specs.LaneStep.{LaneStep}
-use Rattle.channel_model.specs.Seeing.{seen}
 use Rattle.disk_model.specs.ServerState.{ServerSession, Work}
 use Rattle.lane_laws.proofs.AckedFinished.{acked_finished}
 use Rattle.lane_laws.proofs.Agreeing.{always_agree, server_alive}
-use Rattle.lane_laws.proofs.LaneCounting.{Knows, few_slots, run_knows}
+use Rattle.lane_laws.proofs.LaneCounting.{Knows, run_knows}
 use Rattle.lane_laws.proofs.OnTheWay.{on_the_way}
 use Rattle.lane_laws.proofs.RingAlong.{Along, along_run, along_step, run_ring}
 use Rattle.lane_laws.proofs.RingRuns.{before, known_of}
 use Rattle.lane_laws.proofs.RingTable.{some_entry}
 use Rattle.lane_laws.proofs.ServerCounting.{opens_new}
-use Rattle.lane_laws.proofs.ServerEndCounting.{server_puts_counting}
+use Rattle.lane_laws.proofs.EndMoves.{step_b}
+use Rattle.channel_laws.proofs.EndSending.{responder_never}
+use Rattle.lane_laws.specs.ChannelEnds.{server_core}
 use Rattle.lane_laws.proofs.ServerTaken.{server_took_what}
 use Rattle.lane_laws.proofs.SlotsStepping.{StepFacts, event_slots}
 use Rattle.lane_laws.proofs.TableRuns.{table_lawful}
@@ -38,7 +39,6 @@ use Rattle.lane_laws.specs.RingSlots.{RingHolds, RingOf, SlotHolds}
 use Rattle.lane_laws.specs.SlotsInOrder.{BytesOf, RingInOrder, ServerAt, SlotOf, SlotsIn, SlotsInOrder}
 use Rattle.lane_laws.specs.Sound.{CountsInOrder}
 use Rattle.lane_laws.specs.TableStands.{TableAt}
-use Rattle.channel_laws.proofs.Apart.{true_is_false}
 
 -- the counts of the ranges
 pub announced_in : (pending : ℕ) (o : Option ClientSession) (done : ℕ) (q : Option ClientCounts) (k : ClientCounts) → q ≡ Some k → ClientAgrees o done q → CountsInOrder pending o
@@ -55,12 +55,9 @@ opens_none s l event t packet knows step is =
     let took = server_took_what s.server l.transcript.server packet t.server true knows.rests.server.stands.link.follows knows.rests.server.whole here.1.step.1.1 in
     none_log s.server.session s.server.work l.work.server (opens_new s.server t.server l.transcript.server packet knows.rests.server took) knows.counted.server.agrees
 
-never_sends : (s : LaneState) (l : DiskLog) (event : DiskEvent) (t : LaneState) (packet : List ℕ) → Knows s l → LaneStep s event t → event ≡ OnWire (Sent B packet true) → ⊥
-never_sends s l event t packet knows step is =
-    let here : LaneStep s (OnWire (Sent B packet true)) t = subst (λ (e : DiskEvent). LaneStep s e t) is step in
-    let both = server_puts_counting l.shape s.server (seen B s.shape.entries s.wire.wire) packet true t.server l.transcript.server l.work.server (few_slots s l knows)
-    here.1.step.1.0 knows.rests.server knows.utters.server knows.counted.server in
-    true_is_false (both.1)
+pub never_sends : (s : LaneState) (l : DiskLog) (t : LaneState) (packet : List ℕ) → Knows s l → LaneStep s (OnWire (Sent B packet true)) t → ⊥
+never_sends s l t packet knows step =
+    responder_never (server_core s.server) (server_core t.server) l.transcript.server packet knows.rests.server.stands (step_b s (OnWire (Sent B packet true)) t step)
 
 pub facts_at : (shape : Shape) (events : List DiskEvent) (s : LaneState) (event : DiskEvent) (t : LaneState) → IsShape shape → Along shape s (log_of after (nothing_yet shape) events)
     → Run LaneStep (fresh shape) events s → LaneStep s event t → (after (log_of after (nothing_yet shape) events) event).wire.forged ≡ false
@@ -85,7 +82,7 @@ facts_at shape events s event t sound along run step clean =
           server_alive shape more t sound then_run (ap (λ (w : WireLog). w.forged) wire ∙ clean_more) up_b d (ap (λ (x : DiskLog). x.work.server) behind ∙ is) in
           sym (ap (λ (w : WireLog). w.wire.end_a) wire ∙ ap (λ (x : DiskLog). x.wire.wire.end_a) behind) ∙ up_a;
       opens = λ packet is. opens_none s l event t packet knows step is;
-      sends = λ packet is. never_sends s l event t packet knows step is;
+      sends = λ packet is. never_sends s l t packet knows (subst (λ (e : DiskEvent). LaneStep s e t) is step);
       announced = λ k is.
           let next : Knows t (log_of after (nothing_yet shape) more) = run_knows shape more t sound then_run in
           announced_in (length t.client.pending) t.client.session (log_of after (nothing_yet shape) more).work.done (log_of after (nothing_yet shape) more).work.client k

@@ -41,15 +41,14 @@ use Rattle.lane_laws.proofs.Agreeing.{client_some, server_open}
 use Rattle.lane_laws.proofs.LaneCores.{transcript_is}
 use Rattle.lane_laws.proofs.Speaking.{client_blocked_rests}
 use Rattle.lane_laws.proofs.HeardFront.{heard_messages}
-use Rattle.lane_laws.proofs.LaneCounting.{Knows, few_slots, run_knows}
+use Rattle.lane_laws.proofs.LaneCounting.{Knows, run_knows}
 use Rattle.lane_laws.proofs.NoOwnReset.{run_known}
 use Rattle.lane_laws.proofs.ClientMoves.{held_open}
 use Rattle.lane_laws.proofs.RingRuns.{before}
 use Rattle.lane_laws.proofs.RingWork.{Known, ids_in, turn_in}
 use Rattle.lane_laws.proofs.ServerCounting.{opens_new}
-use Rattle.lane_laws.proofs.ServerEndCounting.{server_puts_counting}
 use Rattle.lane_laws.proofs.ServerTaken.{server_took_what}
-use Rattle.lane_laws.proofs.SlotsAlong.{run_slots}
+use Rattle.lane_laws.proofs.SlotsAlong.{never_sends, run_slots}
 use Rattle.lane_laws.proofs.SlotsOrdered.{finished_more}
 use Rattle.lane_laws.proofs.TableRuns.{table_lawful}
 use Rattle.lane_laws.specs.LaneRests.{ClientRests}
@@ -191,7 +190,4 @@ none_given shape s l packet t now k is = none_in s l packet l.work.client now.kn
 
 -- and none opens by a packet that the server puts
 pub sends_not : (shape : Shape) (s : LaneState) (l : DiskLog) (packet : List ℕ) (t : LaneState) → Around shape s l (OnWire (Sent B packet true)) t → LaneStep s (OnWire (Sent B packet true)) t → ⊥
-sends_not shape s l packet t now step =
-    let both = server_puts_counting l.shape s.server (seen B s.shape.entries s.wire.wire) packet true t.server l.transcript.server l.work.server (few_slots s l now.knows)
-    step.1.step.1.0 now.knows.rests.server now.knows.utters.server now.knows.counted.server in
-    true_is_false (both.1)
+sends_not shape s l packet t now step = never_sends s l t packet now.knows step

@@ -15,12 +15,12 @@ use Rattle.vdisk_msg.specs.Pieces.{Finishes, Moves, Piece, Stores, read_pieces, 
 use Rattle.vdisk_msg.specs.Requested as asks_for
 use Rattle.channel_model.specs.Sayings.{count_heard, count_said, half_heard, half_said}
 use Rattle.channel_model.specs.WireAt.{counts_next}
-use Rattle.lane_laws.specs.BlockLog.{Blockage}
+use Rattle.channel_laws.specs.Blockage.{Blockage, is_stuck_with_own}
 use Rattle.disk_model.specs.ClientPutting.{is_announcing}
 use Rattle.disk_model.specs.ClientRule as client_rules
 use Rattle.disk_model.specs.ClientState.{ClientSession, ClientState, ever_published_count}
 use Rattle.channel_laws.specs.EndFold.{handshake_of, link_phase}
-use Rattle.lane_laws.specs.EndLog.{client_left, infos_heard, is_stuck_with_own, range_in_work, server_left}
+use Rattle.lane_laws.specs.EndLog.{client_left, infos_heard, range_in_work, server_left}
 use Rattle.disk_model.specs.LaneState.{LaneState, Shape, pages_of}
 use Rattle.disk_model.specs.Offering.{client_offer, server_offer}
 use Rattle.channel_model.specs.Ranges.{wrapped}

@@ -1,17 +1,9 @@
--- Whether an end found no room for its next packet since it last put one or began anew.
-use Rattle.std.specs.Prelude.{Bool, true, false}
+-- Whether each end found no room for its next packet since it last put one or began anew.
 use Rattle.ldc_queue.specs.declared.end.End.{End}
 use Rattle.ldc_queue.specs.declared.end.End.TheVariants.{A, B}
 use Rattle.channel_model.specs.WireEvent.{Blocked, Joined, Reset, Sent, Took, WireEvent}
+use Rattle.channel_laws.specs.Blockage.{Blockage, Clear, hearing, stuck}
 use Rattle.disk_model.specs.DiskEvent.{DiskEvent, OnWire, Stopped, Switches}
-
-pub data Blockage : Type 0 where
-  -- it didn't
-  Clear : Blockage
-  -- it did, and heard nothing since
-  Stuck : Blockage
-  -- it did, and went on to hear
-  StuckBefore : Blockage
 
 pub record BlockLog : Type 0 where
   pub client : Blockage
@@ -19,22 +11,6 @@ pub record BlockLog : Type 0 where
 
 abbrev pub nothing_blocked : BlockLog
 nothing_blocked = record { client = Clear; server = Clear }
-
-abbrev pub is_stuck : Blockage → Bool
-is_stuck Clear = false
-is_stuck Stuck = true
-is_stuck StuckBefore = true
-
--- after a packet for which there was no room, and after one that was heard
-abbrev pub stuck : Blockage → Blockage
-stuck Clear = Stuck
-stuck Stuck = Stuck
-stuck StuckBefore = StuckBefore
-
-abbrev pub hearing : Blockage → Blockage
-hearing Clear = Clear
-hearing Stuck = StuckBefore
-hearing StuckBefore = StuckBefore
 
 abbrev pub change_of : End → (Blockage → Blockage) → BlockLog → BlockLog
 change_of A f l = record l { client = f l.client }

@@ -6,7 +6,7 @@ use Rattle.ldc_queue.specs.Transcript.{Heard, Said, Turn}
 use Rattle.vio_bytes.specs.Place.{number_at}
 use Rattle.vio_tag.specs.declared.message.Message.{Message}
 use Rattle.vio_tag.specs.Spelling.{canonical}
-use Rattle.lane_laws.specs.BlockLog.{Blockage, Clear, Stuck, StuckBefore, is_stuck}
+use Rattle.channel_laws.specs.Blockage.{Blockage, left_of, owed_left}
 use Rattle.disk_model.specs.ClientPutting.{announcement}
 use Rattle.disk_model.specs.ClientState.{ClientSession, ClientState}
 use Rattle.channel_model.specs.Messages.{end_of, range_ended, seq_of, start_of}
@@ -44,29 +44,7 @@ infos_heard [] = 0
 infos_heard (Said packet ∷ turns) = infos_heard turns
 infos_heard (Heard packet ∷ turns) = infos_heard turns + one_in (range_ended 1 (half_heard turns) packet)
 
--- WHAT IS LEFT TO SEND of a message of which this was put: where a part was put, or the end was stuck with it, all
--- that wasn't
-abbrev pub has_begun : List ℕ → Blockage → Bool
-has_begun half blockage = not (is_empty half) || is_stuck blockage
-
-abbrev pub left_if : Bool → List ℕ → List ℕ → List ℕ
-left_if true half message = drop (length half) message
-left_if false half message = []
-
-abbrev pub left_of : List ℕ → Blockage → List ℕ → List ℕ
-left_of half blockage message = left_if (has_begun half blockage) half message
-
-abbrev pub owed_left : List ℕ → Blockage → Option Message → List ℕ
-owed_left half blockage None = []
-owed_left half blockage (Some message) = left_of half blockage (canonical message)
-
--- A client is stuck with its own INFO where its handshake owes nothing; and where it heard something since, which it
--- doesn't while that owes a message.
-abbrev pub is_stuck_with_own : Blockage → Option Message → Bool
-is_stuck_with_own Clear owed = false
-is_stuck_with_own Stuck owed = is_none owed
-is_stuck_with_own StuckBefore owed = true
-
+-- WHAT IS LEFT TO SEND: a client has the INFO that it announces with, where it does, and else what its handshake owes
 abbrev pub announced_or_owed : Bool → ClientState → ClientSession → List ℕ → Blockage → List ℕ
 announced_or_owed true c session half blockage = left_of half blockage (canonical (announcement c session))
 announced_or_owed false c session half blockage = owed_left half blockage c.handshake.owed

@@ -8,7 +8,7 @@ use Rattle.ldc_queue.specs.Wire.{waiting_for}
 use Rattle.channel_model.specs.WireEvent.{Blocked, Idle, Reset, Sent, Took}
 use Rattle.disk_model.specs.DiskEvent.{Desc, DiskEvent, Finished, Moved, OnWire, Published, Stored, Works}
 use Rattle.channel_laws.specs.EndFold.{link_phase}
-use Rattle.lane_laws.specs.BlockLog.{Clear}
+use Rattle.channel_laws.specs.Blockage.{Clear}
 use Rattle.lane_laws.specs.DiskLog.{DiskLog}
 use Rattle.lane_laws.specs.WorkLaws.{IfClient, IfServer, InClient, InServer, client_handshake, server_handshake}
 use Rattle.lane_laws.specs.WorkLog.{ClientCounts, ServerCounts}

@@ -30,7 +30,7 @@ use Rattle.disk_model.specs.Offering.{client_offer, server_offer}
 use Rattle.disk_model.specs.ServerState.{SlotRange}
 use Rattle.channel_model.specs.Ranges.{wrapped}
 use Rattle.dring.specs.Slots.{range_length, ready_state}
-use Rattle.lane_laws.specs.BlockLog.{Clear}
+use Rattle.channel_laws.specs.Blockage.{Clear}
 use Rattle.lane_laws.specs.DiskLog.{DiskLog}
 use Rattle.channel_model.specs.Messages.{end_of, ended_by, range_ended, seq_of, sid_of, start_of}
 use Rattle.channel_laws.specs.EndFold.{handshake_of}

@@ -92,7 +92,7 @@ slot_held role s at p activity _ _ held free is same = none_some held same
 
 pub held_core : (role : Role) (s : NetEndState) (at : Seen) (reach : Reach) (rule : NetRule) (held : NetEndState) → NetFits role s → port_rule role s at ≡ rule
     → net_holds rule s reach ≡ Some held → HeldCore role s held
-held_core role s at reach Puts held fits is same = held_to role s s held HoldsOn same refl
+held_core role s at reach Puts held fits is same = held_to role s s held HoldsOn same (record { is = refl; owing = (says_of role s at Puts is).1 })
 held_core role s at reach (Says message) held fits is same =
     let says = says_of role s at (Says message) is in
     held_to role s (holding message s) held (HoldsOwed message) same

@@ -66,7 +66,8 @@ pub stays_spent : (c t : EndCore) → EndStays c t → spent t ≤ spent c
 stays_spent c t stays = omega (arith, stays_packets c t stays, stays.more)
 
 holds_open : (c held : EndCore) (what : Holding) → Holds c what held → held.is_open ≡ c.is_open
-holds_open c held what is = grind arith
+holds_open c held HoldsOn still = ap (λ (x : EndCore). x.is_open) still.is
+holds_open c held _ offers = offers.is_open
 
 waits_spent : (role : Role) (c t : EndCore) (turns : List Turn) → EndStands role c turns → EndWaits c t → spent t + 2 * one_if c.is_open ≤ spent c + 2 * one_if t.is_open
 waits_spent role c t turns stands waits = grind (arith, waits_left, holds_open)
