@@ -27,7 +27,7 @@ use Rattle.channel_laws.proofs.Short.{some_bytes}
 use Rattle.channel_laws.specs.Blockage.{Blockage, Clear, EndSends, Stuck, StuckBefore, blockage_after, has_begun, hearing, is_stuck, is_stuck_with_own, left_if, left_of, owed_left, stuck}
 use Rattle.channel_laws.specs.Cuts.{Carries, CarriesOwed}
 use Rattle.channel_laws.specs.EndCore.{Begins, EndCore, EndMove, Fails, Hears, Renews, Says, Stays, Waits, holds}
-use Rattle.channel_laws.specs.EndStep.{EndHears, EndSays, EndStays, EndStep, EndWaits, Holding, Holds, HoldsOn, HoldsOwed, HoldsOwn, kind_of}
+use Rattle.channel_laws.specs.EndStep.{EndHears, EndSays, EndStays, EndStep, Holding, Holds, HoldsOn, HoldsOwed, HoldsOwn, kind_of}
 use Rattle.channel_laws.specs.Standing.{EndStands}
 
 -- A LINK that is up has a packet to put exactly where it holds a message

@@ -1,5 +1,5 @@
 -- A client announces exactly where it is stuck with that, as its link and its log have it.
-use Rattle.std.proofs.Common.{◌≡◌, ◌≤◌, Bool, true, false, length, List, refl, sym, ap, ◌∙◌, arith}
+use Rattle.std.proofs.Common.{◌≡◌, ◌≤◌, Bool, true, false, length, List, refl, sym, ap, ◌∙◌}
 use Rattle.std.specs.Prelude.{is_some, ◌&&◌}
 use Rattle.std.proofs.lemmas.Bool.{and_parts}
 use Rattle.ldc_link.specs.declared.phase.Role.TheVariants.{Initiator}

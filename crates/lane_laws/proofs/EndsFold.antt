@@ -1,5 +1,5 @@
 -- Along every run both ends are as the lane's log counts them.
-use Rattle.std.proofs.Common.{◌≡◌, ℕ, ◌≤◌, Bool, true, false, Option, Some, None, List, [], ◌∷◌, ◌++◌, drop, length, refl, sym, ap, ◌∙◌, subst, arith}
+use Rattle.std.proofs.Common.{◌≡◌, ℕ, ◌≤◌, Bool, true, false, Option, Some, None, List, [], ◌∷◌, ◌++◌, length, refl, sym, ap, ◌∙◌, subst, arith}
 use Rattle.std.specs.Prelude.{◌%◌, is_none, is_some, not, ◌&&◌, ◌||◌, ⊤}
 use Rattle.runs.specs.Lawful.{log_of, run_lawful}
 use Rattle.runs.specs.Run.{Run}
@@ -13,8 +13,8 @@ use Rattle.vio_tag.specs.Spelling.{canonical}
 use Rattle.lane_laws.proofs.ServerSpeaking.{server_holds_link}
 use Rattle.lane_laws.specs.Agreement.{ClientEndAgrees, RangeAgrees, ServerEndAgrees}
 use Rattle.disk_model.specs.ClientPutting.{announcement, is_announcing}
-use Rattle.disk_model.specs.ClientState.{ClientSession, ClientState}
-use Rattle.disk_model.specs.DiskEvent.{Desc, DiskEvent, Done, Finished, Moved, OnWire, Published, Stored, Works}
+use Rattle.disk_model.specs.ClientState.{ClientSession}
+use Rattle.disk_model.specs.DiskEvent.{Desc, DiskEvent, Finished, Moved, OnWire, Stored, Works}
 use Rattle.lane_laws.specs.DiskLog.{DiskLog, after, nothing_yet}
 use Rattle.lane_laws.specs.BlockLog.{BlockLog, after_block}
 use Rattle.lane_laws.specs.EndLog.{announced_or_owed, answer_left, client_left, infos_heard, range_in_work, range_left, server_left}

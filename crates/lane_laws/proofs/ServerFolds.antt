@@ -1,44 +1,35 @@
 -- Each event of a server leaves it with the range in its work that its log has.
-use Rattle.std.proofs.Common.{◌≡◌, ℕ, Bool, true, false, Option, Some, None, List, [], ◌∷◌, ◌++◌, refl, sym, ap, ◌∙◌, subst, inl, inr, arith}
-use Rattle.std.specs.Prelude.{is_none, is_some, ◌⊎◌}
+use Rattle.std.proofs.Common.{◌≡◌, ℕ, Bool, true, false, Option, Some, None, List, ◌∷◌, ◌++◌, refl, sym, ap, ◌∙◌, subst, inl, inr, arith}
+use Rattle.std.specs.Prelude.{is_none}
 use Rattle.cookie_copy.specs.declared.fault.CopyFault.{CopyFault}
-use Rattle.ldc_link.specs.declared.phase.Role.TheVariants.{Responder}
-use Rattle.ldc_link.specs.LinkState.{LinkState, is_up, offered}
-use Rattle.ldc_link.specs.Putting.{behind_put}
 use Rattle.ldc_packet.specs.declared.packet.Subtype.TheVariants.{Ack}
 use Rattle.ldc_packet.specs.Spelling.{subtype_code}
 use Rattle.ldc_queue.specs.Transcript.{Heard as Heard_, Said, Turn}
-use Rattle.vio_tag.specs.declared.message.Message.{Message}
 use Rattle.vio_tag.specs.declared.message.MsgBody.TheVariants.{DringData}
-use Rattle.vio_tag.specs.Spelling.{SpellsBody, canonical, envelope_code}
+use Rattle.vio_tag.specs.Spelling.{SpellsBody, envelope_code}
 use Rattle.lane_laws.proofs.Speaking.{server_holds_owed}
 use Rattle.lane_laws.specs.EndLog.{answered_by, asked_by, range_in_work, range_of}
 use Rattle.channel_model.specs.EndPuts.{ComesUp, EndsOwn, EndsHandshake, Goes, PutKind}
 use Rattle.channel_model.specs.Messages.{ended_by, is_range, range_if, range_in}
 use Rattle.channel_model.specs.Sayings.{half_heard, half_said}
 use Rattle.channel_model.specs.Seeing.{Seen}
-use Rattle.disk_model.specs.ServerPutting.{answered, server_holds}
-use Rattle.disk_model.specs.ServerRule.{Fetches, Puts, Says, ServerRule}
-use Rattle.disk_model.specs.ServerState.{ServerSession, ServerState, SlotRange, joined_server, restarted_server}
+use Rattle.disk_model.specs.ServerPutting.{answered}
+use Rattle.disk_model.specs.ServerRule.{Fetches}
+use Rattle.disk_model.specs.ServerState.{ServerSession, ServerState, SlotRange}
 use Rattle.disk_model.specs.ServerStep.{ServerFetches, ServerFinishes, ServerMoves, ServerStores}
 use Rattle.cookie_copy.specs.Reach.{Reach}
-use Rattle.channel_laws.proofs.Apart.{none_is_some, some_same}
 use Rattle.channel_laws.proofs.PutSayings.{PutSays}
-use Rattle.channel_laws.proofs.EndStanding.{SameSending, open_up, owing_up}
 use Rattle.channel_laws.proofs.TurnCases.{heard_none, heard_some, said_none, said_some}
 use Rattle.lane_laws.proofs.RangesSaid.{heard_no_range, is_data, no_data, owed_no_range, range_is}
 use Rattle.lane_laws.proofs.RulesFree.{ServerFree, server_free}
-use Rattle.lane_laws.proofs.RuleTests.{AnswersFree, TakesFree}
 use Rattle.lane_laws.proofs.ServerCounting.{opens_new}
 use Rattle.lane_laws.proofs.ServerPutCounting.{put_as, none_is}
 use Rattle.lane_laws.proofs.ServerAnswers.{opened_or}
 use Rattle.lane_laws.proofs.ServerTaken.{ServerTook}
-use Rattle.channel_laws.proofs.Short.{some_bytes}
 use Rattle.channel_laws.specs.Cuts.{CarriesOwed}
 use Rattle.lane_laws.specs.Counted.{HoldsAnswer, ServerHolds}
 use Rattle.channel_laws.specs.HandshakeFits.{MayOwe, OwedFits}
-use Rattle.lane_laws.specs.LaneRests.{ServerRests, ServerUtters}
-use Rattle.lane_laws.specs.ChannelEnds.{server_core}
+use Rattle.lane_laws.specs.LaneRests.{ServerRests}
 
 -- the range of an open session
 abbrev pub ranged : Option ServerSession → Option SlotRange

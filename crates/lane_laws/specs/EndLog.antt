@@ -1,7 +1,6 @@
 -- What an end is by what it said and heard since it last began anew, beside its link's phase and its handshake: the range that its server has in
 -- work, and what it has still to send. Each is counted from the turns, newest first.
-use Rattle.std.specs.Prelude.{ℕ, ◌+◌, ◌||◌, Bool, true, false, not, is_none, List, [], ◌∷◌, drop, length, Option, Some, None}
-use Rattle.ldc_queue.specs.Messages.{is_empty}
+use Rattle.std.specs.Prelude.{ℕ, ◌+◌, Bool, true, false, List, [], ◌∷◌, Option, Some, None}
 use Rattle.ldc_queue.specs.Transcript.{Heard, Said, Turn}
 use Rattle.vio_bytes.specs.Place.{number_at}
 use Rattle.vio_tag.specs.declared.message.Message.{Message}
