@@ -17,7 +17,7 @@ use Rattle.channel_laws.proofs.EndStanding.{held_stands}
 use Rattle.channel_laws.proofs.Lifting.{EndsAll, begins_anew, resets_anew}
 use Rattle.channel_laws.proofs.PacketsLeft.{anew_packets, answering_shut, says_left, says_packets, stays_packets, waits_left}
 use Rattle.channel_laws.specs.EndCore.{EndCore}
-use Rattle.channel_laws.specs.EndStep.{EndAnew, EndSays, EndStays, EndStep, EndWaits, Holding, Holds}
+use Rattle.channel_laws.specs.EndStep.{EndAnew, EndSays, EndStays, EndStep, EndWaits, Holding, Holds, HoldsOn}
 use Rattle.channel_laws.specs.LaneCore.{Closes, CoreEvent, CoreStep, LaneCore, OnChannel, reset_move, wire_after}
 use Rattle.channel_laws.specs.PacketsLeft.{own_in, packets_left}
 use Rattle.channel_laws.specs.Standing.{EndStands, HandshakeStands}
