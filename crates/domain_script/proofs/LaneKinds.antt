@@ -14,7 +14,7 @@ some_weaker (Some k) P Q holds is = holds k is
 by_kind : (P : Lane → Type 0) (Q : ℕ → Type 0) → ((k : ℕ) → Q k → P (disk_lane k)) → (kind : LaneKind) (number : ℕ)
     → IsSomeAnd (if_disk kind number) Q → P (record { kind = kind; number = number })
 by_kind P Q holds lanes.Disk number is = holds number is
-by_kind P Q holds lanes.Port number is = absurd is
+by_kind P Q holds _ number is = absurd is
 
 pub of_disks : (P : Lane → Type 0) (Q : ℕ → Type 0) → ((k : ℕ) → Q k → P (disk_lane k)) → (l : Lane) → IsSomeAnd (disk_of l) Q → P l
 of_disks P Q holds l is = by_kind P Q holds l.kind l.number is

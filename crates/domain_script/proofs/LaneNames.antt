@@ -1,5 +1,5 @@
 -- Lanes by their names: which lane is the first with a name, and what one more declaration changes.
-use Rattle.std.proofs.Common.{◌≡◌, ◌≢◌, ℕ, List, [], ◌∷◌, ◌++◌, length, map, slice_get, Option, Some, ◌⊎◌, inl, inr, refl, sym, ◌∙◌, ap, arith}
+use Rattle.std.proofs.Common.{◌≡◌, ◌≢◌, ℕ, List, [], ◌∷◌, ◌++◌, length, map, slice_get, Option, Some, ◌⊎◌, inl, inr, refl, sym, ◌∙◌, ap, subst, arith}
 use Rattle.std.specs.Option.{option_map}
 use Rattle.std.proofs.lemmas.List.{length-map, map-append}
 use Rattle.std.proofs.lemmas.Option.{slice_get-map}
@@ -51,9 +51,9 @@ other_kind : (j k : ℕ) → lane_at lanes.Disk j ≡ lane_at lanes.Port k → �
 other_kind j k is = let kinds : lanes.Disk ≡ lanes.Port = ap (λ (l : Lane). l.kind) is in cc kinds
 
 none_before : (names : NamesState) (name : Name) (kind : LaneKind) (k : ℕ) → NamesDiffer names → lane_name names (lane_at kind k) ≡ Some name → IsNoneBefore names name kind
-none_before names name lanes.Disk k differ is = tt
 none_before names name lanes.Port k differ is =
     is_none (names_of lanes.Disk names) name (λ j lt there. other_kind j k (differ (lane_at lanes.Disk j) (lane_at lanes.Port k) name there is))
+none_before names name _ k differ is = tt
 
 pub named_by_own : (names : NamesState) (name : Name) (lane : Lane) → NamesDiffer names → lane_name names lane ≡ Some name → IsNamed names name lane
 named_by_own names name lane differ is = (
@@ -68,11 +68,11 @@ pub record Adds (names more : NamesState) (kind : LaneKind) (name : Name) : Type
   pub own : names_of kind more ≡ names_of kind names ++ name ∷ []
   pub others : (other : LaneKind) → other ≢ kind → names_of other more ≡ names_of other names
 
-not_port : lanes.Disk ≡ lanes.Port → ⊥
-not_port is = cc is
-
-not_disk : lanes.Port ≡ lanes.Disk → ⊥
-not_disk is = cc is
+-- a kind is this one or another
+same_or_not : (other kind : LaneKind) → (other ≡ kind) ⊎ (other ≢ kind)
+same_or_not lanes.Disk lanes.Disk = inl refl
+same_or_not lanes.Port lanes.Port = inl refl
+same_or_not other kind = inr (λ is. cc is)
 
 abbrev pub IsNew : NamesState → LaneKind → Name → Lane → Name → Type 0
 IsNew names kind name lane found = (lane ≡ lane_at kind (length (names_of kind names))) × (name ≡ found)
@@ -91,10 +91,12 @@ of_other names more kind other name found k adds differs is = ap (λ (l : List N
 
 old_or_new : (names more : NamesState) (kind other : LaneKind) (name found : Name) (k : ℕ) → Adds names more kind name → slice_get (names_of other more) k ≡ Some found
     → (lane_name names (lane_at other k) ≡ Some found) ⊎ IsNew names kind name (lane_at other k) found
-old_or_new names more lanes.Disk lanes.Disk name found k adds is = of_own names more lanes.Disk name found k adds is
-old_or_new names more lanes.Port lanes.Port name found k adds is = of_own names more lanes.Port name found k adds is
-old_or_new names more lanes.Disk lanes.Port name found k adds is = inl (of_other names more lanes.Disk lanes.Port name found k adds not_disk is)
-old_or_new names more lanes.Port lanes.Disk name found k adds is = inl (of_other names more lanes.Port lanes.Disk name found k adds not_port is)
+old_or_new names more kind other name found k adds is =
+    elim (same_or_not other kind) [
+      | inl same ↦ subst (λ (x : LaneKind). (lane_name names (lane_at x k) ≡ Some found) ⊎ IsNew names kind name (lane_at x k) found) (sym same)
+          (of_own names more kind name found k adds (ap (λ (x : LaneKind). slice_get (names_of x more) k) (sym same) ∙ is))
+      | inr differs ↦ inl (of_other names more kind other name found k adds differs is)
+    ]
 
 one_lane : (names : NamesState) (kind : LaneKind) (name found : Name) (a b : Lane) → NamesDiffer names → IsFree names name
     → (lane_name names a ≡ Some found) ⊎ IsNew names kind name a found → (lane_name names b ≡ Some found) ⊎ IsNew names kind name b found → a ≡ b

@@ -139,9 +139,8 @@ lane_is names word lane named =
 -- and those of a kind
 number_of_lane : (kind other : LaneKind) (k : ℕ) (P : Lane → Type 0) → P (lane_at other k) → IfSome (number_if kind (lane_at other k)) (λ n. P (lane_at kind n))
 number_of_lane lanes.Disk lanes.Disk k P is = is
-number_of_lane lanes.Disk lanes.Port k P is = tt
-number_of_lane lanes.Port lanes.Disk k P is = tt
 number_of_lane lanes.Port lanes.Port k P is = is
+number_of_lane _ _ k P is = tt
 
 number_of_own : (kind : LaneKind) (k : ℕ) → number_if kind (lane_at kind k) ≡ Some k
 number_of_own lanes.Disk k = refl
@@ -213,7 +212,7 @@ end_is names word end named =
 -- of their kind
 memory_test : (kind : LaneKind) (side : Side) → (kind ≡ lanes.Disk → side ≡ Client) → (not (is_disk kind) || not (is_server side)) ≡ true
 memory_test lanes.Disk side is = ap (λ (s : Side). not (is_server s)) (is refl)
-memory_test lanes.Port side is = refl
+memory_test _ side is = refl
 
 pub kind_test : (kind : EndKind) (end : EndName) → IsOfKind kind end → is_of_kind kind end ≡ true
 kind_test ends.Any end is = refl
@@ -222,7 +221,7 @@ kind_test ends.WithMemory end is = memory_test end.lane.kind end.side is
 
 of_disk : (kind : LaneKind) → is_disk kind ≡ true → kind ≡ lanes.Disk
 of_disk lanes.Disk is = refl
-of_disk lanes.Port is = absurd (cc is)
+of_disk _ is = absurd (cc is)
 
 of_server : (side : Side) → is_server side ≡ true → side ≡ Server
 of_server Client is = absurd (cc is)
@@ -234,7 +233,7 @@ of_client Server is = absurd (cc is)
 
 with_memory : (kind : LaneKind) (side : Side) → (not (is_disk kind) || not (is_server side)) ≡ true → kind ≡ lanes.Disk → side ≡ Client
 with_memory lanes.Disk side is disk = of_client side is
-with_memory lanes.Port side is disk = absurd (cc disk)
+with_memory _ side is disk = absurd (cc disk)
 
 pub kind_from_test : (kind : EndKind) (end : EndName) → is_of_kind kind end ≡ true → IsOfKind kind end
 kind_from_test ends.Any end is = tt

@@ -17,14 +17,14 @@ port_lane k = lane_at lanes.Port k
 -- the number of a lane that is a disk's, and of one that is a port's
 abbrev pub if_disk : LaneKind → ℕ → Option ℕ
 if_disk lanes.Disk k = Some k
-if_disk lanes.Port k = None
+if_disk _ k = None
 
 abbrev pub disk_of : Lane → Option ℕ
 disk_of lane = if_disk lane.kind lane.number
 
 abbrev pub if_port : LaneKind → ℕ → Option ℕ
-if_port lanes.Disk k = None
 if_port lanes.Port k = Some k
+if_port _ k = None
 
 abbrev pub port_of : Lane → Option ℕ
 port_of lane = if_port lane.kind lane.number

@@ -45,8 +45,8 @@ IsFree names name = IsNoneOf name (names_of lanes.Disk names) × IsNoneOf name (
 
 -- the lane is the first with this name; disks come before ports
 abbrev pub IsNoneBefore : NamesState → Name → LaneKind → Type 0
-IsNoneBefore names name lanes.Disk = ⊤
 IsNoneBefore names name lanes.Port = IsNoneOf name (names_of lanes.Disk names)
+IsNoneBefore names name _ = ⊤
 
 abbrev pub IsNamed : NamesState → Name → Lane → Type 0
 IsNamed names name lane = IsNoneBefore names name lane.kind × IsFirst name (names_of lane.kind names) lane.number

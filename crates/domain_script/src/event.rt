@@ -39,7 +39,7 @@ impl Lane {
     {
         match self.kind {
             LaneKind::Disk => Some(self.number),
-            LaneKind::Port => None,
+            _ => None,
         }
     }
 
@@ -48,8 +48,8 @@ impl Lane {
         ensures { result ≡ port_of self }
     {
         match self.kind {
-            LaneKind::Disk => None,
             LaneKind::Port => Some(self.number),
+            _ => None,
         }
     }
 
