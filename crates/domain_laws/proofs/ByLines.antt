@@ -212,11 +212,11 @@ IsHonestAt lane _ = ⊤
 
 at_disk : (lane : LaneName) (k : ℕ) (event : DiskEvent) → (lane ≡ DiskLane k → IsHonest event) → IsHonestAt lane (OfLane k event)
 at_disk (DiskLane j) k event honest = λ same. honest (ap DiskLane (sym same))
-at_disk (PortLane j) k event honest = tt
+at_disk _ k event honest = tt
 
 at_port_lane : (lane : LaneName) (k : ℕ) (event : SwitchEvent) → (lane ≡ PortLane k → IsSwitchHonest event) → IsHonestAt lane (OfPort k event)
-at_port_lane (DiskLane j) k event honest = tt
 at_port_lane (PortLane j) k event honest = λ same. honest (ap PortLane (sym same))
+at_port_lane _ k event honest = tt
 
 module _ (lane : LaneName) where
   abbrev Honest : SettleEntry → Type 0
@@ -236,15 +236,15 @@ module _ (lane : LaneName) where
     where
       name : (one : LaneName) (k : ℕ) → IsHonestAt one (Unsettled k)
       name (DiskLane j) k = tt
-      name (PortLane j) k = tt
+      name _ k = tt
 
       port_name : (one : LaneName) (k : ℕ) → IsHonestAt one (UnsettledPort k)
       port_name (DiskLane j) k = tt
-      port_name (PortLane j) k = tt
+      port_name _ k = tt
 
       settled : (one : LaneName) → IsHonestAt one Settled
       settled (DiskLane j) = tt
-      settled (PortLane j) = tt
+      settled _ = tt
 
   asked : AnswersHave Honest
   asked = record {

@@ -4,6 +4,7 @@ use Rattle.domain_script.specs.declared.event.DiskDecl.{DiskDecl}
 use Rattle.domain_script.specs.declared.event.PortDecl.{PortDecl}
 use Rattle.domain_script.specs.declared.fields.LaneKind.{LaneKind}
 use Rattle.domain_script.specs.declared.fields.LaneKind.TheVariants as lanes
+use Rattle.script_words.specs.declared.spelled.Name.{Name}
 use Rattle.script_words.specs.Addresses.{IsAddress}
 use Rattle.domain_script.specs.Firsts.{AllDiffer, AreAll}
 
@@ -56,6 +57,11 @@ pub record Declared : Type 0 where
 abbrev pub number_of_kind : LaneKind → Declared → ℕ
 number_of_kind lanes.Disk all = length all.disks
 number_of_kind lanes.Port all = length all.ports
+
+-- and their names
+abbrev pub names_of_kind : LaneKind → Declared → List Name
+names_of_kind lanes.Disk all = map (λ (disk : DiskDecl). disk.name) all.disks
+names_of_kind lanes.Port all = map (λ (port : PortDecl). port.name) all.ports
 
 -- at most eight of each kind, all within the limits, and no two ports with one address
 pub record AreDeclared (all : Declared) : Type 0 where

@@ -7,20 +7,20 @@ use Rattle.recorded_lanes.specs.OnePort.{IsCallOf}
 use Rattle.recorded_lanes.specs.declared.calls.LaneCall.TheVariants as lane
 
 pub reset_of_lane : (kind : LaneKind) (side : Side) → IsCallOf kind (lane.Reset side)
-reset_of_lane kinds.Disk side = tt
 reset_of_lane kinds.Port side = tt
+reset_of_lane _ side = tt
 
 pub lose_of_lane : (kind : LaneKind) (side : Side) → IsCallOf kind (lane.Lose side)
-lose_of_lane kinds.Disk side = tt
 lose_of_lane kinds.Port side = tt
+lose_of_lane _ side = tt
 
 pub tick_of_lane : (kind : LaneKind) → IsCallOf kind lane.Tick
-tick_of_lane kinds.Disk = tt
 tick_of_lane kinds.Port = tt
+tick_of_lane _ = tt
 
 pub inject_of_lane : (kind : LaneKind) (side : Side) (packet : _) → IsCallOf kind (lane.Inject side packet)
-inject_of_lane kinds.Disk side packet = tt
 inject_of_lane kinds.Port side packet = tt
+inject_of_lane _ side packet = tt
 
 pub restart_of_disk : (kind : LaneKind) → kind ≡ kinds.Disk → IsCallOf kind lane.Restart
 restart_of_disk kind is = subst (λ (k : LaneKind). IsCallOf k lane.Restart) (sym is) tt

@@ -234,20 +234,19 @@ not_by : (b : Bool) → (if b then false else true) ≡ not b
 not_by true = refl
 not_by false = refl
 
-left_is : (kind : LaneKind) (k : ℕ) → (in_world kind).entries.left_over k ≡ left_over kind k
+left_is : (kind : LaneKind) (k : ℕ) → left_over (lane_at kind k) ≡ Some ((in_world kind).entries.left_over k)
 left_is kinds.Disk k = refl
 left_is kinds.Port k = refl
 
-told_left : (kind : LaneKind) (k : ℕ) → told_of (left_over kind k) ≡ left_over kind k
+told_left : (kind : LaneKind) (k : ℕ) → told_of ((in_world kind).entries.left_over k) ≡ (in_world kind).entries.left_over k
 told_left kinds.Disk k = refl
 told_left kinds.Port k = refl
 
 name_by : (kind : LaneKind) (k : ℕ) (calm rests : Bool) (s : (in_world kind).Lane) → rests ≡ (calm && not ((in_world kind).kind.waits_on s))
-    → name_of (in_world kind).kind (in_world kind).entries k calm s ≡ (if rests then [] else left_over kind k ∷ [])
+    → name_of (in_world kind).kind (in_world kind).entries k calm s ≡ (if rests then [] else (in_world kind).entries.left_over k ∷ [])
 name_by kind k calm rests s is =
     ap (λ (b : Bool). if calm && b then [] else (in_world kind).entries.left_over k ∷ []) (not_by ((in_world kind).kind.waits_on s))
     ∙ ap (λ (b : Bool). if b then [] else (in_world kind).entries.left_over k ∷ []) (sym is)
-    ∙ ap (λ (x : SettleEntry). if rests then [] else x ∷ []) (left_is kind k)
 
 pub named_goes_on : (kind : LaneKind) (k : ℕ) (w : DomainState) (calm rests : Bool) (s : (in_world kind).Lane) (old new : List Entry)
     → slice_get ((in_world kind).lanes w) k ≡ Some s → rests ≡ (calm && not ((in_world kind).kind.waits_on s)) → rests ≡ false
@@ -255,9 +254,9 @@ pub named_goes_on : (kind : LaneKind) (k : ℕ) (w : DomainState) (calm rests : 
 named_goes_on kind k w calm rests s old new there is left grew =
     names_go_by kind k w old new calm s there
     (subst (λ (l : List SettleEntry). Adds Settles old new l)
-    (sym (name_by kind k calm rests s is ∙ ap (λ (b : Bool). if b then [] else left_over kind k ∷ []) left))
-    (one_adds Settles old new (entry.Unsettled (OfWhole (lane_at kind k))) (left_over kind k) grew
-    (ap (λ (x : SettleEntry). Some x) (sym (told_left kind k)))))
+    (sym (name_by kind k calm rests s is ∙ ap (λ (b : Bool). if b then [] else (in_world kind).entries.left_over k ∷ []) left))
+    (one_adds Settles old new (entry.Unsettled (OfWhole (lane_at kind k))) ((in_world kind).entries.left_over k) grew
+    (left_is kind k ∙ ap (λ (x : SettleEntry). Some x) (sym (told_left kind k)))))
 
 pub unnamed_goes_on : (kind : LaneKind) (k : ℕ) (w : DomainState) (calm rests : Bool) (s : (in_world kind).Lane) (old : List Entry)
     → slice_get ((in_world kind).lanes w) k ≡ Some s → rests ≡ (calm && not ((in_world kind).kind.waits_on s)) → rests ≡ true
@@ -265,5 +264,5 @@ pub unnamed_goes_on : (kind : LaneKind) (k : ℕ) (w : DomainState) (calm rests 
 unnamed_goes_on kind k w calm rests s old there is left =
     names_go_by kind k w old old calm s there
     (subst (λ (l : List SettleEntry). Adds Settles old old l)
-    (sym (name_by kind k calm rests s is ∙ ap (λ (b : Bool). if b then [] else left_over kind k ∷ []) left))
+    (sym (name_by kind k calm rests s is ∙ ap (λ (b : Bool). if b then [] else (in_world kind).entries.left_over k ∷ []) left))
     (none_adds Settles old old refl))

@@ -1,12 +1,12 @@
 // The names of lanes and ends as lines put them.
 ghost use Rattle.std.specs.Prelude.{◌≡◌, ◌≤◌, length, slice_get, take};
-ghost use Rattle.domain_script.specs.Declarations.{number_of_kind};
+ghost use Rattle.domain_script.specs.Declarations.{names_of_kind, number_of_kind};
 ghost use Rattle.domain_script.specs.LaneKinds.{lane_at};
 ghost use Rattle.domain_script.specs.NamesState.{declared_by};
 ghost use Rattle.domain_script.specs.declared.fields.LaneKind.TheVariants as the_kind;
 ghost use Rattle.line_words.specs.IsDeclared.{IsLane};
 ghost use Rattle.line_words.specs.LaneNames.{lane_names};
-ghost use Rattle.line_words.specs.LineNames.{lane_name, names_of};
+ghost use Rattle.line_words.specs.LineNames.{lane_name};
 
 use crate::LaneNames;
 use domain_script::{Lane, LaneKind, Name, Names};
@@ -21,7 +21,7 @@ fn name_bytes(name: &Name) -> &[u8]
 
 /// The name of a lane. None exactly where the lane isn't declared.
 fn name_of(names: &Names, kind: LaneKind, number: u32) -> Option<Name>
-    ensures name { result ≡ slice_get (names_of kind (declared_by names.now)) number }
+    ensures name { result ≡ slice_get (names_of_kind kind (declared_by names.now)) number }
     ensures few { number_of_kind kind (declared_by names.now) ≤ 8 }
 {
     match kind {

@@ -93,8 +93,8 @@ IsPortCall _ = ⊤
 
 -- and one of a lane, by its kind
 abbrev pub IsCallOf : LaneKind → LaneCall → Type 0
-IsCallOf kinds.Disk call = ⊤
 IsCallOf kinds.Port call = IsPortCall call
+IsCallOf _ call = ⊤
 
 -- the entry of a frame that an end took: a guest, or the switch, with the ports that it is for
 abbrev pub frame_entry : EndName → Option Sets → BytesState → Entry

@@ -31,7 +31,7 @@ use Rattle.ldc_queue.specs.declared.end.End.TheVariants.{A}
 use Rattle.world_parts.specs.domain_laws.Lines.{Asked, Call, Calls, DiskLane, Injects, Joins, LaneName, Line, Pokes, PortLane, Sends}
 use Rattle.ldom_report.specs.DiskEvents.{Defective, NoRoom, NotTaken, Nothing, OfDisk, Refusal, defect_of, not_taken_for, not_taken_on, refused, request_asked, said}
 use Rattle.ldom_report.specs.LaneEvents.{AtLane, AtPort, AtServer, AtWire, ChangesNothing, LeavesNothing, LeavesOver, Meaning, NoRoomFor, Publishes, Refuses, Switches, TakesFrame, meaning}
-use Rattle.world_parts.specs.WorldEvents.{at_disk, at_port, declined_at, full_call, full_event, if_so, is_end, is_lane, kind_of as lane_kind, number_of, of_net, refused_asked, refused_call, refused_event, wire_by, world_event}
+use Rattle.world_parts.specs.WorldEvents.{at_disk, at_port, declined_at, full_call, full_event, if_so, is_end, is_lane, of_net, refused_asked, refused_call, refused_event, wire_on, world_event}
 use Rattle.world_parts.specs.world_laws.Failures.{is_failed_done}
 use Rattle.world_parts.specs.Lines.{line_of}
 use Rattle.world_parts.specs.world_laws.Requests.{request_event}
@@ -152,14 +152,14 @@ full_on j request lane (Some k) m at is = record {
 }
 
 -- a call of an end that came to nothing says nothing of requests, and no entry of a port does
-wire_silent : (name : LaneName) (d : Declined) → SaysNothing (wire_by (lane_kind name) (number_of name) (Declines d))
+wire_silent : (name : LaneName) (d : Declined) → SaysNothing (wire_on name (Declines d))
 wire_silent (DiskLane j) d = (refl, refl)
 wire_silent (PortLane j) d = tt
 
 declined_silent : (name : LaneName) (e : End) (at : EndName) (d : Declined) (m : SettleEntry) → declined_at name e at d ≡ Some m
     → SaysNothing m
 declined_silent name e at d m is =
-    subst SaysNothing (sym (if_is (is_end name e at) (wire_by (lane_kind name) (number_of name) (Declines d)) m is)) (wire_silent name d)
+    subst SaysNothing (sym (if_is (is_end name e at) (wire_on name (Declines d)) m is)) (wire_silent name d)
 
 port_silent : (j : ℕ) (o : Option ℕ) (event : NetEvent) (m : SettleEntry) → at_port j o event ≡ Some m → SaysNothing m
 port_silent j o event m is = subst SaysNothing (sym (if_is (is_lane j o) (of_net j event) m is)) tt
@@ -189,8 +189,8 @@ full_whole asked lane m is = absurd (cc is)
 -- a frame that found no room is of a port, and so of no disk
 frame_silent : (kind : LaneKind) (n j : ℕ) (event : NetEvent) (m : SettleEntry) → at_port j (if_port kind n) event ≡ Some m
     → not_taken_on (if_disk kind n) NoRoom ≡ Nothing
-frame_silent kinds.Disk n j event m is = absurd (cc is)
 frame_silent kinds.Port n j event m is = refl
+frame_silent _ n j event m is = absurd (cc is)
 
 full_kind : (asked : Event) (who : Who) (m : SettleEntry) → full_event (line_of asked) who ≡ Some m
     → NotTakenUp asked (entry.Full who) m ⊎ IsSilent (entry.Full who) m

@@ -1,20 +1,19 @@
 -- A journal that forges a disk nowhere tells its lane of nothing that forges.
-use Rattle.std.proofs.Common.{◌≡◌, ℕ, ◌==◌, if◌then◌else◌, Bool, true, false, List, [], ◌∷◌, ◌++◌, refl}
+use Rattle.std.proofs.Common.{◌≡◌, ℕ, ◌==◌, if◌then◌else◌, Bool, true, false, List, [], ◌∷◌, ◌++◌, Option, Some, None, option_map, refl}
 use Rattle.std.proofs.lemmas.Bool.{eqb-true}
 use Rattle.world_parts.specs.channel_model.WireEvent.{Injected, Poked, WireEvent}
 use Rattle.world_parts.specs.disk_model.DiskEvent.{DiskEvent, OnWire}
-use Rattle.domain_script.specs.declared.fields.LaneKind.{LaneKind}
-use Rattle.domain_script.specs.declared.fields.LaneKind.TheVariants as kinds
-use Rattle.domain_script.specs.LaneKinds.{if_disk}
+use Rattle.domain_script.specs.declared.event.Lane.{Lane}
+use Rattle.domain_script.specs.LaneKinds.{disk_of, port_of}
 use Rattle.ldom_entries.specs.declared.entry.Entry.{Entry}
 use Rattle.ldom_entries.specs.declared.entry.Entry.TheVariants as entry
 use Rattle.ldom_report.specs.LaneEvents.{AtLane, AtPort, AtServer, AtWire, ChangesNothing, LeavesNothing, LeavesOver, Meaning, NoRoomFor, Publishes, Refuses, Switches, TakesFrame, meaning}
 use Rattle.world_parts.specs.world_laws.Along.{event_at, happened}
 use Rattle.world_parts.specs.world_laws.Forged.{NobodyForges, forges}
 use Rattle.world_parts.specs.world_laws.Settle.{OfLane, SettleEntry}
-use Rattle.world_parts.proofs.Meanings.{AllOf, Holds, all_events, all_left, entry_has}
+use Rattle.world_parts.proofs.Meanings.{AllOf, Has, Holds, all_events, all_left, entry_has, or_has}
 use Rattle.world_parts.specs.Lines.{line_of}
-use Rattle.world_parts.specs.WorldEvents.{wire_by}
+use Rattle.world_parts.specs.WorldEvents.{disk_event, net_event, of_net, on_channel, wire_event}
 use Rattle.script_laws.specs.Forged.{IsOther, IsUnforged, forged_disk}
 use Rattle.script_laws.proofs.Tellings.{Telling, entries_told, means_of}
 
@@ -34,9 +33,18 @@ unless true event other = absurd (other refl)
 unless false event other = tt
 
 -- on the wire of a lane that isn't the disk x
-of_other : (x : ℕ) (event : WireEvent) (kind : LaneKind) (n : ℕ) → IsOther x (if_disk kind n) → Leaves x (wire_by kind n event)
-of_other x event kinds.Disk n other = unless (n == x) (OnWire event) (λ same. other (eqb-true n x same))
-of_other x event kinds.Port n other = tt
+other_disk : (x : ℕ) (event : WireEvent) (o : Option ℕ) → IsOther x o → Has (Leaves x) (option_map (λ k. OfLane k (OnWire event)) o)
+other_disk x event None other = tt
+other_disk x event (Some n) other = unless (n == x) (OnWire event) (λ same. other (eqb-true n x same))
+
+any_port : (x : ℕ) (event : WireEvent) (o : Option ℕ) → Has (Leaves x) (option_map (λ k. of_net k (on_channel event)) o)
+any_port x event None = tt
+any_port x event (Some n) = tt
+
+of_other : (x : ℕ) (event : WireEvent) (lane : Lane) → IsOther x (disk_of lane) → Has (Leaves x) (wire_event lane event)
+of_other x event lane other =
+    or_has (Leaves x) (disk_event lane (OnWire event)) (net_event lane (on_channel event)) (other_disk x event (disk_of lane) other)
+    (any_port x event (port_of lane))
 
 abbrev ForgesNone : DiskEvent → Type 0
 ForgesNone event = forges event ≡ false
@@ -57,8 +65,8 @@ never_aside _ = refl
 
 -- BY WHAT AN ENTRY MEANS
 means_leaves : (x : ℕ) (m : Meaning) → aside m ≡ false → IsOther x (forged_disk m) → Holds (Leaves x) m
-means_leaves x (AtWire e (Injected d packet)) none other = of_other x (Injected d packet) e.lane.kind e.lane.number other
-means_leaves x (AtWire e (Poked d at bytes)) none other = of_other x (Poked d at bytes) e.lane.kind e.lane.number other
+means_leaves x (AtWire e (Injected d packet)) none other = of_other x (Injected d packet) e.lane other
+means_leaves x (AtWire e (Poked d at bytes)) none other = of_other x (Poked d at bytes) e.lane other
 means_leaves x (AtWire e event) none other = of_events x (AtWire e event) refl
 means_leaves x (AtServer e event) none other = of_events x (AtServer e event) none
 means_leaves x (AtLane k event) none other = of_events x (AtLane k event) none

@@ -1,5 +1,6 @@
 -- What holds of all that an entry may be for the lanes, whatever line it came in: by what it means.
 use Rattle.std.proofs.Common.{◌≡◌, ℕ, ◌==◌, ◌&&◌, Bool, true, false, List, length, Option, Some, None, option_map, refl, sym, subst}
+use Rattle.std.specs.Option.{option_or}
 use Rattle.std.specs.Prelude.{IsSomeAnd, ⊤}
 use Rattle.std.proofs.lemmas.Bool.{eqb-true}
 use Rattle.vdisk_msg.specs.declared.request.Request.{Request}
@@ -31,7 +32,7 @@ use Rattle.ldom_entries.specs.declared.entry.Why.{Why}
 use Rattle.ldom_entries.specs.declared.entry.Why.TheVariants.{Groups, Length, Range}
 use Rattle.ldom_report.specs.DiskEvents.{defect_of}
 use Rattle.ldom_report.specs.LaneEvents.{AtLane, AtPort, AtServer, AtWire, ChangesNothing, LeavesNothing, LeavesOver, Meaning, NoRoomFor, Publishes, Refuses, Switches, TakesFrame, end_of, meaning}
-use Rattle.world_parts.specs.WorldEvents.{at_disk, at_port, declined_at, disk_called, disk_event, full_call, given_to, if_so, is_end, is_lane, is_same, kind_of, lane_called, meant, left_over, net_event, number_in, number_of, of_net, of_server, on_channel, port_called, published_by, refused_asked, refused_call, switched_by, taken_by, unsettled_event, wire_by, wire_event, world_event}
+use Rattle.world_parts.specs.WorldEvents.{at_disk, at_port, declined_at, disk_called, disk_event, full_call, given_to, if_so, is_end, is_lane, is_same, lane_called, meant, net_event, number_in, number_of, of_client, of_net, of_server, on_channel, port_called, published_by, refused_asked, refused_call, switched_by, taken_by, unsettled_event, wire_event, wire_on, world_event}
 
 -- the lane of whom an entry is about
 abbrev pub lane_of : Who → Lane
@@ -80,7 +81,7 @@ Holds P (AtWire e event) = Has P (wire_event e.lane event)
 Holds P (AtServer e event) = Has P (disk_event e.lane event)
 Holds P (AtLane k event) = P (OfLane k event)
 Holds P (AtPort k gets) = P (of_net k (given_to gets))
-Holds P (Publishes e id) = Has P (published_by e.lane.kind e.side e.lane.number id)
+Holds P (Publishes e id) = Has P (published_by e id)
 Holds P (TakesFrame e frame) = Has P (net_event e.lane (Steps A (Frame frame)))
 Holds P (Switches e frame out full) = Has P (option_map (λ k. OfPort k (Switched frame out full)) (port_of e.lane))
 Holds P (NoRoomFor who) = RoomHolds P who
@@ -88,6 +89,10 @@ Holds P (Refuses who why) = RefusalHolds P who
 Holds P (ChangesNothing who) = CalmHolds P who
 Holds P (LeavesOver who) = Has P (unsettled_event who)
 Holds P LeavesNothing = P Settled
+
+pub or_has : (P : SettleEntry → Type 0) (one two : Option SettleEntry) → Has P one → Has P two → Has P (option_or one two)
+or_has P None two first second = second
+or_has P (Some x) two first second = first
 
 if_has : (P : SettleEntry → Type 0) (b : Bool) (x : SettleEntry) → P x → Has P (if_so b x)
 if_has P true x holds = holds
@@ -111,6 +116,10 @@ pub at_has : (P : SettleEntry → Type 0) (j : ℕ) (o : Option ℕ) (f : ℕ �
 at_has P j None f holds = tt
 at_has P j (Some k) f holds = whole_has P j k (j == k) f refl holds
 
+client_has : (P : SettleEntry → Type 0) (side : Side) (lane : Lane) (event : DiskEvent) → Has P (disk_event lane event) → Has P (of_client side lane event)
+client_has P Client lane event holds = holds
+client_has P Server lane event holds = tt
+
 server_has : (P : SettleEntry → Type 0) (side : Side) (lane : Lane) (event : DiskEvent) → Has P (disk_event lane event) → Has P (of_server side lane event)
 server_has P Client lane event holds = tt
 server_has P Server lane event holds = holds
@@ -124,12 +133,11 @@ switched_has P Client lane event holds = tt
 switched_has P Server lane event holds = holds
 
 -- A CALL OF AN END that came to nothing: the line's lane is that of the end
-end_wire_has : (P : SettleEntry → Type 0) (name : LaneName) (kind : LaneKind) (n : ℕ) (also : Bool) (d : Declined) → P (wire_by kind n (Declines d))
-    → Has P (if_so (is_lane (number_of name) (number_in name (record { kind = kind; number = n })) && also) (wire_by (kind_of name) (number_of name) (Declines d)))
-end_wire_has P (DiskLane j) kinds.Disk n also d holds = named_has P j (Some n) also (λ k. wire_by kinds.Disk k (Declines d)) holds
-end_wire_has P (DiskLane j) kinds.Port n also d holds = tt
-end_wire_has P (PortLane j) kinds.Disk n also d holds = tt
-end_wire_has P (PortLane j) kinds.Port n also d holds = named_has P j (Some n) also (λ k. wire_by kinds.Port k (Declines d)) holds
+end_wire_has : (P : SettleEntry → Type 0) (name : LaneName) (kind : LaneKind) (n : ℕ) (also : Bool) (d : Declined) → Has P (wire_event (lane_at kind n) (Declines d))
+    → Has P (if_so (is_lane (number_of name) (number_in name (lane_at kind n)) && also) (wire_on name (Declines d)))
+end_wire_has P (DiskLane j) kinds.Disk n also d holds = named_has P j (Some n) also (λ k. wire_on (DiskLane k) (Declines d)) holds
+end_wire_has P (PortLane j) kinds.Port n also d holds = named_has P j (Some n) also (λ k. wire_on (PortLane k) (Declines d)) holds
+end_wire_has P name kind n also d holds = tt
 
 declined_has : (P : SettleEntry → Type 0) (name : LaneName) (e : End) (at : EndName) (d : Declined) → DeclinedHas P (OfEnd at) → Has P (declined_at name e at d)
 declined_has P name e at d holds = end_wire_has P name at.lane.kind at.lane.number (is_same e (end_of at.side)) d (holds d)
@@ -195,7 +203,7 @@ entry_has P asked e m holds is = subst (Has P) is (meant_has P asked (meaning e)
 disk_kind : (P : Lane → SettleEntry → Type 0) (kind : LaneKind) (n : ℕ) (f : ℕ → SettleEntry) → ((k : ℕ) → P (disk_lane k) (f k))
     → Has (P (lane_at kind n)) (option_map f (if_disk kind n))
 disk_kind P kinds.Disk n f holds = holds n
-disk_kind P kinds.Port n f holds = tt
+disk_kind P _ n f holds = tt
 
 pub lane_has : (P : Lane → SettleEntry → Type 0) (f : ℕ → SettleEntry) (lane : Lane) → ((k : ℕ) → P (disk_lane k) (f k))
     → Has (P lane) (option_map f (disk_of lane))
@@ -203,47 +211,35 @@ lane_has P f lane holds = disk_kind P lane.kind lane.number f holds
 
 port_kind : (P : Lane → SettleEntry → Type 0) (kind : LaneKind) (n : ℕ) (f : ℕ → SettleEntry) → ((k : ℕ) → P (port_lane k) (f k))
     → Has (P (lane_at kind n)) (option_map f (if_port kind n))
-port_kind P kinds.Disk n f holds = tt
 port_kind P kinds.Port n f holds = holds n
+port_kind P _ n f holds = tt
 
 pub port_has : (P : Lane → SettleEntry → Type 0) (f : ℕ → SettleEntry) (lane : Lane) → ((k : ℕ) → P (port_lane k) (f k))
     → Has (P lane) (option_map f (port_of lane))
 port_has P f lane holds = port_kind P lane.kind lane.number f holds
 
-wire_kind : (P : Lane → SettleEntry → Type 0) (event : WireEvent) (kind : LaneKind) (n : ℕ)
-    → ((k : ℕ) → P (disk_lane k) (OfLane k (OnWire event))) → ((k : ℕ) → P (port_lane k) (of_net k (on_channel event)))
-    → P (lane_at kind n) (wire_by kind n event)
-wire_kind P event kinds.Disk n disks ports = disks n
-wire_kind P event kinds.Port n disks ports = ports n
-
 pub wire_has : (P : Lane → SettleEntry → Type 0) (event : WireEvent) (lane : Lane)
     → ((k : ℕ) → P (disk_lane k) (OfLane k (OnWire event))) → ((k : ℕ) → P (port_lane k) (of_net k (on_channel event)))
     → Has (P lane) (wire_event lane event)
-wire_has P event lane disks ports = wire_kind P event lane.kind lane.number disks ports
-
-left_kind : (P : Lane → SettleEntry → Type 0) (kind : LaneKind) (n : ℕ) → ((k : ℕ) → P (disk_lane k) (Unsettled k))
-    → ((k : ℕ) → P (port_lane k) (UnsettledPort k)) → P (lane_at kind n) (left_over kind n)
-left_kind P kinds.Disk n disks ports = disks n
-left_kind P kinds.Port n disks ports = ports n
+wire_has P event lane disks ports =
+    or_has (P lane) (disk_event lane (OnWire event)) (net_event lane (on_channel event)) (lane_has P (λ k. OfLane k (OnWire event)) lane disks)
+    (port_has P (λ k. of_net k (on_channel event)) lane ports)
 
 pub left_has : (P : Lane → SettleEntry → Type 0) (who : Who) → ((k : ℕ) → P (disk_lane k) (Unsettled k))
     → ((k : ℕ) → P (port_lane k) (UnsettledPort k)) → Has (P (lane_of who)) (unsettled_event who)
-left_has P (OfWhole lane) disks ports = left_kind P lane.kind lane.number disks ports
+left_has P (OfWhole lane) disks ports =
+    or_has (P lane) (option_map (λ k. Unsettled k) (disk_of lane)) (option_map (λ k. UnsettledPort k) (port_of lane)) (lane_has P (λ k. Unsettled k) lane disks)
+    (port_has P (λ k. UnsettledPort k) lane ports)
 left_has P (OfEnd e) disks ports = tt
-
-published_kind : (P : Lane → SettleEntry → Type 0) (id : ℕ) (kind : LaneKind) (side : Side) (n : ℕ)
-    → ((k : ℕ) → P (disk_lane k) (OfLane k (Works (Published id))))
-    → ((k : ℕ) (e : End) → P (port_lane k) (of_net k (Steps e (port.Published id))))
-    → Has (P (lane_at kind n)) (published_by kind side n id)
-published_kind P id kinds.Disk Client n disks ports = disks n
-published_kind P id kinds.Disk Server n disks ports = tt
-published_kind P id kinds.Port side n disks ports = ports n (end_of side)
 
 pub published_has : (P : Lane → SettleEntry → Type 0) (id : ℕ) (e : EndName)
     → ((k : ℕ) → P (disk_lane k) (OfLane k (Works (Published id))))
     → ((k : ℕ) (end : End) → P (port_lane k) (of_net k (Steps end (port.Published id))))
-    → Has (P e.lane) (published_by e.lane.kind e.side e.lane.number id)
-published_has P id e disks ports = published_kind P id e.lane.kind e.side e.lane.number disks ports
+    → Has (P e.lane) (published_by e id)
+published_has P id e disks ports =
+    or_has (P e.lane) (of_client e.side e.lane (Works (Published id))) (net_event e.lane (Steps (end_of e.side) (port.Published id)))
+    (client_has (P e.lane) e.side e.lane (Works (Published id)) (lane_has P (λ k. OfLane k (Works (Published id))) e.lane disks))
+    (port_has P (λ k. of_net k (Steps (end_of e.side) (port.Published id))) e.lane (λ k. ports k (end_of e.side)))
 
 -- WHAT AN ENTRY MAY BE FOR THE LANES, by the events of disks and of ports that it may be
 pub record Events (P : Lane → SettleEntry → Type 0) (Q : DiskEvent → Type 0) : Type 0 where

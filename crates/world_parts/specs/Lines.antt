@@ -60,7 +60,7 @@ IsLaneOf w lane = lane.number < number_of_kind lane.kind w
 -- an end of it has memory: a disk's client, and either end of a port
 abbrev pub HasMemory : LaneKind → Side → Type 0
 HasMemory kinds.Disk side = side ≡ Client
-HasMemory kinds.Port side = ⊤
+HasMemory _ side = ⊤
 
 -- The event is one that a row of a script says, of one of these lanes: a request's fill is one, and so is a frame and a
 -- group's address; steps and rounds are 1 to 100; the end that restarts is a disk's server, and one that is poked has

@@ -1,5 +1,6 @@
 -- What the entries of a journal are for the lanes of a world, in the part of a script's line that they came in.
 use Rattle.std.specs.Prelude.{ℕ, Bool, true, false, ◌==◌, ◌&&◌, List, length, Option, Some, None, option_and_then, option_map}
+use Rattle.std.specs.Option.{option_or}
 use Rattle.ldc_queue.specs.declared.end.End.{End}
 use Rattle.ldc_queue.specs.declared.end.End.TheVariants.{A, B}
 use Rattle.vio_tag.specs.declared.cause.Cause.{Cause}
@@ -22,8 +23,6 @@ use Rattle.domain_laws.specs.Lines.{Asked, Call, Calls, DiskLane, Injects, LaneN
 use Rattle.domain_laws.specs.Lines as line
 use Rattle.domain_script.specs.declared.event.EndName.{EndName}
 use Rattle.domain_script.specs.declared.event.Lane.{Lane}
-use Rattle.domain_script.specs.declared.fields.LaneKind.{LaneKind}
-use Rattle.domain_script.specs.declared.fields.LaneKind.TheVariants as kinds
 use Rattle.domain_script.specs.LaneKinds.{disk_of, port_of}
 use Rattle.domain_script.specs.declared.event.Side.{Side}
 use Rattle.domain_script.specs.declared.event.Side.TheVariants.{Client, Server}
@@ -85,15 +84,15 @@ on_channel (wire.Injected e packet) = net.Injects e packet
 on_channel (wire.Poked e at bytes) = net.Pokes e at bytes
 on_channel (Declines d) = net.Declines d
 
--- AN EVENT ON A LANE'S CHANNEL, by the kind of the lane
-abbrev pub wire_by : LaneKind → ℕ → WireEvent → SettleEntry
-wire_by kinds.Disk k event = OfLane k (OnWire event)
-wire_by kinds.Port k event = of_net k (on_channel event)
-
+-- AN EVENT ON A LANE'S CHANNEL, a disk's or a port's
 abbrev pub wire_event : Lane → WireEvent → Option SettleEntry
-wire_event lane event = Some (wire_by lane.kind lane.number event)
+wire_event lane event = option_or (disk_event lane (OnWire event)) (net_event lane (on_channel event))
 
--- the work of a server: of the other end there is none
+-- the work of a client, and that of a server: of the other end there is none
+abbrev pub of_client : Side → Lane → DiskEvent → Option SettleEntry
+of_client Client lane event = disk_event lane event
+of_client Server lane event = None
+
 abbrev pub of_server : Side → Lane → DiskEvent → Option SettleEntry
 of_server Server lane event = disk_event lane event
 of_server Client lane event = None
@@ -104,10 +103,8 @@ given_to (GetsFrame id frame) = Gives A (Queued id frame)
 given_to (GetsGroup address) = Joins (Member address)
 
 -- what an end publishes: a disk's client a request, either end of a port a frame
-abbrev pub published_by : LaneKind → Side → ℕ → ℕ → Option SettleEntry
-published_by kinds.Disk Client k id = Some (OfLane k (Works (disk.Published id)))
-published_by kinds.Disk Server k id = None
-published_by kinds.Port side k id = Some (of_net k (Steps (end_of side) (port.Published id)))
+abbrev pub published_by : EndName → ℕ → Option SettleEntry
+published_by e id = option_or (of_client e.side e.lane (Works (disk.Published id))) (net_event e.lane (Steps (end_of e.side) (port.Published id)))
 
 -- a frame that a guest takes, and one that the switch's end took, which is switched
 abbrev pub taken_by : Side → Lane → List ℕ → Option SettleEntry
@@ -119,10 +116,6 @@ switched_by Server lane event = option_map (λ k. OfPort k event) (port_of lane)
 switched_by Client lane event = None
 
 -- A CALL THAT CAME TO NOTHING, of the end that the line names
-abbrev pub kind_of : LaneName → LaneKind
-kind_of (DiskLane k) = kinds.Disk
-kind_of (PortLane k) = kinds.Port
-
 abbrev pub number_of : LaneName → ℕ
 number_of (DiskLane k) = k
 number_of (PortLane k) = k
@@ -134,8 +127,12 @@ number_in (PortLane k) lane = port_of lane
 abbrev pub is_end : LaneName → End → EndName → Bool
 is_end name e at = is_lane (number_of name) (number_in name at.lane) && is_same e (end_of at.side)
 
+abbrev pub wire_on : LaneName → WireEvent → SettleEntry
+wire_on (DiskLane k) event = OfLane k (OnWire event)
+wire_on (PortLane k) event = of_net k (on_channel event)
+
 abbrev pub declined_at : LaneName → End → EndName → Declined → Option SettleEntry
-declined_at name e at d = if_so (is_end name e at) (wire_by (kind_of name) (number_of name) (Declines d))
+declined_at name e at d = if_so (is_end name e at) (wire_on name (Declines d))
 
 -- a packet for which there was no room at its end, and bytes that leave its memory
 abbrev pub full_call : LaneName → Call → EndName → Option SettleEntry
@@ -188,12 +185,11 @@ calm_event (Calls name call) who = lane_called name call who
 calm_event (line.Joins j address) (OfWhole lane) = at_port j (port_of lane) (Joins (Already address))
 calm_event _ who = None
 
-abbrev pub left_over : LaneKind → ℕ → SettleEntry
-left_over kinds.Disk k = settle.Unsettled k
-left_over kinds.Port k = settle.UnsettledPort k
+abbrev pub left_over : Lane → Option SettleEntry
+left_over lane = option_or (option_map (λ k. settle.Unsettled k) (disk_of lane)) (option_map (λ k. settle.UnsettledPort k) (port_of lane))
 
 abbrev pub unsettled_event : Who → Option SettleEntry
-unsettled_event (OfWhole lane) = Some (left_over lane.kind lane.number)
+unsettled_event (OfWhole lane) = left_over lane
 unsettled_event (OfEnd e) = None
 
 -- what is meant for the lanes, where it came in the part of this line; none where it doesn't belong to it, or to its end
@@ -202,7 +198,7 @@ meant asked (AtWire e event) = wire_event e.lane event
 meant asked (AtServer e event) = of_server e.side e.lane event
 meant asked (AtLane k event) = Some (OfLane k event)
 meant asked (AtPort k gets) = Some (of_net k (given_to gets))
-meant asked (Publishes e id) = published_by e.lane.kind e.side e.lane.number id
+meant asked (Publishes e id) = published_by e id
 meant asked (TakesFrame e frame) = taken_by e.side e.lane frame
 meant asked (Switches e frame out full) = switched_by e.side e.lane (Switched frame out full)
 meant asked (NoRoomFor who) = full_event asked who
