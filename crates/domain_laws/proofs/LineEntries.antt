@@ -31,7 +31,7 @@ use Rattle.world_laws.specs.Settle.{OfLane, OfPort, SettleEntry, Settled, Unsett
 use Rattle.domain_laws.proofs.Running.{port_reads}
 use Rattle.domain_laws.specs.Along.{port_said}
 use Rattle.domain_laws.specs.Domain.{Lanes, lanes, port_entries, switch}
-use Rattle.domain_laws.specs.Lines.{AnswersCall, AnswersFrame, AnswersGroup, AnswersOn, AnswersPortCall, AnswersRequest, AreSteps, Asked, BeginsPart, Call, Calls, DiskLane, EndTurn, IsStepOf, Joins, LaneName, Line, Nothing, OneEntry, OnePortEntry, PartOf, PortLane, Rounds, Sends, Steps, fronts, turn, turns_of}
+use Rattle.domain_laws.specs.Lines.{AnswersCall, AnswersFrame, AnswersGroup, AnswersOn, AnswersOnPort, AnswersPortCall, AnswersRequest, AreSteps, Asked, BeginsPart, Call, Calls, DiskLane, EndTurn, IsStepOf, Joins, LaneName, Line, Nothing, OneEntry, OnePortEntry, PartOf, PortLane, Rounds, Sends, Steps, fronts, turn, turns_of}
 use Rattle.domain_laws.specs.Lines as script
 
 abbrev pub EachEntry : (SettleEntry → Type 0) → List SettleEntry → Type 0
@@ -44,11 +44,16 @@ OnEvent P Q (OfPort k event) = Q event
 OnEvent P Q _ = ⊤
 
 -- WHAT COMES OF A CALL is one event, and has what each part of one event has
+by_port_answer : (Holds : List SettleEntry → Type 0) (lane : LaneName) (call : Call) (part : List SettleEntry)
+    → ((k : ℕ) (event : SwitchEvent) → lane ≡ PortLane k → AnswersPortCall call event → Holds (OfPort k event ∷ [])) → AnswersOnPort lane call part → Holds part
+by_port_answer Holds (PortLane k) call part port one = subst Holds (sym one.is) (port k one.event refl one.answers)
+by_port_answer Holds lane call part port one = absurd one
+
 pub by_answer : (Holds : List SettleEntry → Type 0) (lane : LaneName) (call : Call) (part : List SettleEntry)
     → ((k : ℕ) (event : DiskEvent) → lane ≡ DiskLane k → AnswersCall call event → Holds (OfLane k event ∷ []))
     → ((k : ℕ) (event : SwitchEvent) → lane ≡ PortLane k → AnswersPortCall call event → Holds (OfPort k event ∷ [])) → AnswersOn lane call part → Holds part
 by_answer Holds (DiskLane k) call part disk port one = subst Holds (sym one.is) (disk k one.event refl one.answers)
-by_answer Holds (PortLane k) call part disk port one = subst Holds (sym one.is) (port k one.event refl one.answers)
+by_answer Holds lane call part disk port one = by_port_answer Holds lane call part port one
 
 -- EACH STEP of an end has it, and each tick
 pub record StepsHave (P : SettleEntry → Type 0) : Type 0 where

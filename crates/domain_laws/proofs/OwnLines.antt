@@ -30,9 +30,13 @@ use Rattle.domain_laws.specs.Isolation.{IsFor, OnlyPortPart}
 use Rattle.domain_laws.specs.Lines.{AnswersFrame, AnswersGroup, AnswersRequest, AreFirstSteps, AreSteps, Asked, BeginsPart, Calls, DiskLane, EndTurn, IsStepOf, Joins, LaneName, Line, LineBegins, LineMoves, LineStep, Nothing, PartOf, PortLane, Rounds, Sends, Settles, Steps, entries_of_lines, turn}
 
 -- AN ENTRY of the lane
+abbrev IsOfPortLane : LaneName → SettleEntry → Type 0
+IsOfPortLane (PortLane k) entry = IsOfPort k entry
+IsOfPortLane lane entry = ⊥
+
 abbrev pub IsOf : LaneName → SettleEntry → Type 0
-IsOf (DiskLane k) = IsOfDisk k
-IsOf (PortLane k) = IsOfPort k
+IsOf (DiskLane k) entry = IsOfDisk k entry
+IsOf lane entry = IsOfPortLane lane entry
 
 own_event : (lane : LaneName) (k : ℕ) (event : DiskEvent) → DiskLane k ≡ lane → IsOf lane (OfLane k event)
 own_event lane k event same = subst (λ (x : LaneName). IsOf x (OfLane k event)) same refl

@@ -127,9 +127,13 @@ pub record OnePortEntry (k : ℕ) (Answers : SwitchEvent → Type 0) (part : Lis
   pub is : part ≡ OfPort k event ∷ []
 
 -- what comes of a call: one entry, by the kind of its lane
+abbrev pub AnswersOnPort : LaneName → Call → List SettleEntry → Type 0
+AnswersOnPort (PortLane k) call part = OnePortEntry k (AnswersPortCall call) part
+AnswersOnPort lane call part = ⊥
+
 abbrev pub AnswersOn : LaneName → Call → List SettleEntry → Type 0
 AnswersOn (DiskLane k) call part = OneEntry k (AnswersCall call) part
-AnswersOn (PortLane k) call part = OnePortEntry k (AnswersPortCall call) part
+AnswersOn lane call part = AnswersOnPort lane call part
 
 -- STEPS, by whose turn it is: a lane and its end
 pub record EndTurn : Type 0 where

@@ -57,9 +57,10 @@ impl Lane {
     pub fn number_if(self, kind: LaneKind) -> Option<u32>
         ensures { result ≡ number_if kind self }
     {
-        match kind {
-            LaneKind::Disk => self.disk(),
-            LaneKind::Port => self.port(),
+        if kind == self.kind {
+            Some(self.number)
+        } else {
+            None
         }
     }
 }

@@ -1,42 +1,25 @@
 -- The lanes of a kind in a settle: each adds its own entries to the journal after those of the lanes before.
 use Rattle.std.proofs.Common.{◌≡◌, ℕ, ◌+◌, ◌<◌, ◌≤◌, Bool, false, Some, List, [], ◌∷◌, ◌++◌, length, slice_get, slice_set, refl, sym, subst, arith}
 use Rattle.std.specs.Prelude.{◌&&◌, ◌||◌}
-use Rattle.recorded_lanes.proofs.world_parts.domain_laws.LoopKinds.{disk_begins, disk_runs, disk_turn, port_begins, port_runs, port_turn}
 use Rattle.recorded_lanes.specs.world_parts.domain_laws.Domain.{DomainState, DomainStep}
 use Rattle.recorded_lanes.specs.world_parts.domain_laws.Lines as script
 use Rattle.domain_script.specs.declared.fields.LaneKind.{LaneKind}
-use Rattle.domain_script.specs.declared.fields.LaneKind.TheVariants as kinds
 use Rattle.lane_kinds.proofs.WorldMade as made
-use Rattle.lane_kinds.specs.LaneFronts.{BeginsTurn}
 use Rattle.lane_kinds.specs.Lanes.{Entries}
 use Rattle.lane_kinds.specs.Lanes as lanes_of
 use Rattle.lane_kinds.specs.LanesMade.{name_of}
-use Rattle.lane_kinds.specs.WorldMade.{KindRuns, LaneMade}
+use Rattle.lane_kinds.specs.WorldMade.{LaneMade}
 use Rattle.ldc_queue.specs.declared.end.End.{End}
 use Rattle.ldc_queue.specs.declared.end.End.TheVariants.{A, B}
 use Rattle.ldom_entries.specs.declared.entry.Entry.{Entry}
 use Rattle.recorded_lanes.proofs.Adding.{both_add}
 use Rattle.ldom_world.proofs.Growing.{also_grew, both_grew, none_grew}
+use Rattle.ldom_world.proofs.KindLaws.{laws}
 use Rattle.ldom_world.specs.SettleParts.{Grew, LaneNamesAdd, LaneTicksAdd, LaneTicksAddFront, LaneTicksBegun, LanesAdd, LanesAddFront, LanesBegun, LanesMade, LanesNamed, LanesTicked, MakesQuiet, NamesGoOn, OneTicked, RoundBreaks, RoundGoesOn, TicksGoOn}
-use Rattle.ldom_world.specs.WorldKinds.{in_world, left_by}
+use Rattle.recorded_lanes.specs.world_parts.WorldKinds.{in_world, left_by}
 use Rattle.recorded_lanes.specs.world_parts.world_laws.Settle.{SettleEntry}
 use Rattle.recorded_lanes.specs.world_parts.Lines.{number_of_kind}
 use Rattle.recorded_lanes.specs.world_parts.Parts.{Adds}
-
--- WHAT ROUNDS GO BY: an entry of the kind runs its lanes, and two steps are a turn
-record KindLaws (kind : LaneKind) : Type 0 where
-  runs : KindRuns (in_world kind).kind (in_world kind).entries (in_world kind).lanes (in_world kind).beside DomainStep
-  turn : (one two : (in_world kind).Event) → (in_world kind).IsStep A one → (in_world kind).IsStep B two → (in_world kind).kind.IsTurn (one ∷ two ∷ [])
-  begins : (one : (in_world kind).Event) → (in_world kind).IsStep A one → BeginsTurn (in_world kind).kind (one ∷ [])
-
-laws : (kind : LaneKind) → KindLaws kind
-laws kinds.Disk = record { runs = disk_runs; turn = disk_turn; begins = disk_begins }
-laws kinds.Port = record { runs = port_runs; turn = port_turn; begins = port_begins }
-
--- how many there are
-pub many_of : (kind : LaneKind) (w : DomainState) → number_of_kind kind w ≡ length ((in_world kind).lanes w)
-many_of kinds.Disk w = refl
-many_of kinds.Port w = refl
 
 module _ (kind : LaneKind) where
   abbrev Lane : Type 0
@@ -159,7 +142,7 @@ module _ (kind : LaneKind) where
       → LaneTicksAdd kind k start had some have w first old → k < number_of_kind kind start → v ≡ w → new ≡ old
       → LaneTicksAddFront kind start had v first new
   ticks_want k start w v first old new had have some up less same none =
-      let within : k ≤ length (lanes start) = omega (arith, less, many_of kind start) in
+      let within : k ≤ length (lanes start) = omega (arith, less) in
       subst (λ (x : DomainState). LaneTicksAddFront kind start had x first new) (sym same)
       (subst (λ (l : List Entry). LaneTicksAddFront kind start had w first l) (sym none)
       (ticks_add_front k start w first old had have some up within))

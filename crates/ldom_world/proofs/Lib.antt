@@ -3,6 +3,7 @@ pub mod Lifted
 pub mod Turning
 pub mod Declaring
 pub mod Growing
+pub mod KindLaws
 pub mod KindAdding
 pub mod SettlingAdds
 pub mod SettlingLanes

@@ -2,14 +2,11 @@
 use Rattle.std.proofs.Common.{◌≡◌, ℕ, ◌+◌, ◌<◌, ◌≤◌, Bool, true, false, Option, Some, List, [], ◌∷◌, ◌++◌, length, map, take, slice_get, slice_set, refl, sym, ap, ◌∙◌, subst, arith, append-nil, length-append}
 use Rattle.std.specs.Prelude.{◌&&◌, ◌||◌, cond, if◌then◌else◌, not, IsSomeAnd}
 use Rattle.runs.specs.Run.{Run}
-use Rattle.recorded_lanes.specs.world_parts.disk_model.DiskEvent.{CalmTick, Calms}
 use Rattle.recorded_lanes.specs.world_parts.disk_model.LaneState.{LaneState}
-use Rattle.recorded_lanes.proofs.world_parts.domain_laws.LoopKinds.{disk_gets, port_gets}
 use Rattle.recorded_lanes.specs.world_parts.domain_laws.Domain.{DomainState, DomainStep}
-use Rattle.recorded_lanes.specs.world_parts.domain_laws.Lines.{AnswersCall, AnswersOn, AnswersPortCall, Calls, Line, LaneName, OneEntry, OnePortEntry, Settles, Ticks}
-use Rattle.recorded_lanes.specs.world_parts.port_model.NetEvent.{CalmTick as CalmPortTick, Ticked}
+use Rattle.recorded_lanes.specs.world_parts.domain_laws.Lines.{Calls, Line, LaneName, Settles, Ticks}
 use Rattle.recorded_lanes.specs.world_parts.port_model.PortState.{PortState}
-use Rattle.domain_script.specs.LaneKinds.{disk_of, lane_at, port_of}
+use Rattle.domain_script.specs.LaneKinds.{lane_at}
 use Rattle.domain_script.specs.declared.event.Lane.{Lane}
 use Rattle.domain_script.specs.declared.fields.LaneKind.{LaneKind}
 use Rattle.domain_script.specs.declared.fields.LaneKind.TheVariants as kinds
@@ -23,22 +20,22 @@ use Rattle.ldom_entries.specs.declared.entry.Who.TheVariants.{Lane as OfWhole, E
 use Rattle.recorded_lanes.specs.ldom_report.LaneEvents.{ChangesNothing, Meaning, NoRoomFor, Refuses, meaning}
 use Rattle.recorded_lanes.specs.ldom_report.Report.{accepted_count, is_accepted}
 use Rattle.recorded_lanes.proofs.Adding.{none_adds, one_adds}
-use Rattle.ldom_world.proofs.KindAdding.{many_of, names_go_by, ticks_go_by}
+use Rattle.ldom_world.proofs.KindAdding.{names_go_by, ticks_go_by}
+use Rattle.ldom_world.proofs.KindLaws.{laws}
 use Rattle.ldom_world.proofs.Lifted.{both}
 use Rattle.recorded_lanes.proofs.Lifting.{count_push}
 use Rattle.ldom_world.specs.SettleParts.{Grew, NamesGoOn, OneTicked, TicksGoOn}
 use Rattle.recorded_lanes.specs.Steps.{Counted}
-use Rattle.ldom_world.specs.WorldKinds.{in_world}
+use Rattle.recorded_lanes.specs.world_parts.WorldKinds.{in_world}
 use Rattle.recorded_lanes.specs.world_parts.switch_laws.Ports.{waits_on as port_waits_on}
 use Rattle.recorded_lanes.proofs.switched_ports.Entries.{below_later}
 use Rattle.recorded_lanes.specs.switched_ports.States.{PortAt}
-use Rattle.recorded_lanes.specs.world_parts.port_laws.NetEndState.{unseen}
-use Rattle.recorded_lanes.specs.world_parts.world_laws.DiskKind.{tick, waits_on}
-use Rattle.recorded_lanes.specs.world_parts.world_laws.Settle.{OfLane, OfPort, SettleEntry}
+use Rattle.recorded_lanes.specs.world_parts.world_laws.DiskKind.{waits_on}
+use Rattle.recorded_lanes.specs.world_parts.world_laws.Settle.{SettleEntry}
 use Rattle.recorded_lanes.specs.world_parts.world_laws.World.{WorldState}
 use Rattle.recorded_lanes.specs.world_parts.Lines.{IsLaneOf, of_kind}
 use Rattle.recorded_lanes.specs.world_parts.Parts.{Adds, Fits, FitsSoFar, PartSays}
-use Rattle.recorded_lanes.specs.world_parts.WorldEvents.{calm_event, if_so, is_lane, left_over, meant, of_net, told_of, world_event}
+use Rattle.recorded_lanes.specs.world_parts.WorldEvents.{meant, told_of, world_event}
 
 -- THE MARKS of the first lanes, with one more
 and_true : (b : Bool) → (b && true) ≡ b
@@ -81,7 +78,7 @@ port_waits d p w is kind k waits port at =
 pub lane_of : (w : DomainState) (lane : Lane) → IsLaneOf w lane
     → (s : (in_world lane.kind).Lane) × (slice_get ((in_world lane.kind).lanes w) lane.number ≡ Some s)
 lane_of w lane within =
-    get_within ((in_world lane.kind).lanes w) lane.number (subst (λ (n : ℕ). lane.number < n) (many_of lane.kind w) within)
+    get_within ((in_world lane.kind).lanes w) lane.number within
 
 -- AN ENTRY THAT ACCEPTS NOTHING leaves what the journal counts
 count_stays : (old new : List Entry) (e : Entry) → is_accepted e ≡ false → new ≡ old ++ e ∷ []
@@ -100,18 +97,6 @@ counted_stays old new e w counted none grew =
     }
 
 -- THE EVENT OF A TICK is said by the same entry in whatever line it is
-never_so : (b : Bool) (x y : SettleEntry) → (x ≡ y → ⊥) → if_so b x ≡ Some y → ⊥
-never_so true x y other is = other (cc is)
-never_so false x y other is = cc is
-
-tick_of_calm : (kind : LaneKind) (k : ℕ) (s : (in_world kind).Lane) (who : Who)
-    → calm_event (Calls (of_kind kind k) Ticks) who ≡ Some (told_of ((in_world kind).entries.of_lane k ((in_world kind).kind.tick s))) → ⊥
-tick_of_calm kinds.Disk k s (OfWhole lane) is = never_so (is_lane k (disk_of lane)) (OfLane k (Calms CalmTick)) (OfLane k tick) (λ same. cc same) is
-tick_of_calm kinds.Disk k s (OfEnd name) is = cc is
-tick_of_calm kinds.Port k s (OfWhole lane) is =
-    never_so (is_lane k (port_of lane)) (of_net k (CalmPortTick 0)) (of_net k (Ticked 0 (unseen s.lane.guest.session))) (λ same. cc same) is
-tick_of_calm kinds.Port k s (OfEnd name) is = cc is
-
 tick_meant : (kind : LaneKind) (k : ℕ) (s : (in_world kind).Lane) (x : Meaning)
     → meant (Calls (of_kind kind k) Ticks) x ≡ Some (told_of ((in_world kind).entries.of_lane k ((in_world kind).kind.tick s)))
     → meant Settles x ≡ Some (told_of ((in_world kind).entries.of_lane k ((in_world kind).kind.tick s)))
@@ -119,7 +104,7 @@ tick_meant kind k s (NoRoomFor (OfWhole lane)) is = absurd (cc is)
 tick_meant kind k s (NoRoomFor (OfEnd name)) is = absurd (cc is)
 tick_meant kind k s (Refuses (OfWhole lane) why) is = absurd (cc is)
 tick_meant kind k s (Refuses (OfEnd name) why) is = absurd (cc is)
-tick_meant kind k s (ChangesNothing who) is = absurd (tick_of_calm kind k s who is)
+tick_meant kind k s (ChangesNothing who) is = absurd ((laws kind).calm_is_none k s who is)
 tick_meant kind k s x is = is
 
 said_alike : (asked other : Line) (x : SettleEntry) → ((m : Meaning) → meant asked m ≡ Some (told_of x) → meant other m ≡ Some (told_of x))
@@ -131,31 +116,13 @@ said_alike asked other x alike (e ∷ []) says =
 said_alike asked other x alike (e ∷ f ∷ part) says = absurd (cc says)
 
 -- A CALL FOR A TICK of a lane that gets one is the tick of a settle
-run_of_one : (w v : DomainState) (x : SettleEntry) (entries : List SettleEntry) → entries ≡ x ∷ []
-    → Run DomainStep w entries v → DomainStep w x v
-run_of_one w v x entries is run =
-    let one : Run DomainStep w (x ∷ []) v = subst (λ (l : List SettleEntry). Run DomainStep w l v) is run in
-    subst (λ (u : DomainState). DomainStep w x u) one.2 one.1
-
-ticked_by : (kind : LaneKind) (k : ℕ) (had : Bool) (w v : DomainState) (s : (in_world kind).Lane) (entries : List SettleEntry)
-    → slice_get ((in_world kind).lanes w) k ≡ Some s → gets_tick (in_world kind).kind s had ≡ true
-    → AnswersOn (of_kind kind k) Ticks entries → Run DomainStep w entries v → OneTicked kind k had true w v entries
-ticked_by kinds.Disk k had w v s entries there gets answers run =
-    let one : OneEntry k (AnswersCall Ticks) entries = answers in
-    subst (λ (l : List SettleEntry). OneTicked kinds.Disk k had true w v l) (sym one.is)
-    (disk_gets k had w one.event v s there gets one.answers (run_of_one w v (OfLane k one.event) entries one.is run))
-ticked_by kinds.Port k had w v s entries there gets answers run =
-    let one : OnePortEntry k (AnswersPortCall Ticks) entries = answers in
-    subst (λ (l : List SettleEntry). OneTicked kinds.Port k had true w v l) (sym one.is)
-    (port_gets k had w one.event v s there gets one.answers (run_of_one w v (OfPort k one.event) entries one.is run))
-
 tick_grew : (kind : LaneKind) (k : ℕ) (w v : DomainState) (old new : List Entry) (s : (in_world kind).Lane) (had : Bool)
     → slice_get ((in_world kind).lanes w) k ≡ Some s → gets_tick (in_world kind).kind s had ≡ true
     → Fits w (Calls (of_kind kind k) Ticks) old new v → Grew (OneTicked kind k had true w v) old new
 tick_grew kind k w v old new s had there gets fits =
     let asked = Calls (of_kind kind k) Ticks in
     let ticked : OneTicked kind k had true w v fits.entries =
-    ticked_by kind k had w v s fits.entries there gets fits.moves.part_of fits.moves.run in
+    (laws kind).ticked k had w v s fits.entries there gets fits.moves.part_of fits.moves.run in
     let tick = (in_world kind).entries.of_lane k ((in_world kind).kind.tick ticked.lane) in
     let is : fits.entries ≡ tick ∷ [] = ticked.ticked.1 in
     record {
@@ -234,14 +201,6 @@ not_by : (b : Bool) → (if b then false else true) ≡ not b
 not_by true = refl
 not_by false = refl
 
-left_is : (kind : LaneKind) (k : ℕ) → left_over (lane_at kind k) ≡ Some ((in_world kind).entries.left_over k)
-left_is kinds.Disk k = refl
-left_is kinds.Port k = refl
-
-told_left : (kind : LaneKind) (k : ℕ) → told_of ((in_world kind).entries.left_over k) ≡ (in_world kind).entries.left_over k
-told_left kinds.Disk k = refl
-told_left kinds.Port k = refl
-
 name_by : (kind : LaneKind) (k : ℕ) (calm rests : Bool) (s : (in_world kind).Lane) → rests ≡ (calm && not ((in_world kind).kind.waits_on s))
     → name_of (in_world kind).kind (in_world kind).entries k calm s ≡ (if rests then [] else (in_world kind).entries.left_over k ∷ [])
 name_by kind k calm rests s is =
@@ -256,7 +215,7 @@ named_goes_on kind k w calm rests s old new there is left grew =
     (subst (λ (l : List SettleEntry). Adds Settles old new l)
     (sym (name_by kind k calm rests s is ∙ ap (λ (b : Bool). if b then [] else (in_world kind).entries.left_over k ∷ []) left))
     (one_adds Settles old new (entry.Unsettled (OfWhole (lane_at kind k))) ((in_world kind).entries.left_over k) grew
-    (left_is kind k ∙ ap (λ (x : SettleEntry). Some x) (sym (told_left kind k)))))
+    ((laws kind).left k s)))
 
 pub unnamed_goes_on : (kind : LaneKind) (k : ℕ) (w : DomainState) (calm rests : Bool) (s : (in_world kind).Lane) (old : List Entry)
     → slice_get ((in_world kind).lanes w) k ≡ Some s → rests ≡ (calm && not ((in_world kind).kind.waits_on s)) → rests ≡ true

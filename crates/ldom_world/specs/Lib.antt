@@ -1,4 +1,3 @@
-pub mod WorldKinds
 pub mod TurnsMade
 pub mod SettleParts
 pub use Rattle.recorded_lanes.specs.Steps

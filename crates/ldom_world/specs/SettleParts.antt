@@ -15,7 +15,7 @@ use Rattle.domain_script.specs.declared.fields.LaneKind.{LaneKind}
 use Rattle.ldom_entries.specs.declared.entry.Entry.{Entry}
 use Rattle.ldom_world.specs.declared.settling.LaneMarks.{LaneMarks}
 use Rattle.recorded_lanes.specs.Steps.{QuietMade}
-use Rattle.ldom_world.specs.WorldKinds.{OfKind, in_world, left_by}
+use Rattle.recorded_lanes.specs.world_parts.WorldKinds.{OfKind, in_world, left_by}
 use Rattle.recorded_lanes.specs.world_parts.Parts.{Adds, Fits, FitsSoFar}
 
 -- the marks of both kinds

@@ -11,7 +11,7 @@ ghost use Rattle.recorded_lanes.specs.OnePort.{IsCallOf, IsPortCall};
 ghost use Rattle.recorded_lanes.specs.Steps.{Counted, MakesPortStep, MakesQuietPortStep, MakesQuietStep, MakesStep};
 ghost use Rattle.ldom_world.specs.SettleParts.{MakesQuiet};
 ghost use Rattle.ldom_world.specs.TurnsMade.{SameNumbers, TurnsMade};
-ghost use Rattle.ldom_world.specs.WorldKinds.{in_world};
+ghost use Rattle.recorded_lanes.specs.world_parts.WorldKinds.{in_world};
 ghost use Rattle.recorded_lanes.specs.world_parts.Lines.{HasMemory, IsLaneOf, lane_named, number_of_kind};
 ghost use Rattle.recorded_lanes.specs.world_parts.Parts.{Fits, FitsSoFar};
 

@@ -12,7 +12,7 @@ ghost use Rattle.ldom_world.specs.SettleParts.{RoundAdds, RoundAddsFront, RoundB
 ghost use Rattle.ldom_world.specs.SettleParts.{TicksAdd, TicksAddFront, TicksGoOn, TurnBreaks, TurnGoesOn};
 ghost use Rattle.recorded_lanes.specs.Steps.{Counted};
 ghost use Rattle.ldom_world.specs.TurnsMade.{SameNumbers};
-ghost use Rattle.ldom_world.specs.WorldKinds.{in_world};
+ghost use Rattle.recorded_lanes.specs.world_parts.WorldKinds.{in_world};
 ghost use Rattle.recorded_lanes.specs.world_parts.Lines.{IsLaneOf, number_of_kind};
 ghost use Rattle.recorded_lanes.specs.world_parts.Parts.{Fits, FitsSoFar};
 

@@ -6,7 +6,7 @@ use Rattle.std.proofs.lemmas.Bool.{eqb-true}
 use Rattle.vdisk_msg.specs.declared.request.Request.{Request}
 use Rattle.disk_law.specs.ListStep as plain
 use Rattle.world_parts.specs.channel_model.WireEvent.{Declined, Declines, InjectedFull, PokeRefused}
-use Rattle.world_parts.specs.disk_model.DiskEvent.{Accepted, Asks, DiskEvent, Done, Full, Refused, Works}
+use Rattle.world_parts.specs.disk_model.DiskEvent.{Accepted, Asks, DiskEvent, Done, Full, OnWire, Refused, Works}
 use Rattle.disk_law.specs.Requests.{Defect}
 use Rattle.world_parts.specs.port_model.NetEndStep.{BadLength, GroupsFull}
 use Rattle.world_parts.specs.port_model.NetEndStep as net_end
@@ -31,7 +31,7 @@ use Rattle.ldc_queue.specs.declared.end.End.TheVariants.{A}
 use Rattle.world_parts.specs.domain_laws.Lines.{Asked, Call, Calls, DiskLane, Injects, Joins, LaneName, Line, Pokes, PortLane, Sends}
 use Rattle.ldom_report.specs.DiskEvents.{Defective, NoRoom, NotTaken, Nothing, OfDisk, Refusal, defect_of, not_taken_for, not_taken_on, refused, request_asked, said}
 use Rattle.ldom_report.specs.LaneEvents.{AtLane, AtPort, AtServer, AtWire, ChangesNothing, LeavesNothing, LeavesOver, Meaning, NoRoomFor, Publishes, Refuses, Switches, TakesFrame, meaning}
-use Rattle.world_parts.specs.WorldEvents.{at_disk, at_port, declined_at, full_call, full_event, if_so, is_end, is_lane, of_net, refused_asked, refused_call, refused_event, wire_on, world_event}
+use Rattle.world_parts.specs.WorldEvents.{at_disk, at_port, declined_at, full_call, full_event, if_so, is_end, is_lane, of_net, on_channel, port_declined, refused_asked, refused_call, refused_event, world_event}
 use Rattle.world_parts.specs.world_laws.Failures.{is_failed_done}
 use Rattle.world_parts.specs.Lines.{line_of}
 use Rattle.world_parts.specs.world_laws.Requests.{request_event}
@@ -152,14 +152,17 @@ full_on j request lane (Some k) m at is = record {
 }
 
 -- a call of an end that came to nothing says nothing of requests, and no entry of a port does
-wire_silent : (name : LaneName) (d : Declined) → SaysNothing (wire_on name (Declines d))
-wire_silent (DiskLane j) d = (refl, refl)
-wire_silent (PortLane j) d = tt
+port_declined_silent : (name : LaneName) (e : End) (at : EndName) (d : Declined) (m : SettleEntry) → port_declined name e at d ≡ Some m
+    → SaysNothing m
+port_declined_silent (PortLane j) e at d m is =
+    subst SaysNothing (sym (if_is (is_end (PortLane j) e at) (of_net j (on_channel (Declines d))) m is)) tt
+port_declined_silent name e at d m is = absurd (cc is)
 
 declined_silent : (name : LaneName) (e : End) (at : EndName) (d : Declined) (m : SettleEntry) → declined_at name e at d ≡ Some m
     → SaysNothing m
-declined_silent name e at d m is =
-    subst SaysNothing (sym (if_is (is_end name e at) (wire_on name (Declines d)) m is)) (wire_silent name d)
+declined_silent (DiskLane j) e at d m is =
+    subst SaysNothing (sym (if_is (is_end (DiskLane j) e at) (OfLane j (OnWire (Declines d))) m is)) (refl, refl)
+declined_silent name e at d m is = port_declined_silent name e at d m is
 
 port_silent : (j : ℕ) (o : Option ℕ) (event : NetEvent) (m : SettleEntry) → at_port j o event ≡ Some m → SaysNothing m
 port_silent j o event m is = subst SaysNothing (sym (if_is (is_lane j o) (of_net j event) m is)) tt

@@ -120,13 +120,12 @@ turns count is = (omega (arith, is.0), is.1)
 -- the memory that is poked
 has_memory : (kind : LaneKind) (side : Side) → (kind ≡ kinds.Disk → side ≡ Client) → HasMemory kind side
 has_memory kinds.Disk side of_disk = of_disk refl
-has_memory kinds.Port side of_disk = tt
+has_memory _ side of_disk = tt
 
 module _ (names : NamesState) (w : DomainState) (disks : length w.first.lanes ≡ length names.disks)
     (ports : length w.second ≡ length names.ports) where
   same_number : (kind : LaneKind) → number_of_kind kind w ≡ count_of kind names
-  same_number kinds.Disk = disks
-  same_number kinds.Port = ports
+  same_number kind = grind arith
 
   within : (kind : LaneKind) (k : ℕ) → k < count_of kind names → k < number_of_kind kind w
   within kind k less = omega (arith, less, same_number kind)

@@ -32,7 +32,7 @@ use Rattle.ldom_entries.specs.declared.entry.Why.{Why}
 use Rattle.ldom_entries.specs.declared.entry.Why.TheVariants.{Groups, Length, Range}
 use Rattle.ldom_report.specs.DiskEvents.{defect_of}
 use Rattle.ldom_report.specs.LaneEvents.{AtLane, AtPort, AtServer, AtWire, ChangesNothing, LeavesNothing, LeavesOver, Meaning, NoRoomFor, Publishes, Refuses, Switches, TakesFrame, end_of, meaning}
-use Rattle.world_parts.specs.WorldEvents.{at_disk, at_port, declined_at, disk_called, disk_event, full_call, given_to, if_so, is_end, is_lane, is_same, lane_called, meant, net_event, number_in, number_of, of_client, of_net, of_server, on_channel, port_called, published_by, refused_asked, refused_call, switched_by, taken_by, unsettled_event, wire_event, wire_on, world_event}
+use Rattle.world_parts.specs.WorldEvents.{at_disk, at_port, declined_at, disk_called, disk_event, full_call, given_to, if_so, is_end, is_lane, is_same, lane_called, meant, net_event, of_client, of_net, of_server, on_channel, port_called, port_declined, published_by, refused_asked, refused_call, switched_by, taken_by, unsettled_event, wire_event, world_event}
 
 -- the lane of whom an entry is about
 abbrev pub lane_of : Who → Lane
@@ -133,14 +133,23 @@ switched_has P Client lane event holds = tt
 switched_has P Server lane event holds = holds
 
 -- A CALL OF AN END that came to nothing: the line's lane is that of the end
-end_wire_has : (P : SettleEntry → Type 0) (name : LaneName) (kind : LaneKind) (n : ℕ) (also : Bool) (d : Declined) → Has P (wire_event (lane_at kind n) (Declines d))
-    → Has P (if_so (is_lane (number_of name) (number_in name (lane_at kind n)) && also) (wire_on name (Declines d)))
-end_wire_has P (DiskLane j) kinds.Disk n also d holds = named_has P j (Some n) also (λ k. wire_on (DiskLane k) (Declines d)) holds
-end_wire_has P (PortLane j) kinds.Port n also d holds = named_has P j (Some n) also (λ k. wire_on (PortLane k) (Declines d)) holds
-end_wire_has P name kind n also d holds = tt
+disk_end_has : (P : SettleEntry → Type 0) (j : ℕ) (kind : LaneKind) (n : ℕ) (also : Bool) (d : Declined) → Has P (wire_event (lane_at kind n) (Declines d))
+    → Has P (if_so (is_lane j (if_disk kind n) && also) (OfLane j (OnWire (Declines d))))
+disk_end_has P j kinds.Disk n also d holds = named_has P j (Some n) also (λ k. OfLane k (OnWire (Declines d))) holds
+disk_end_has P j _ n also d holds = tt
+
+port_end_has : (P : SettleEntry → Type 0) (j : ℕ) (kind : LaneKind) (n : ℕ) (also : Bool) (d : Declined) → Has P (wire_event (lane_at kind n) (Declines d))
+    → Has P (if_so (is_lane j (if_port kind n) && also) (of_net j (on_channel (Declines d))))
+port_end_has P j kinds.Port n also d holds = named_has P j (Some n) also (λ k. of_net k (on_channel (Declines d))) holds
+port_end_has P j _ n also d holds = tt
+
+port_declined_has : (P : SettleEntry → Type 0) (name : LaneName) (e : End) (at : EndName) (d : Declined) → DeclinedHas P (OfEnd at) → Has P (port_declined name e at d)
+port_declined_has P (PortLane j) e at d holds = port_end_has P j at.lane.kind at.lane.number (is_same e (end_of at.side)) d (holds d)
+port_declined_has P name e at d holds = tt
 
 declined_has : (P : SettleEntry → Type 0) (name : LaneName) (e : End) (at : EndName) (d : Declined) → DeclinedHas P (OfEnd at) → Has P (declined_at name e at d)
-declined_has P name e at d holds = end_wire_has P name at.lane.kind at.lane.number (is_same e (end_of at.side)) d (holds d)
+declined_has P (DiskLane j) e at d holds = disk_end_has P j at.lane.kind at.lane.number (is_same e (end_of at.side)) d (holds d)
+declined_has P name e at d holds = port_declined_has P name e at d holds
 
 full_has : (P : SettleEntry → Type 0) (name : LaneName) (call : Call) (at : EndName) → DeclinedHas P (OfEnd at) → Has P (full_call name call at)
 full_has P name (Injects e packet) at holds = declined_has P name e at (InjectedFull e packet) holds
@@ -164,15 +173,15 @@ disk_called_has P j Restarts (OfEnd at) holds =
     named_has P j (disk_of at.lane) (is_same B (end_of at.side)) (λ k. OfLane k (Calms CalmRestart)) (holds.disk CalmRestart)
 disk_called_has P j call who holds = tt
 
-port_called_has : (P : SettleEntry → Type 0) (j : ℕ) (call : Call) (who : Who) → CalmHolds P who → Has P (port_called j call who)
-port_called_has P j Ticks (OfWhole lane) holds = at_has P j (port_of lane) (λ k. of_net k (CalmPortTick 0)) holds.tick
-port_called_has P j call who holds = tt
+port_called_has : (P : SettleEntry → Type 0) (name : LaneName) (call : Call) (who : Who) → CalmHolds P who → Has P (port_called name call who)
+port_called_has P (PortLane j) Ticks (OfWhole lane) holds = at_has P j (port_of lane) (λ k. of_net k (CalmPortTick 0)) holds.tick
+port_called_has P name call who holds = tt
 
 called_has : (P : SettleEntry → Type 0) (name : LaneName) (call : Call) (who : Who) → CalmHolds P who → Has P (lane_called name call who)
 called_has P name (Loses e) (OfEnd at) holds = declined_has P name e at (NothingLost e) holds.declined
 called_has P name (Injects e packet) (OfEnd at) holds = declined_has P name e at (NotInjected e packet) holds.declined
 called_has P (DiskLane j) call who holds = disk_called_has P j call who holds
-called_has P (PortLane j) call who holds = port_called_has P j call who holds
+called_has P name call who holds = port_called_has P name call who holds
 
 meant_has : (P : SettleEntry → Type 0) (asked : Line) (x : Meaning) → Holds P x → Has P (meant asked x)
 meant_has P asked (AtWire e event) holds = holds

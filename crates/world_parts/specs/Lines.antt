@@ -15,16 +15,16 @@ use Rattle.domain_script.specs.Fills.{IsPiece}
 use Rattle.domain_script.specs.Limits.{AreTurns}
 use Rattle.domain_laws.specs.world_laws.Settle.{SettleEntry}
 use Rattle.domain_laws.specs.Domain.{DomainState}
-use Rattle.domain_laws.specs.Lines.{Asked, Calls, DiskLane, Injects, Joins, LaneName, Line, LineBegins, LineMoves, Loses, Nothing, Pokes, PortLane, Resets, Restarts, Rounds, Sends, Settles, Starts, Steps, Stops, Ticks}
+use Rattle.domain_laws.specs.Lines.{Asked, Calls, DiskLane, Injects, Joins, LaneName, Line, LineBegins, LineMoves, Loses, Nothing, Pokes, Resets, Restarts, Rounds, Sends, Settles, Starts, Steps, Stops, Ticks}
 use Rattle.ldom_report.specs.DiskEvents.{happened_to}
 use Rattle.ldom_report.specs.LaneEvents.{end_of}
 use Rattle.ldom_entries.specs.declared.entry.Entry.{Entry}
 use Rattle.world_parts.specs.Parts.{PartSays}
+use Rattle.world_parts.specs.WorldKinds.{in_world}
 
 -- a lane of a script is this one of the world, by its kind
 abbrev pub of_kind : LaneKind → ℕ → LaneName
-of_kind kinds.Disk k = DiskLane k
-of_kind kinds.Port k = PortLane k
+of_kind kind k = (in_world kind).named k
 
 abbrev pub lane_named : Lane → LaneName
 lane_named lane = of_kind lane.kind lane.number
@@ -51,8 +51,7 @@ line_of (event.Poke end at bytes) = Calls (lane_named end.lane) (Pokes (end_of e
 
 -- THE LANE IS ONE OF THE WORLD'S
 abbrev pub number_of_kind : LaneKind → DomainState → ℕ
-number_of_kind kinds.Disk w = length w.first.lanes
-number_of_kind kinds.Port w = length w.second
+number_of_kind kind w = length ((in_world kind).lanes w)
 
 abbrev pub IsLaneOf : DomainState → Lane → Type 0
 IsLaneOf w lane = lane.number < number_of_kind lane.kind w

@@ -116,23 +116,21 @@ switched_by Server lane event = option_map (λ k. OfPort k event) (port_of lane)
 switched_by Client lane event = None
 
 -- A CALL THAT CAME TO NOTHING, of the end that the line names
-abbrev pub number_of : LaneName → ℕ
-number_of (DiskLane k) = k
-number_of (PortLane k) = k
-
-abbrev pub number_in : LaneName → Lane → Option ℕ
-number_in (DiskLane k) lane = disk_of lane
-number_in (PortLane k) lane = port_of lane
+abbrev pub is_port_end : LaneName → End → EndName → Bool
+is_port_end (PortLane k) e at = is_lane k (port_of at.lane) && is_same e (end_of at.side)
+is_port_end name e at = false
 
 abbrev pub is_end : LaneName → End → EndName → Bool
-is_end name e at = is_lane (number_of name) (number_in name at.lane) && is_same e (end_of at.side)
+is_end (DiskLane k) e at = is_lane k (disk_of at.lane) && is_same e (end_of at.side)
+is_end name e at = is_port_end name e at
 
-abbrev pub wire_on : LaneName → WireEvent → SettleEntry
-wire_on (DiskLane k) event = OfLane k (OnWire event)
-wire_on (PortLane k) event = of_net k (on_channel event)
+abbrev pub port_declined : LaneName → End → EndName → Declined → Option SettleEntry
+port_declined (PortLane k) e at d = if_so (is_end (PortLane k) e at) (of_net k (on_channel (Declines d)))
+port_declined name e at d = None
 
 abbrev pub declined_at : LaneName → End → EndName → Declined → Option SettleEntry
-declined_at name e at d = if_so (is_end name e at) (wire_on name (Declines d))
+declined_at (DiskLane k) e at d = if_so (is_end (DiskLane k) e at) (OfLane k (OnWire (Declines d)))
+declined_at name e at d = port_declined name e at d
 
 -- a packet for which there was no room at its end, and bytes that leave its memory
 abbrev pub full_call : LaneName → Call → EndName → Option SettleEntry
@@ -170,15 +168,15 @@ disk_called j (Resets e) (OfEnd at) = if_so (is_end (DiskLane j) e at) (OfLane j
 disk_called j Restarts (OfEnd at) = if_so (is_end (DiskLane j) B at) (OfLane j (Calms CalmRestart))
 disk_called j _ _ = None
 
-abbrev pub port_called : ℕ → Call → Who → Option SettleEntry
-port_called j Ticks (OfWhole lane) = at_port j (port_of lane) (CalmPortTick 0)
-port_called j _ _ = None
+abbrev pub port_called : LaneName → Call → Who → Option SettleEntry
+port_called (PortLane j) Ticks (OfWhole lane) = at_port j (port_of lane) (CalmPortTick 0)
+port_called name _ _ = None
 
 abbrev pub lane_called : LaneName → Call → Who → Option SettleEntry
 lane_called name (Loses e) (OfEnd at) = declined_at name e at (NothingLost e)
 lane_called name (Injects e packet) (OfEnd at) = declined_at name e at (NotInjected e packet)
 lane_called (DiskLane j) call who = disk_called j call who
-lane_called (PortLane j) call who = port_called j call who
+lane_called name call who = port_called name call who
 
 abbrev pub calm_event : Line → Who → Option SettleEntry
 calm_event (Calls name call) who = lane_called name call who

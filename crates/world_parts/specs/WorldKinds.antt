@@ -1,22 +1,24 @@
--- THE KINDS OF LANES in a world of disks and ports, as a settle sees each of them: its lanes, what is beside them, and their steps.
+-- THE KINDS OF LANES in a world of disks and ports, as a settle sees each of them: its lanes, what is beside them, their
+-- steps and their names. No other definition lists the kinds.
 use Rattle.std.specs.Prelude.{ℕ, if◌then◌else◌, List, [], ◌∷◌}
-use Rattle.recorded_lanes.specs.world_parts.disk_model.DiskEvent.{DiskEvent}
-use Rattle.recorded_lanes.specs.world_parts.disk_model.LaneState.{LaneState}
-use Rattle.recorded_lanes.specs.world_parts.domain_laws.Domain.{DomainState, DomainStep, port_entries}
-use Rattle.recorded_lanes.specs.world_parts.port_model.PortState.{PortState}
-use Rattle.recorded_lanes.specs.world_parts.domain_laws.RoundMade.{disks_in, ports_in, world_in}
+use Rattle.domain_laws.specs.disk_model.DiskEvent.{DiskEvent}
+use Rattle.domain_laws.specs.disk_model.LaneState.{LaneState}
+use Rattle.domain_laws.specs.Domain.{DomainState, DomainStep, port_entries}
+use Rattle.domain_laws.specs.port_model.PortState.{PortState}
+use Rattle.domain_laws.specs.Lines.{DiskLane, LaneName, PortLane}
+use Rattle.domain_laws.specs.RoundMade.{disks_in, ports_in, world_in}
 use Rattle.domain_script.specs.declared.fields.LaneKind.{LaneKind}
 use Rattle.domain_script.specs.declared.fields.LaneKind.TheVariants as kinds
 use Rattle.lane_kinds.specs.Lanes.{Entries}
 use Rattle.lane_kinds.specs.Lanes as lanes_of
 use Rattle.lane_kinds.specs.WorldMade.{KindMade}
 use Rattle.ldc_queue.specs.declared.end.End.{End}
-use Rattle.recorded_lanes.specs.world_parts.switch_laws.Events.{SwitchEvent}
-use Rattle.recorded_lanes.specs.world_parts.switch_laws.Ports.{IsStepOf, ports}
-use Rattle.recorded_lanes.specs.world_parts.lane_laws.CalmEnds.{IsStep}
-use Rattle.recorded_lanes.specs.world_parts.world_laws.DiskKind.{disk_kind}
-use Rattle.recorded_lanes.specs.world_parts.world_laws.Settle.{SettleEntry, disk_entries}
-use Rattle.recorded_lanes.specs.world_parts.world_laws.World.{WorldState}
+use Rattle.domain_laws.specs.switch_laws.Events.{SwitchEvent}
+use Rattle.domain_laws.specs.switch_laws.Ports.{IsStepOf, ports}
+use Rattle.domain_laws.specs.lane_laws.CalmEnds.{IsStep}
+use Rattle.domain_laws.specs.world_laws.DiskKind.{disk_kind}
+use Rattle.domain_laws.specs.world_laws.Settle.{SettleEntry, disk_entries}
+use Rattle.domain_laws.specs.world_laws.World.{WorldState}
 
 pub record WorldKind : Type 1 where
   pub Lane : Type 0
@@ -28,6 +30,8 @@ pub record WorldKind : Type 1 where
   pub beside : DomainState → Beside
   -- a step of this end
   pub IsStep : End → Event → Type 0
+  -- the lane with this number, as a line of a script names it
+  pub named : ℕ → LaneName
 
 abbrev pub in_world : LaneKind → WorldKind
 in_world kinds.Disk = record {
@@ -39,6 +43,7 @@ in_world kinds.Disk = record {
   lanes = disks_in;
   beside = ports_in;
   IsStep = IsStep;
+  named = DiskLane;
 }
 in_world kinds.Port = record {
   Lane = PortState;
@@ -49,6 +54,7 @@ in_world kinds.Port = record {
   lanes = ports_in;
   beside = world_in;
   IsStep = IsStepOf;
+  named = PortLane;
 }
 
 -- what a step leaves in the journal of a settle
