@@ -4,6 +4,7 @@ use Rattle.std.specs.Prelude.{◌&&◌, ◌||◌}
 use Rattle.recorded_lanes.specs.world_parts.domain_laws.Domain.{DomainState, DomainStep}
 use Rattle.recorded_lanes.specs.world_parts.domain_laws.Lines as script
 use Rattle.domain_script.specs.declared.fields.LaneKind.{LaneKind}
+use Rattle.domain_script.specs.declared.fields.LaneKind.TheVariants as kinds
 use Rattle.lane_kinds.proofs.WorldMade as made
 use Rattle.lane_kinds.specs.Lanes.{Entries}
 use Rattle.lane_kinds.specs.Lanes as lanes_of
@@ -14,12 +15,17 @@ use Rattle.ldc_queue.specs.declared.end.End.TheVariants.{A, B}
 use Rattle.ldom_entries.specs.declared.entry.Entry.{Entry}
 use Rattle.recorded_lanes.proofs.Adding.{both_add}
 use Rattle.ldom_world.proofs.Growing.{also_grew, both_grew, none_grew}
-use Rattle.ldom_world.proofs.KindLaws.{laws}
+use Rattle.ldom_world.proofs.KindLaws.{KindLaws, disk_laws, port_laws}
 use Rattle.ldom_world.specs.SettleParts.{Grew, LaneNamesAdd, LaneTicksAdd, LaneTicksAddFront, LaneTicksBegun, LanesAdd, LanesAddFront, LanesBegun, LanesMade, LanesNamed, LanesTicked, MakesQuiet, NamesGoOn, OneTicked, RoundBreaks, RoundGoesOn, TicksGoOn}
 use Rattle.recorded_lanes.specs.world_parts.WorldKinds.{in_world, left_by}
 use Rattle.recorded_lanes.specs.world_parts.world_laws.Settle.{SettleEntry}
 use Rattle.recorded_lanes.specs.world_parts.Lines.{number_of_kind}
 use Rattle.recorded_lanes.specs.world_parts.Parts.{Adds}
+
+-- THE KINDS: this table alone lists them for a settle
+pub laws : (kind : LaneKind) → KindLaws kind
+laws kinds.Disk = disk_laws
+laws kinds.Port = port_laws
 
 module _ (kind : LaneKind) where
   abbrev Lane : Type 0

@@ -1,4 +1,4 @@
--- What a settle goes by, for each kind of lanes: no other proof of a settle lists the kinds.
+-- What a settle goes by, of a kind of lanes: that of disks, and that of ports.
 use Rattle.std.proofs.Common.{◌≡◌, ℕ, Bool, true, false, Some, List, [], ◌∷◌, slice_get, refl, sym, subst}
 use Rattle.runs.specs.Run.{Run}
 use Rattle.recorded_lanes.proofs.world_parts.domain_laws.LoopKinds.{disk_begins, disk_gets, disk_runs, disk_turn, port_begins, port_gets, port_runs, port_turn}
@@ -75,8 +75,8 @@ port_ticked k had w v s entries there gets one run =
     subst (λ (l : List SettleEntry). OneTicked kinds.Port k had true w v l) (sym one.is)
     (port_gets k had w one.event v s there gets one.answers (run_of_one w v (OfPort k one.event) entries one.is run))
 
-pub laws : (kind : LaneKind) → KindLaws kind
-laws kinds.Disk = record {
+pub disk_laws : KindLaws kinds.Disk
+disk_laws = record {
   runs = disk_runs;
   turn = disk_turn;
   begins = disk_begins;
@@ -84,7 +84,9 @@ laws kinds.Disk = record {
   ticked = disk_ticked;
   left = λ k s. refl;
 }
-laws kinds.Port = record {
+
+pub port_laws : KindLaws kinds.Port
+port_laws = record {
   runs = port_runs;
   turn = port_turn;
   begins = port_begins;

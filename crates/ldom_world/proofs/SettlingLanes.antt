@@ -20,8 +20,7 @@ use Rattle.ldom_entries.specs.declared.entry.Who.TheVariants.{Lane as OfWhole, E
 use Rattle.recorded_lanes.specs.ldom_report.LaneEvents.{ChangesNothing, Meaning, NoRoomFor, Refuses, meaning}
 use Rattle.recorded_lanes.specs.ldom_report.Report.{accepted_count, is_accepted}
 use Rattle.recorded_lanes.proofs.Adding.{none_adds, one_adds}
-use Rattle.ldom_world.proofs.KindAdding.{names_go_by, ticks_go_by}
-use Rattle.ldom_world.proofs.KindLaws.{laws}
+use Rattle.ldom_world.proofs.KindAdding.{laws, names_go_by, ticks_go_by}
 use Rattle.ldom_world.proofs.Lifted.{both}
 use Rattle.recorded_lanes.proofs.Lifting.{count_push}
 use Rattle.ldom_world.specs.SettleParts.{Grew, NamesGoOn, OneTicked, TicksGoOn}
