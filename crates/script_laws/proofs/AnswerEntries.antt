@@ -31,11 +31,10 @@ is_name _ = false
 
 -- so it is told by what the entry is for the lanes, whatever line it came in
 abbrev Tells : Meaning → SettleEntry → Type 0
-Tells x (OfLane k event) = (is_end x ≡ false) × (is_name x ≡ false)
-Tells x (OfPort k event) = (is_end x ≡ false) × (is_name x ≡ false)
 Tells x Settled = (is_end x ≡ true) × (is_name x ≡ false)
 Tells x (Unsettled k) = (is_end x ≡ true) × (is_name x ≡ true)
 Tells x (UnsettledPort k) = (is_end x ≡ true) × (is_name x ≡ true)
+Tells x _ = (is_end x ≡ false) × (is_name x ≡ false)
 
 abbrev Any : DiskEvent → Type 0
 Any event = ⊤

@@ -157,10 +157,9 @@ IsOfDisks x = ⊤
 
 disk_same : (disk : DiskDecl) (line : Line) (e : Entry) (x : SettleEntry) → IsOfDisks x → IsQuiet line
     → world_event line e ≡ Some (told_of x) → SaysSame disk (e ∷ []) (x ∷ [])
-disk_same disk line e (OfLane k event) of quiet is = one_same disk line e (OfLane k event) quiet is
-disk_same disk line e Settled of quiet is = one_same disk line e Settled quiet is
-disk_same disk line e (Unsettled k) of quiet is = one_same disk line e (Unsettled k) quiet is
-disk_same disk line e x of quiet is = absurd of
+disk_same disk line e (OfPort k event) of quiet is = absurd of
+disk_same disk line e (UnsettledPort k) of quiet is = absurd of
+disk_same disk line e x of quiet is = one_same disk line e x quiet is
 
 -- A PART of a line
 first_said : (one two : Option SettleEntry) (ones twos : List (Option SettleEntry)) → one ∷ ones ≡ two ∷ twos

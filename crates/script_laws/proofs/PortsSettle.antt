@@ -93,10 +93,7 @@ real_tick k event (OfPort j (Switched frame out full)) ticks is =
     let same : event ≡ Switched frame out full = cc is in
     let both : false ≡ true = sym (ap is_port_tick same) ∙ ticks in
     absurd (cc both)
-real_tick k event (OfLane j own) ticks is = absurd (cc is)
-real_tick k event Settled ticks is = absurd (cc is)
-real_tick k event (Unsettled j) ticks is = absurd (cc is)
-real_tick k event (UnsettledPort j) ticks is = absurd (cc is)
+real_tick k event _ ticks is = absurd (cc is)
 
 -- it comes only where the port isn't finished
 tick_waits : (shape : NetShape) (sound : IsNetShape shape) (front : List SettleEntry) (k : ℕ) (s : PortState) (event : SwitchEvent) (t : PortState)

@@ -62,12 +62,8 @@ disks_alone : (n : ℕ) (front entries all : List SettleEntry) → front ++ entr
 disks_alone n front [] all is none below = tt
 disks_alone n front (OfPort k event ∷ entries) all is none below = absurd (none front k event entries is)
 disks_alone n front (UnsettledPort k ∷ entries) all is none below = absurd (no_number k below.0)
-disks_alone n front (OfLane k event ∷ entries) all is none below =
-    (tt, disks_alone n (front ++ OfLane k event ∷ []) entries all (append_assoc front (OfLane k event ∷ []) entries ∙ is) none below.1)
-disks_alone n front (Settled ∷ entries) all is none below =
-    (tt, disks_alone n (front ++ Settled ∷ []) entries all (append_assoc front (Settled ∷ []) entries ∙ is) none below.1)
-disks_alone n front (Unsettled k ∷ entries) all is none below =
-    (tt, disks_alone n (front ++ Unsettled k ∷ []) entries all (append_assoc front (Unsettled k ∷ []) entries ∙ is) none below.1)
+disks_alone n front (entry ∷ entries) all is none below =
+    (tt, disks_alone n (front ++ entry ∷ []) entries all (append_assoc front (entry ∷ []) entries ∙ is) none below.1)
 
 pub of_disks : (shapes : List Shape) (image : ImageState) (lines : List (Line × List SettleEntry)) (v : DomainState)
     → Run lane_lines.LineStep (fresh_domain shapes image []) lines v → EachEntry IsOfDisks (entries_of_lines lines)

@@ -304,44 +304,33 @@ pub real_settled : (x : SettleEntry) → Settled ≡ told_of x → x ≡ Settled
 real_settled (OfPort k (OnPort (OnLane event))) is = absurd (cc is)
 real_settled (OfPort k (OnPort (Receives frame))) is = absurd (cc is)
 real_settled (OfPort k (Switched frame out full)) is = absurd (cc is)
-real_settled (OfLane k event) is = absurd (cc is)
 real_settled Settled is = refl
-real_settled (Unsettled k) is = absurd (cc is)
-real_settled (UnsettledPort k) is = absurd (cc is)
+real_settled _ is = absurd (cc is)
 
 pub real_unsettled_port : (k : ℕ) (x : SettleEntry) → UnsettledPort k ≡ told_of x → x ≡ UnsettledPort k
 real_unsettled_port k (OfPort j (OnPort (OnLane event))) is = absurd (cc is)
 real_unsettled_port k (OfPort j (OnPort (Receives frame))) is = absurd (cc is)
 real_unsettled_port k (OfPort j (Switched frame out full)) is = absurd (cc is)
-real_unsettled_port k (OfLane j event) is = absurd (cc is)
-real_unsettled_port k Settled is = absurd (cc is)
-real_unsettled_port k (Unsettled j) is = absurd (cc is)
 real_unsettled_port k (UnsettledPort j) is = sym is
+real_unsettled_port k _ is = absurd (cc is)
 
 pub real_unsettled : (k : ℕ) (x : SettleEntry) → Unsettled k ≡ told_of x → x ≡ Unsettled k
 real_unsettled k (OfPort j (OnPort (OnLane event))) is = absurd (cc is)
 real_unsettled k (OfPort j (OnPort (Receives frame))) is = absurd (cc is)
 real_unsettled k (OfPort j (Switched frame out full)) is = absurd (cc is)
-real_unsettled k (OfLane j event) is = absurd (cc is)
-real_unsettled k Settled is = absurd (cc is)
 real_unsettled k (Unsettled j) is = sym is
-real_unsettled k (UnsettledPort j) is = absurd (cc is)
+real_unsettled k _ is = absurd (cc is)
 
 pub real_of_lane : (k : ℕ) (event : DiskEvent) (x : SettleEntry) → OfLane k event ≡ told_of x → x ≡ OfLane k event
 real_of_lane k event (OfPort j (OnPort (OnLane other))) is = absurd (cc is)
 real_of_lane k event (OfPort j (OnPort (Receives frame))) is = absurd (cc is)
 real_of_lane k event (OfPort j (Switched frame out full)) is = absurd (cc is)
 real_of_lane k event (OfLane j other) is = sym is
-real_of_lane k event Settled is = absurd (cc is)
-real_of_lane k event (Unsettled j) is = absurd (cc is)
-real_of_lane k event (UnsettledPort j) is = absurd (cc is)
+real_of_lane k event _ is = absurd (cc is)
 
 pub real_switched : (k : ℕ) (frame : List ℕ) (out full : ℕ) (x : SettleEntry) → OfPort k (Switched frame out full) ≡ told_of x
     → x ≡ OfPort k (Switched frame out full)
 real_switched k frame out full (OfPort j (OnPort (OnLane event))) is = absurd (cc is)
 real_switched k frame out full (OfPort j (OnPort (Receives other))) is = absurd (cc is)
 real_switched k frame out full (OfPort j (Switched other one two)) is = sym is
-real_switched k frame out full (OfLane j event) is = absurd (cc is)
-real_switched k frame out full Settled is = absurd (cc is)
-real_switched k frame out full (Unsettled j) is = absurd (cc is)
-real_switched k frame out full (UnsettledPort j) is = absurd (cc is)
+real_switched k frame out full _ is = absurd (cc is)
