@@ -112,6 +112,7 @@ impl Names {
         match lane.kind {
             LaneKind::Disk => Some(self.disk(lane.number)?.name),
             LaneKind::Port => Some(self.port(lane.number)?.name),
+            LaneKind::Console => None,
         }
     }
 
@@ -144,6 +145,7 @@ impl Names {
         match kind {
             LaneKind::Disk => self.disk_count,
             LaneKind::Port => self.port_count,
+            LaneKind::Console => 0,
         }
     }
 

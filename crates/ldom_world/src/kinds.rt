@@ -30,6 +30,7 @@ impl<D: Store> World<D> {
         match kind {
             LaneKind::Disk => self.disk_count(),
             LaneKind::Port => self.port_count(),
+            LaneKind::Console => 0,
         }
     }
 
@@ -42,6 +43,7 @@ impl<D: Store> World<D> {
         match lane.kind {
             LaneKind::Disk => self.disks.waits(lane.number),
             LaneKind::Port => self.ports.waits(lane.number),
+            LaneKind::Console => unreachable!(),
         }
     }
 
@@ -63,6 +65,7 @@ impl<D: Store> World<D> {
         match lane.kind {
             LaneKind::Disk => self.step_disk(lane.number, side, journal),
             LaneKind::Port => self.step_port(lane.number, side, journal),
+            LaneKind::Console => unreachable!(),
         }
     }
 
@@ -84,6 +87,7 @@ impl<D: Store> World<D> {
         match lane.kind {
             LaneKind::Disk => self.quiet_step_disk(lane.number, side, journal),
             LaneKind::Port => self.quiet_step_port(lane.number, side, journal),
+            LaneKind::Console => unreachable!(),
         }
     }
 
@@ -106,6 +110,7 @@ impl<D: Store> World<D> {
         match lane.kind {
             LaneKind::Disk => self.answer_call(lane.number, call, journal),
             LaneKind::Port => self.answer_port(lane.number, call, journal),
+            LaneKind::Console => unreachable!(),
         }
     }
 
@@ -131,6 +136,7 @@ impl<D: Store> World<D> {
             (LaneKind::Disk, Side::Client) => self.poke_disk(end.lane.number, at, bytes, journal),
             (LaneKind::Disk, Side::Server) => unreachable!(),
             (LaneKind::Port, side) => self.poke_port(end.lane.number, side, at, bytes, journal),
+            (LaneKind::Console, _) => unreachable!(),
         }
     }
 
