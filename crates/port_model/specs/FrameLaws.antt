@@ -11,6 +11,7 @@ use Rattle.channel_model.specs.Ranges.{wrapped}
 use Rattle.channel_model.specs.Sayings.{half_heard, half_said}
 use Rattle.channel_model.specs.TranscriptLog.{TranscriptLog, hears, says, transcript_of}
 use Rattle.channel_model.specs.WireAt.{IsUp}
+use Rattle.dring.specs.Slots.{done_state}
 use Rattle.port_model.specs.EndLog.{EndLog, SessionLog, groups_fields, held, lost_in, range_of}
 use Rattle.port_model.specs.Groups.{is_in}
 use Rattle.port_model.specs.NetEndStep.{Already, BadLength, Frame, Full, Given, GroupsFull, Joined, Joining, Member, Published, Queued, Reset, Sent, Took}
@@ -186,7 +187,7 @@ pub record NamesUndone (slots slot state : ℕ) (s : SessionLog) (message : List
   pub turn : ℕ
   pub named : turn < range_of slots message
   pub slot_is : slot ≡ (s.seen + turn) % slots
-  pub state_is : state ≢ 4
+  pub state_is : state ≢ done_state
 
 abbrev pub SomeMessage : Option (List ℕ) → (List ℕ → Type 0) → Type 0
 SomeMessage None Holds = ⊥
