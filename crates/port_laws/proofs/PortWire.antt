@@ -1,6 +1,6 @@
 -- What an event of a port leaves of its wire: forging isn't undone, no step of an end forges or loses anything, and a calm one leaves the wire
 -- as it was. And what a frame that the switch puts into the out queue adds to what remains.
-use Rattle.std.proofs.Common.{◌≡◌, ℕ, ◌+◌, ◌≤◌, Bool, false, Option, List, length, ap, ◌∙◌, arith, length-append}
+use Rattle.std.proofs.Common.{◌≡◌, ℕ, ◌+◌, ◌≤◌, Bool, false, Option, List, length, ap, ◌∙◌, arith, length-append, sym}
 use Rattle.ldc_link.specs.declared.phase.Role.TheVariants.{Responder}
 use Rattle.ldc_queue.specs.declared.end.ChannelState.{ChannelState}
 use Rattle.ldc_queue.specs.declared.end.ChannelState.TheVariants.{Up}
@@ -11,17 +11,21 @@ use Rattle.port_model.specs.NetEndState.{NetEndState, NetSession}
 use Rattle.port_model.specs.NetEndStep.{NetAnswer}
 use Rattle.port_model.specs.NetEvent.{NetEvent, Steps, Ticked, on_wire}
 use Rattle.port_model.specs.NetLaneStep.{moved_on}
-use Rattle.port_model.specs.PortState.{OnLane, PortState, PortStep, Receives, before}
+use Rattle.port_model.specs.PortState.{OnLane, PortState, PortStep, Receives, before, PortEvent}
 use Rattle.port_laws.specs.Remaining.{end_left, remaining}
 use Rattle.port_laws.specs.RemainingSteps.{IsCalm}
 use Rattle.port_laws.proofs.PortCounts.{before_wire, wire_event}
 use Rattle.port_laws.proofs.RingEvents.{acts_up}
+use Rattle.port_laws.proofs.RingRuns.{was_clean}
 
 -- THE WIRE after an event of its lane
 pub port_wire : (s : PortState) (event : NetEvent) (t : PortState) → PortStep s (OnLane event) t → t.lane.wire ≡ moved_on s.lane.wire (on_wire event)
 port_wire s event t step = wire_event (before event s).lane event t.lane step.1 ∙ ap (λ (w : WireLog). moved_on w (on_wire event)) (before_wire event s)
 
 -- FORGING
+pub was_unforged : (s : PortState) (event : PortEvent) (t : PortState) → PortStep s event t → t.lane.wire.forged ≡ false → s.lane.wire.forged ≡ false
+was_unforged s (OnLane event) t step clean = was_clean s.lane.wire event (ap (λ (w : WireLog). w.forged) (sym (port_wire s event t step)) ∙ clean)
+was_unforged s (Receives frame) t step clean = sym (ap (λ (x : PortState). x.lane.wire.forged) step.2) ∙ clean
 
 answer_forges : (w : WireLog) (e : End) (answer : NetAnswer) → (moved_on w (on_wire (Steps e answer))).forged ≡ w.forged
 answer_forges w e answer = grind arith
