@@ -24,7 +24,7 @@ mod SlotsFound
 mod StepCounts
 mod RemainingEnds
 mod FlightSums
-mod PortCounts
+pub mod PortCounts
 pub mod RemainingSteps
 pub mod RemainingTakes
 pub mod RuleFrames

@@ -38,6 +38,7 @@ use Rattle.world_parts.specs.domain_laws.Lines.{fronts}
 use Rattle.ldom_entries.specs.declared.entry.Entry.{Entry}
 use Rattle.script_laws.proofs.DiskShapes.{are_shapes, many_shapes}
 use Rattle.script_laws.proofs.Entries.{IsName}
+use Rattle.script_laws.proofs.FramesHeld.{ports_hold}
 use Rattle.script_laws.proofs.LedLanes.{led_run, told_run}
 use Rattle.script_laws.proofs.Places.{InEither, place_in}
 use Rattle.script_laws.proofs.ReachedLanes.{AreLanes}
@@ -46,7 +47,7 @@ use Rattle.script_laws.proofs.SettleLines.{EachSettles, SettlesBehind, SettlesOn
 use Rattle.script_laws.proofs.TicksNeeded.{waits_by}
 use Rattle.script_laws.proofs.TicksStand.{MovedTo, moved_to}
 use Rattle.script_laws.proofs.Untold.{Untold, all_told, real_unsettled, told_happened, told_moves, untold}
-use Rattle.script_laws.specs.Settled.{LeftWhereBusy, RunsOutIn, WaitsBy}
+use Rattle.script_laws.specs.Settled.{LeftWhereBusy, RunsOutIn, WaitsBy, held_by}
 use Rattle.script_laws.specs.Told.{log_at, told, told_by}
 use Rattle.world_parts.specs.Declared.{shapes_of}
 use Rattle.world_parts.specs.WorldEvents.{told_of}
@@ -133,8 +134,8 @@ told_moved x part at = record {
   loud = at.loud;
 }
 
-most_is : (p q r m n : ℕ) → 4096 + 64 * (p + q) ≤ m → p ≡ r → n ≡ m → 4096 + 64 * (r + q) ≤ n
-most_is p q r m n most one two = omega (arith, most, one, two)
+most_is : (p q r s m n : ℕ) → 4096 + 64 * (p + q) ≤ m → p ≡ r → q ≡ s → n ≡ m → 4096 + 64 * (r + s) ≤ n
+most_is p q r s m n most one two three = omega (arith, most, one, two, three)
 
 -- OF A SCRIPT'S LINES
 module _ (disks : List DiskDecl) (nets : List NetShape) (image : ImageState) (are : AreLanes disks nets) where
@@ -176,13 +177,17 @@ module _ (disks : List DiskDecl) (nets : List NetShape) (image : ImageState) (ar
       world_pending shapes image (told before) of.at.first (are_shapes 0 disks are.disks_are)
       (told_run disks nets image before of.at of.run)
       ∙ ap (λ (n : ℕ). pending_of 0 n (told before)) (many_shapes 0 disks) in
+      let frames : sum_of pending of.at.second ≡ held_by 0 nets (told before) =
+      ports_hold disks nets image are before of.at of.run in
       record {
         at = of.at;
         run = of.run;
         leads = on.leads;
         requests = requests;
+        frames = frames;
         most = most_is (pending_on of.at.first.lanes) (sum_of pending of.at.second) (pending_of 0 (length disks) (told before))
-            (moves_in at.past) (moves_in so_far) (name_at (lanes_in of.at) of.real of.behind of.goes entry name at.past at.rest real) requests
+            (held_by 0 nets (told before)) (moves_in at.past) (moves_in so_far)
+            (name_at (lanes_in of.at) of.real of.behind of.goes entry name at.past at.rest real) requests frames
             (ap (λ (l : List SettleEntry). moves_in l) at.past_is ∙ told_moves at.past);
       }
 

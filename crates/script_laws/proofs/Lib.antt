@@ -20,6 +20,7 @@ pub mod Entries
 pub mod Failing
 pub mod FinishedBy
 pub mod LedLanes
+pub mod FramesHeld
 pub mod LeftWhere
 pub mod SettleRests
 pub mod Isolated

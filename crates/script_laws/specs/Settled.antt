@@ -13,7 +13,9 @@ use Rattle.disk_law.specs.ListState.{ImageState}
 use Rattle.domain_script.specs.declared.event.DiskDecl.{DiskDecl}
 use Rattle.lane_kinds.specs.Lanes.{sum_of}
 use Rattle.lane_kinds.specs.Stuck.{NeverThree}
+use Rattle.world_parts.specs.port_model.EndLog.{held}
 use Rattle.world_parts.specs.port_model.NetLaneState.{NetShape}
+use Rattle.world_parts.specs.port_model.PortLog.{PortLog}
 use Rattle.runs.specs.Run.{Run}
 use Rattle.world_parts.specs.switch_laws.Ports.{pending}
 use Rattle.world_parts.specs.domain_laws.Along.{port_happened}
@@ -24,7 +26,7 @@ use Rattle.world_parts.specs.domain_laws.Settling.{port_ticks_in}
 use Rattle.ldc_queue.specs.declared.end.End.{End}
 use Rattle.ldom_entries.specs.declared.entry.Entry.{Entry}
 use Rattle.script_laws.specs.Still.{AreStillBy}
-use Rattle.script_laws.specs.Told.{log_at, told, told_by}
+use Rattle.script_laws.specs.Told.{log_at, port_log_at, told, told_by}
 use Rattle.world_parts.specs.Declared.{world_of}
 use Rattle.world_parts.specs.Lines.{EventStep}
 use Rattle.world_parts.specs.Script.{ScriptParts, all_lines}
@@ -104,16 +106,26 @@ pub record LeadsOn (at : DomainState) (lines : List (Event × List Entry)) (v : 
   pub told_is : told lines ≡ map told_of later
   pub run : Run DomainStep at later v
 
+-- HOW MANY FRAMES a port holds by its log, at both ends and in its out queue; and so these ports by the entries, from the
+-- port with this number on.
+abbrev pub held_on : PortLog → ℕ
+held_on l = held l.guest + held l.hub
+
+abbrev pub held_by : ℕ → List NetShape → List SettleEntry → ℕ
+held_by k [] entries = 0
+held_by k (shape ∷ nets) entries = held_on (port_log_at shape k entries) + held_by (k + 1) nets entries
+
 -- THE ROUNDS RAN OUT, after these lines: the steps other than Blocked and the ticks so far are as many as may be made, by
--- how much was pending as the settle began. These are the requests of disks, as the entries tell them, and the frames
--- that ports held in the state from which the settle and the lines behind it led to the last one.
+-- how much was pending as the settle began. These are the requests of disks and the frames that ports held, as the entries
+-- tell them, and as the state has them from which the settle and the lines behind it led to the last one.
 pub record RunsOutIn (disks : List DiskDecl) (nets : List NetShape) (image : ImageState)
     (before behind : List (Event × List Entry)) (so_far : List SettleEntry) (v : DomainState) : Type 0 where
   pub at : DomainState
   pub run : Run EventStep (world_of disks nets image) before at
   pub leads : LeadsOn at behind v
   pub requests : pending_on at.first.lanes ≡ pending_of 0 (length disks) (told before)
-  pub most : 4096 + 64 * (pending_of 0 (length disks) (told before) + sum_of pending at.second) ≤ moves_in so_far
+  pub frames : sum_of pending at.second ≡ held_by 0 nets (told before)
+  pub most : 4096 + 64 * (pending_of 0 (length disks) (told before) + held_by 0 nets (told before)) ≤ moves_in so_far
 
 -- so each settle of a script's lines, of which the whole ones end. A lane is left over only where the rounds ran out, and
 -- only where somebody forged a disk or a port before.
