@@ -17,13 +17,15 @@ use Rattle.domain_script.specs.Naming.{among, before_two, end_at, end_named, fir
 use Rattle.domain_script.specs.NamesState.{IsFree, IsNamed, NamesState, names_of}
 use Rattle.domain_script.specs.Spells.{IsOfKind, NamesEnd, NamesLane}
 use Rattle.script_words.specs.Words.{is_name, name_of}
+use Rattle.domain_script.proofs.LaneKinds.{number_of_own, same_kind}
+use Rattle.domain_script.proofs.LaneNames.{by_name}
 use Rattle.domain_script.proofs.Naming.{one_lane}
 use Rattle.script_words.proofs.SameName.{name_from_test, not_from_test, test_from_name, test_from_other}
 use Rattle.script_words.proofs.WordTests.{is_name_from, name_is, name_spelled}
 use Rattle.domain_script.specs.declared.fields.LaneKind.{LaneKind}
 use Rattle.domain_script.specs.declared.fields.LaneKind.TheVariants as lanes
 use Rattle.domain_script.specs.Firsts.{IsFirst, IsNoneOf}
-use Rattle.domain_script.specs.LaneKinds.{lane_at, number_if}
+use Rattle.domain_script.specs.LaneKinds.{is_same_kind, lane_at, number_if}
 
 -- what holds of a value that an option may have
 pub weaker : {A : Type 0} (o : Option A) (P Q : A → Type 0) → ((a : A) → P a → Q a) → IfSome o P → IfSome o Q
@@ -96,12 +98,12 @@ first_found names name =
     first_of names name (number_named name (names_of lanes.Disk names)) (number_named name (names_of lanes.Port names)) refl
     (number_found name (names_of lanes.Disk names)) (number_found name (names_of lanes.Port names))
 
-first_of_kind : (names : NamesState) (name : Name) (kind : LaneKind) (k : ℕ) → IsNamed names name (lane_at kind k) → first_named names name ≡ Some (lane_at kind k)
-first_of_kind names name lanes.Disk k named =
-    ap (λ (o : Option ℕ). option_or (option_map (lane_at lanes.Disk) o) (among names name lanes.Port)) (number_is name (names_of lanes.Disk names) k named.1)
-first_of_kind names name lanes.Port k named =
-    ap (λ (o : Option ℕ). option_or (option_map (lane_at lanes.Disk) o) (among names name lanes.Port)) (none_number name (names_of lanes.Disk names) named.0)
-    ∙ ap (λ (o : Option ℕ). option_map (lane_at lanes.Port) o) (number_is name (names_of lanes.Port names) k named.1)
+first_is : (names : NamesState) (name : Name) (lane : Lane) → IsNamed names name lane → first_named names name ≡ Some lane
+first_is names name =
+    by_name names name (λ lane. first_named names name ≡ Some lane)
+    (λ k first. ap (λ (o : Option ℕ). option_or (option_map (lane_at lanes.Disk) o) (among names name lanes.Port)) (number_is name (names_of lanes.Disk names) k first))
+    (λ k none first. ap (λ (o : Option ℕ). option_or (option_map (lane_at lanes.Disk) o) (among names name lanes.Port)) (none_number name (names_of lanes.Disk names) none)
+    ∙ ap (λ (o : Option ℕ). option_map (lane_at lanes.Port) o) (number_is name (names_of lanes.Port names) k first))
 
 -- of a free name there is none, and a name that none has is free
 pub free_first : (names : NamesState) (name : Name) → IsFree names name → first_named names name ≡ None
@@ -134,18 +136,12 @@ pub lane_is : (names : NamesState) (word : List ℕ) (lane : Lane) → NamesLane
 lane_is names word lane named =
     lane_of_name names word (is_name_from word named.name named.spelled)
     ∙ ap (λ (n : Name). first_named names n) (name_is word named.name named.spelled)
-    ∙ first_of_kind names named.name lane.kind lane.number named.declared_as
+    ∙ first_is names named.name lane named.declared_as
 
 -- and those of a kind
 number_of_lane : (kind other : LaneKind) (k : ℕ) (P : Lane → Type 0) → P (lane_at other k) → IfSome (number_if kind (lane_at other k)) (λ n. P (lane_at kind n))
-number_of_lane lanes.Disk lanes.Disk k P is = is
-number_of_lane lanes.Disk lanes.Port k P is = tt
-number_of_lane lanes.Port lanes.Disk k P is = tt
-number_of_lane lanes.Port lanes.Port k P is = is
-
-number_of_own : (kind : LaneKind) (k : ℕ) → number_if kind (lane_at kind k) ≡ Some k
-number_of_own lanes.Disk k = refl
-number_of_own lanes.Port k = refl
+number_of_lane kind other k P is =
+    either (is_same_kind kind other) (Some k) None (λ n. P (lane_at kind n)) (λ same. subst (λ (x : LaneKind). P (lane_at x k)) (sym (same_kind kind other same)) is) tt
 
 pub kind_found : (names : NamesState) (word : List ℕ) (kind : LaneKind) → IfSome (kind_named kind names word) (λ k. NamesLane names word (lane_at kind k))
 kind_found names word kind =
@@ -213,7 +209,7 @@ end_is names word end named =
 -- of their kind
 memory_test : (kind : LaneKind) (side : Side) → (kind ≡ lanes.Disk → side ≡ Client) → (not (is_disk kind) || not (is_server side)) ≡ true
 memory_test lanes.Disk side is = ap (λ (s : Side). not (is_server s)) (is refl)
-memory_test lanes.Port side is = refl
+memory_test _ side is = refl
 
 pub kind_test : (kind : EndKind) (end : EndName) → IsOfKind kind end → is_of_kind kind end ≡ true
 kind_test ends.Any end is = refl
@@ -222,7 +218,7 @@ kind_test ends.WithMemory end is = memory_test end.lane.kind end.side is
 
 of_disk : (kind : LaneKind) → is_disk kind ≡ true → kind ≡ lanes.Disk
 of_disk lanes.Disk is = refl
-of_disk lanes.Port is = absurd (cc is)
+of_disk _ is = absurd (cc is)
 
 of_server : (side : Side) → is_server side ≡ true → side ≡ Server
 of_server Client is = absurd (cc is)
@@ -234,7 +230,7 @@ of_client Server is = absurd (cc is)
 
 with_memory : (kind : LaneKind) (side : Side) → (not (is_disk kind) || not (is_server side)) ≡ true → kind ≡ lanes.Disk → side ≡ Client
 with_memory lanes.Disk side is disk = of_client side is
-with_memory lanes.Port side is disk = absurd (cc disk)
+with_memory _ side is disk = absurd (cc disk)
 
 pub kind_from_test : (kind : EndKind) (end : EndName) → is_of_kind kind end ≡ true → IsOfKind kind end
 kind_from_test ends.Any end is = tt

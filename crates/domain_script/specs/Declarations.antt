@@ -4,6 +4,7 @@ use Rattle.domain_script.specs.declared.event.DiskDecl.{DiskDecl}
 use Rattle.domain_script.specs.declared.event.PortDecl.{PortDecl}
 use Rattle.domain_script.specs.declared.fields.LaneKind.{LaneKind}
 use Rattle.domain_script.specs.declared.fields.LaneKind.TheVariants as lanes
+use Rattle.script_words.specs.declared.spelled.Name.{Name}
 use Rattle.script_words.specs.Addresses.{IsAddress}
 use Rattle.domain_script.specs.Firsts.{AllDiffer, AreAll}
 
@@ -52,10 +53,24 @@ pub record Declared : Type 0 where
   pub disks : List DiskDecl
   pub ports : List PortDecl
 
--- how many of a kind
+-- WHAT A KIND OF LANES IS to a script: its place among the kinds, its declarations and their names. No other definition
+-- lists the kinds.
+pub record KindDeclared : Type 1 where
+  pub place : ℕ
+  pub Decl : Type 0
+  pub among : Declared → List Decl
+  pub name : Decl → Name
+
+abbrev pub declared_as : LaneKind → KindDeclared
+declared_as lanes.Disk = record { place = 0; Decl = DiskDecl; among = λ all. all.disks; name = λ disk. disk.name }
+declared_as lanes.Port = record { place = 1; Decl = PortDecl; among = λ all. all.ports; name = λ port. port.name }
+
+-- how many of a kind, and their names
 abbrev pub number_of_kind : LaneKind → Declared → ℕ
-number_of_kind lanes.Disk all = length all.disks
-number_of_kind lanes.Port all = length all.ports
+number_of_kind kind all = length ((declared_as kind).among all)
+
+abbrev pub names_of_kind : LaneKind → Declared → List Name
+names_of_kind kind all = map (declared_as kind).name ((declared_as kind).among all)
 
 -- at most eight of each kind, all within the limits, and no two ports with one address
 pub record AreDeclared (all : Declared) : Type 0 where

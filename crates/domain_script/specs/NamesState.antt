@@ -1,5 +1,5 @@
 -- The names that a script has declared so far.
-use Rattle.std.specs.Prelude.{◌≡◌, ℕ, ◌<◌, Bool, true, false, List, [], ◌∷◌, ◌++◌, map, slice_get, Option, Some, ⊤}
+use Rattle.std.specs.Prelude.{◌≡◌, ℕ, ◌<◌, Bool, true, false, List, [], ◌∷◌, ◌++◌, slice_get, Option, Some, ⊤}
 use Rattle.domain_script.specs.declared.event.DiskDecl.{DiskDecl}
 use Rattle.domain_script.specs.declared.event.PortDecl.{PortDecl}
 use Rattle.domain_script.specs.declared.event.Event.{Event}
@@ -8,7 +8,7 @@ use Rattle.domain_script.specs.declared.event.Lane.{Lane}
 use Rattle.script_words.specs.declared.spelled.Name.{Name}
 use Rattle.domain_script.specs.declared.fields.LaneKind.{LaneKind}
 use Rattle.domain_script.specs.declared.fields.LaneKind.TheVariants as lanes
-use Rattle.domain_script.specs.Declarations.{Declared, addresses, number_of_kind}
+use Rattle.domain_script.specs.Declarations.{Declared, addresses, names_of_kind, number_of_kind}
 use Rattle.domain_script.specs.Firsts.{IsFirst, IsNoneOf}
 use Rattle.script_words.specs.Limits.{most_of_a_kind}
 
@@ -33,8 +33,7 @@ IsLane names lane = lane.number < count_of lane.kind names
 
 -- the names of the lanes of a kind, and that of a lane which is declared
 abbrev pub names_of : LaneKind → NamesState → List Name
-names_of lanes.Disk names = map (λ (disk : DiskDecl). disk.name) names.disks
-names_of lanes.Port names = map (λ (port : PortDecl). port.name) names.ports
+names_of kind names = names_of_kind kind (declared_by names)
 
 abbrev pub lane_name : NamesState → Lane → Option Name
 lane_name names lane = slice_get (names_of lane.kind names) lane.number
@@ -45,8 +44,8 @@ IsFree names name = IsNoneOf name (names_of lanes.Disk names) × IsNoneOf name (
 
 -- the lane is the first with this name; disks come before ports
 abbrev pub IsNoneBefore : NamesState → Name → LaneKind → Type 0
-IsNoneBefore names name lanes.Disk = ⊤
 IsNoneBefore names name lanes.Port = IsNoneOf name (names_of lanes.Disk names)
+IsNoneBefore names name _ = ⊤
 
 abbrev pub IsNamed : NamesState → Name → Lane → Type 0
 IsNamed names name lane = IsNoneBefore names name lane.kind × IsFirst name (names_of lane.kind names) lane.number

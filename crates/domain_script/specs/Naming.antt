@@ -66,7 +66,7 @@ is_server Server = true
 
 abbrev pub is_disk : LaneKind → Bool
 is_disk lanes.Disk = true
-is_disk lanes.Port = false
+is_disk _ = false
 
 abbrev pub is_of_kind : EndKind → EndName → Bool
 is_of_kind ends.Any end = true

@@ -39,7 +39,7 @@ impl Lane {
     {
         match self.kind {
             LaneKind::Disk => Some(self.number),
-            LaneKind::Port => None,
+            _ => None,
         }
     }
 
@@ -48,8 +48,8 @@ impl Lane {
         ensures { result ≡ port_of self }
     {
         match self.kind {
-            LaneKind::Disk => None,
             LaneKind::Port => Some(self.number),
+            _ => None,
         }
     }
 
@@ -57,9 +57,10 @@ impl Lane {
     pub fn number_if(self, kind: LaneKind) -> Option<u32>
         ensures { result ≡ number_if kind self }
     {
-        match kind {
-            LaneKind::Disk => self.disk(),
-            LaneKind::Port => self.port(),
+        if kind == self.kind {
+            Some(self.number)
+        } else {
+            None
         }
     }
 }

@@ -64,7 +64,7 @@ fn is_of_kind(end: EndName, kind: EndKind) -> bool
     match kind {
         EndKind::Any => true,
         EndKind::DiskServer => end.lane.kind == LaneKind::Disk && end.side == Side::Server,
-        EndKind::WithMemory => end.lane.kind == LaneKind::Port || end.side == Side::Client,
+        EndKind::WithMemory => end.lane.kind != LaneKind::Disk || end.side == Side::Client,
     }
 }
 

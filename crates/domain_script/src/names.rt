@@ -4,11 +4,14 @@ use crate::fields::LaneKind;
 use crate::{DiskDecl, Event, Lane, Name, PortDecl};
 use std::marker::Model;
 
+/// So many lanes of a kind a script may declare.
+const MOST_OF_A_KIND: u32 = 8;
+
 /// So many disks a script may declare.
-pub const MOST_DISKS: usize = 8;
+pub const MOST_DISKS: usize = MOST_OF_A_KIND as usize;
 
 /// So many ports a script may declare.
-pub const MOST_PORTS: usize = 8;
+pub const MOST_PORTS: usize = MOST_OF_A_KIND as usize;
 
 /// What stands in the place of the name of a lane that isn't declared.
 const NO_NAME: Name = Name {
@@ -102,8 +105,9 @@ impl Names {
     }
 
     /// The name of a lane. None exactly where the lane isn't declared.
-    pub(crate) fn name(&self, lane: Lane) -> Option<Name>
-        ensures { result ≡ lane_name self.now lane }
+    pub fn name(&self, lane: Lane) -> Option<Name>
+        ensures name { result ≡ lane_name self.now lane }
+        ensures few { count_of lane.kind self.now ≤ most_of_a_kind }
     {
         match lane.kind {
             LaneKind::Disk => Some(self.disk(lane.number)?.name),
@@ -147,10 +151,7 @@ impl Names {
     pub(crate) fn has_room(&self, kind: LaneKind) -> bool
         ensures { IsTrue result ↔ (count_of kind self.now < most_of_a_kind) }
     {
-        match kind {
-            LaneKind::Disk => self.count(kind) < MOST_DISKS as u32,
-            LaneKind::Port => self.count(kind) < MOST_PORTS as u32,
-        }
+        self.count(kind) < MOST_OF_A_KIND
     }
 
     /// The first lane with this name; disks come before ports. None exactly where no lane has it.

@@ -117,8 +117,8 @@ only_disk : (ended : Bool) (kind : LaneKind) (k : ℕ) (name : Name) → lane_na
 only_disk ended lanes.Disk zero name is = refl
 only_disk ended lanes.Disk (suc zero) name is = absurd (cc is)
 only_disk ended lanes.Disk (suc (suc k)) name is = absurd (cc is)
-only_disk ended lanes.Port zero name is = absurd (cc is)
-only_disk ended lanes.Port (suc k) name is = absurd (cc is)
+only_disk ended _ zero name is = absurd (cc is)
+only_disk ended _ (suc k) name is = absurd (cc is)
 
 differ : (ended : Bool) → NamesDiffer (sample_names ended)
 differ ended a b name first second = only_disk ended a.kind a.number name first ∙ sym (only_disk ended b.kind b.number name second)
@@ -126,8 +126,8 @@ differ ended a b name first second = only_disk ended a.kind a.number name first 
 no_name : (kind : LaneKind) (k : ℕ) (name : Name) → lane_name no_names (lane_at kind k) ≡ Some name → ⊥
 no_name lanes.Disk zero name is = cc is
 no_name lanes.Disk (suc k) name is = cc is
-no_name lanes.Port zero name is = cc is
-no_name lanes.Port (suc k) name is = cc is
+no_name _ zero name is = cc is
+no_name _ (suc k) name is = cc is
 
 -- words of at most 20 bytes make a short line
 abbrev AreWords : List (List ℕ) → Type 0

@@ -1,13 +1,9 @@
 -- The names in an entry's line, and what begins with its kind and a name.
-use Rattle.std.specs.Prelude.{ℕ, List, [], ◌++◌, map, take, slice_get, Option, Some, None, codes, decimal}
-use Rattle.domain_script.specs.declared.event.DiskDecl.{DiskDecl}
+use Rattle.std.specs.Prelude.{ℕ, List, [], ◌++◌, take, slice_get, Option, Some, None, codes, decimal}
 use Rattle.domain_script.specs.declared.event.EndName.{EndName}
 use Rattle.domain_script.specs.declared.event.Lane.{Lane}
 use Rattle.domain_script.specs.spelled.Name.{Name}
-use Rattle.domain_script.specs.declared.event.PortDecl.{PortDecl}
-use Rattle.domain_script.specs.declared.fields.LaneKind.{LaneKind}
-use Rattle.domain_script.specs.declared.fields.LaneKind.TheVariants as lanes
-use Rattle.domain_script.specs.Declarations.{Declared}
+use Rattle.domain_script.specs.Declarations.{Declared, names_of_kind}
 use Rattle.ldom_entries.specs.declared.entry.Who.{Who}
 use Rattle.ldom_entries.specs.declared.entry.Who.TheVariants.{Lane as OfLane, End as OfEnd}
 use Rattle.line_words.specs.LineWords.{side_text}
@@ -17,14 +13,9 @@ abbrev pub name_text : Option Name → List ℕ
 name_text (Some name) = take name.len name.bytes
 name_text None = []
 
--- the names of the lanes of a kind
-abbrev pub names_of : LaneKind → Declared → List Name
-names_of lanes.Disk declared = map (λ (disk : DiskDecl). disk.name) declared.disks
-names_of lanes.Port declared = map (λ (port : PortDecl). port.name) declared.ports
-
 -- the name of a lane, by its kind and its number in the order of declaration; and that of an end
 abbrev pub lane_name : Declared → Lane → List ℕ
-lane_name declared lane = name_text (slice_get (names_of lane.kind declared) lane.number)
+lane_name declared lane = name_text (slice_get (names_of_kind lane.kind declared) lane.number)
 
 abbrev pub end_name : Declared → EndName → List ℕ
 end_name declared e = lane_name declared e.lane ++ side_text e.side

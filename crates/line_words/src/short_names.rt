@@ -1,12 +1,12 @@
 // The names of lanes and ends as lines put them.
-ghost use Rattle.std.specs.Prelude.{◌≡◌, ◌≤◌, length, slice_get, take};
+ghost use Rattle.std.specs.Prelude.{◌≡◌, ◌<◌, ◌≤◌, length, take};
 ghost use Rattle.domain_script.specs.Declarations.{number_of_kind};
 ghost use Rattle.domain_script.specs.LaneKinds.{lane_at};
 ghost use Rattle.domain_script.specs.NamesState.{declared_by};
 ghost use Rattle.domain_script.specs.declared.fields.LaneKind.TheVariants as the_kind;
 ghost use Rattle.line_words.specs.IsDeclared.{IsLane};
 ghost use Rattle.line_words.specs.LaneNames.{lane_names};
-ghost use Rattle.line_words.specs.LineNames.{lane_name, names_of};
+ghost use Rattle.line_words.specs.LineNames.{lane_name};
 
 use crate::LaneNames;
 use domain_script::{Lane, LaneKind, Name, Names};
@@ -19,23 +19,12 @@ fn name_bytes(name: &Name) -> &[u8]
     &name.bytes[..usize::from(name.len).min(8)]
 }
 
-/// The name of a lane. None exactly where the lane isn't declared.
-fn name_of(names: &Names, kind: LaneKind, number: u32) -> Option<Name>
-    ensures name { result ≡ slice_get (names_of kind (declared_by names.now)) number }
-    ensures few { number_of_kind kind (declared_by names.now) ≤ 8 }
-{
-    match kind {
-        LaneKind::Disk => Some(names.disk(number)?.name),
-        LaneKind::Port => Some(names.port(number)?.name),
-    }
-}
-
 /// The names of a lane and its ends; no bytes for that of a lane which isn't declared.
 fn names_at(names: &Names, kind: LaneKind, number: u32) -> LaneNames
     ensures names { result ≡ lane_name (declared_by names.now) (lane_at kind number) }
     ensures few { number_of_kind kind (declared_by names.now) ≤ 8 }
 {
-    match name_of(names, kind, number) {
+    match names.name(Lane { kind, number }) {
         Some(name) => LaneNames::new(name_bytes(&name)),
         None => LaneNames::new(b""),
     }
@@ -103,12 +92,13 @@ impl<'a> LineNames<'a> {
 
     /// The names of the lanes of a kind.
     fn of_kind(&self, kind: LaneKind) -> &'a [LaneNames]
+        requires some { 0 < number_of_kind kind self.now }
         ensures lanes { result.now ≡ lane_names kind self.now }
         ensures few { number_of_kind kind self.now ≤ 8 }
     {
         match kind {
-            LaneKind::Disk => self.disks,
             LaneKind::Port => self.ports,
+            _ => self.disks,
         }
     }
 
