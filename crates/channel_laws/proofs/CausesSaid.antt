@@ -50,24 +50,24 @@ whole_is true m bytes is = let same : m ≡ bytes = cc is in (refl, sym same)
 whole_is false m bytes is = absurd (cc is)
 
 -- WHAT A CAUSE SAYS
-abbrev Says : List Turn → List ℕ → Option Cause → Type 0
-Says turns packet None = ⊤
-Says turns packet (Some cause) = PacketSays turns packet cause × GapOf turns cause (Some packet)
+abbrev SaysIfAny : List Turn → List ℕ → Option Cause → Type 0
+SaysIfAny turns packet None = ⊤
+SaysIfAny turns packet (Some cause) = PacketSays turns packet cause × GapOf turns cause (Some packet)
 
-says_if : (turns : List Turn) (packet : List ℕ) (b : Bool) (one : Cause) (rest : Option Cause) → (b ≡ true → Says turns packet (Some one)) → Says turns packet rest
-    → Says turns packet (if b then Some one else rest)
+says_if : (turns : List Turn) (packet : List ℕ) (b : Bool) (one : Cause) (rest : Option Cause) → (b ≡ true → SaysIfAny turns packet (Some one)) → SaysIfAny turns packet rest
+    → SaysIfAny turns packet (if b then Some one else rest)
 says_if turns packet true one rest says others = says refl
 says_if turns packet false one rest says others = others
 
-by_why : (turns : List Turn) (packet : List ℕ) (cause : Cause) → SaysWhy turns packet cause → Says turns packet (Some cause)
+by_why : (turns : List Turn) (packet : List ℕ) (cause : Cause) → SaysWhy turns packet cause → SaysIfAny turns packet (Some cause)
 by_why turns packet cause why = (why.says, why.gap)
 
 -- THE MESSAGE that a packet ends
 module _ (own : Message → Option Cause) (rightly : JudgesRightly own) (turns : List Turn) (packet bytes : List ℕ) (sound : first_fault packet ≡ None) (ends : EndsBy turns packet bytes) where
-  told : (cause : Cause) → MessageSays bytes cause → Says turns packet (Some cause)
+  told : (cause : Cause) → MessageSays bytes cause → SaysIfAny turns packet (Some cause)
   told cause says = by_why turns packet cause (by_message turns packet bytes cause sound ends says)
 
-  own_told : (cause : Cause) → OwnSays bytes cause → Says turns packet (Some cause)
+  own_told : (cause : Cause) → OwnSays bytes cause → SaysIfAny turns packet (Some cause)
   own_told (the_cause.NotDone slot state) says = (sound, tt)
   own_told (the_cause.Tag fault) says = told (the_cause.Tag fault) says
   own_told (the_cause.Sid expected found) says = told (the_cause.Sid expected found) says
@@ -79,15 +79,15 @@ module _ (own : Message → Option Cause) (rightly : JudgesRightly own) (turns :
   own_told (the_cause.RangeEnd found) says = told (the_cause.RangeEnd found) says
   own_told _ says = absurd says
 
-  some_told : (answer : Option Cause) → SomeSays bytes answer → Says turns packet answer
+  some_told : (answer : Option Cause) → SomeSays bytes answer → SaysIfAny turns packet answer
   some_told None says = tt
   some_told (Some cause) says = own_told cause says
 
-  declined_told : (b : Bool) → message.first_fault bytes ≡ None → Says turns packet (if b then None else Some the_cause.Order)
+  declined_told : (b : Bool) → message.first_fault bytes ≡ None → SaysIfAny turns packet (if b then None else Some the_cause.Order)
   declined_told true fine = tt
   declined_told false fine = told the_cause.Order fine
 
-  body_told : (one : Message) (body : MsgBody) → message.first_fault bytes ≡ None → SpellsMessage bytes one → Says turns packet (body_cause own one body)
+  body_told : (one : Message) (body : MsgBody) → message.first_fault bytes ≡ None → SpellsMessage bytes one → SaysIfAny turns packet (body_cause own one body)
   body_told one (DringData seq ident start end state) fine spells = some_told (own one) (rightly.says bytes one fine spells)
   body_told one (Mcast set count addresses) fine spells = some_told (own one) (rightly.says bytes one fine spells)
   body_told one (DringReg ident slots slot_size options count cookies) fine spells =
@@ -95,17 +95,17 @@ module _ (own : Message → Option Cause) (rightly : JudgesRightly own) (turns :
   body_told one body fine spells = declined_told (is_declined one.subtype body) fine
 
   sid_told : (b : Bool) (sid : ℕ) (one : Message) → b ≡ nat_eq sid one.sid → message.first_fault bytes ≡ None → SpellsMessage bytes one
-      → Says turns packet (if b then body_cause own one one.body else Some (the_cause.Sid sid one.sid))
+      → SaysIfAny turns packet (if b then body_cause own one one.body else Some (the_cause.Sid sid one.sid))
   sid_told true sid one is fine spells = body_told one one.body fine spells
   sid_told false sid one is fine spells = told (the_cause.Sid sid one.sid) (fine, (spells.sid, other_number sid one.sid (sym is)))
 
-  decoded_told : (sid : ℕ) (d : Result Message TagFault) → Decodes bytes d → Says turns packet (decoded_cause own sid d)
+  decoded_told : (sid : ℕ) (d : Result Message TagFault) → Decodes bytes d → SaysIfAny turns packet (decoded_cause own sid d)
   decoded_told sid (Err fault) decodes = told (the_cause.Tag fault) decodes.fault
   decoded_told sid (Ok one) decodes =
       sid_told (nat_eq sid one.sid) sid one refl (spelled_no_fault bytes one decodes.message.0 decodes.message.1) decodes.message.1
 
 message_told : (own : Message → Option Cause) → JudgesRightly own → (sid : ℕ) (turns : List Turn) (packet : List ℕ) (whole : Option (List ℕ)) → first_fault packet ≡ None
-    → ended_by (half_heard turns) packet ≡ whole → Says turns packet (message_cause own sid whole)
+    → ended_by (half_heard turns) packet ≡ whole → SaysIfAny turns packet (message_cause own sid whole)
 message_told own rightly sid turns packet None sound is = tt
 message_told own rightly sid turns packet (Some bytes) sound is =
     let of = whole_is (is_part packet && (fragment_at packet).stop) (half_heard turns ++ (fragment_at packet).bytes) bytes is in
@@ -114,13 +114,13 @@ message_told own rightly sid turns packet (Some bytes) sound is =
 
 -- THE PACKET
 part_told : (turns : List Turn) (packet : List ℕ) (part comes : Bool) (rest : Option Cause) → first_fault packet ≡ None → is_part packet ≡ part
-    → may_come (half_heard turns) (fragment_at packet) ≡ comes → Says turns packet rest → Says turns packet (part_cause part comes rest)
+    → may_come (half_heard turns) (fragment_at packet) ≡ comes → SaysIfAny turns packet rest → SaysIfAny turns packet (part_cause part comes rest)
 part_told turns packet true true rest sound is may says = says
 part_told turns packet true false rest sound is may says = ((sound, record { part = is; broken = may }), tt)
 part_told turns packet false comes rest sound is may says = (sound, tt)
 
-mode_told : (turns : List Turn) (packet : List ℕ) (rest : Option Cause) → first_fault packet ≡ None → Says turns packet rest
-    → Says turns packet (mode_cause (names_mode packet) (env_at packet) rest)
+mode_told : (turns : List Turn) (packet : List ℕ) (rest : Option Cause) → first_fault packet ≡ None → SaysIfAny turns packet rest
+    → SaysIfAny turns packet (mode_cause (names_mode packet) (env_at packet) rest)
 mode_told turns packet rest sound says =
     says_if turns packet (names_mode packet && not (nat_eq (env_at packet) 1)) (the_cause.Mode (env_at packet)) rest
     (λ test.
@@ -142,18 +142,18 @@ mode_told turns packet rest sound says =
     kind_of (inl is) = inl (eqb-true (ctrl_at packet) 2 is)
     kind_of (inr is) = inr (eqb-true (ctrl_at packet) 3 is)
 
-number_told : (turns : List Turn) (packet : List ℕ) (rest : Option Cause) → first_fault packet ≡ None → Says turns packet rest
-    → Says turns packet (number_cause (is_numbered packet) (counts_next (count_heard turns)) (seqid_at packet) rest)
+number_told : (turns : List Turn) (packet : List ℕ) (rest : Option Cause) → first_fault packet ≡ None → SaysIfAny turns packet rest
+    → SaysIfAny turns packet (number_cause (is_numbered packet) (counts_next (count_heard turns)) (seqid_at packet) rest)
 number_told turns packet rest sound says = grind arith
 
-fault_told : (turns : List Turn) (packet : List ℕ) (fault : Option PacketFault) (rest : Option Cause) → first_fault packet ≡ fault → (first_fault packet ≡ None → Says turns packet rest)
-    → Says turns packet (fault_cause fault rest)
+fault_told : (turns : List Turn) (packet : List ℕ) (fault : Option PacketFault) (rest : Option Cause) → first_fault packet ≡ fault → (first_fault packet ≡ None → SaysIfAny turns packet rest)
+    → SaysIfAny turns packet (fault_cause fault rest)
 fault_told turns packet (Some fault) rest is says = (is, tt)
 fault_told turns packet None rest is says = says is
 
-packet_told : (own : Message → Option Cause) → JudgesRightly own → (sid : ℕ) (turns : List Turn) (packet : List ℕ) → Says turns packet (packet_cause own sid turns packet)
+packet_told : (own : Message → Option Cause) → JudgesRightly own → (sid : ℕ) (turns : List Turn) (packet : List ℕ) → SaysIfAny turns packet (packet_cause own sid turns packet)
 packet_told own rightly sid turns packet = search (fault_told, number_told, mode_told, part_told, message_told)
 
 pub cause_said : (own : Message → Option Cause) (sid : ℕ) (turns : List Turn) (packet : List ℕ) (cause : Cause) → JudgesRightly own → packet_cause own sid turns packet ≡ Some cause
     → PacketSays turns packet cause × GapOf turns cause (Some packet)
-cause_said own sid turns packet cause rightly is = subst (Says turns packet) is (packet_told own rightly sid turns packet)
+cause_said own sid turns packet cause rightly is = subst (SaysIfAny turns packet) is (packet_told own rightly sid turns packet)

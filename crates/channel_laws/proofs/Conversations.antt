@@ -17,7 +17,7 @@ use Rattle.ldc_queue.specs.declared.end.ChannelState.TheVariants.{Up}
 use Rattle.ldc_queue.specs.declared.end.End.TheVariants.{A}
 use Rattle.ldc_queue.specs.Numbered.{is_numbered, numbered}
 use Rattle.ldc_queue.specs.QueueEvent.{Close, Join, Lose, Put, Take}
-use Rattle.ldc_queue.specs.QueueLog.{IsFirst, lost_behind, lost_past}
+use Rattle.ldc_queue.specs.QueueLog.{WaitsLongest, lost_behind, lost_past}
 use Rattle.ldc_queue.specs.Transcript.{Turn}
 use Rattle.ldc_queue.specs.Wire.{peer_behind, queue_behind, upset}
 use Rattle.channel_model.specs.WireLog.{lossy_behind}
@@ -166,7 +166,7 @@ put_converse role s t packet opens up room stands says c =
     }
 
 -- IT TAKES a packet
-took_left : (role : Role) (s : Sides) (t : EndCore) (now : LinkState) (packet : List ℕ) → s.mine.state ≡ Up → IsFirst packet s.mine.waiting → IsPhaseOf role s.mine.core.link.phase
+took_left : (role : Role) (s : Sides) (t : EndCore) (now : LinkState) (packet : List ℕ) → s.mine.state ≡ Up → WaitsLongest packet s.mine.waiting → IsPhaseOf role s.mine.core.link.phase
     → LinkHeard s.mine.core.link packet now → t.link.phase ≡ now.phase
     → (controls role (took packet t s) + unless (is_numbered packet) 0 ≤ controls role s) × (controls (other role) (swapped (took packet t s)) ≤ controls (other role) (swapped s))
 took_left role s t now packet up first of how same = grind arith
@@ -175,7 +175,7 @@ past_none : (packets : List (List ℕ)) (lost : ℕ) → lost ≡ 0 → lost_pas
 past_none [] lost none = none
 past_none (packet ∷ packets) lost none = refl
 
-pub first_waits : (packet : List ℕ) (waiting : List (List ℕ)) → slice_get waiting 0 ≡ Some packet → IsFirst packet waiting
+pub first_waits : (packet : List ℕ) (waiting : List (List ℕ)) → slice_get waiting 0 ≡ Some packet → WaitsLongest packet waiting
 first_waits packet [] is = absurd (cc is)
 first_waits packet (one ∷ waiting) is = let same : one ≡ packet = cc is in ap (λ (x : List ℕ). x ∷ waiting) same
 
@@ -209,7 +209,7 @@ took_converse role s t packet opens up at_front stands peer_stands hears c =
     }
 
 -- ONE IS LOST
-missed_left : (role : Role) (s : Sides) (packet : List ℕ) → IsFirst packet s.mine.waiting
+missed_left : (role : Role) (s : Sides) (packet : List ℕ) → WaitsLongest packet s.mine.waiting
     → (controls role (missed s) ≤ controls role s) × (controls (other role) (swapped (missed s)) ≡ controls (other role) (swapped s))
 missed_left Initiator s packet first = (omega arith, refl)
 missed_left Responder s packet first = (omega (arith, first_unnumbered packet s.mine.waiting first), refl)

@@ -4,7 +4,7 @@ use Rattle.ldc_link.specs.declared.phase.LinkPhase.{LinkPhase}
 use Rattle.ldc_queue.specs.declared.end.ChannelState.{ChannelState}
 use Rattle.ldc_queue.specs.declared.end.ChannelState.TheVariants.{Up}
 use Rattle.ldc_queue.specs.Numbered.{is_numbered, kept}
-use Rattle.ldc_queue.specs.QueueLog.{IsFirst, lost_past}
+use Rattle.ldc_queue.specs.QueueLog.{WaitsLongest, lost_past}
 use Rattle.channel_laws.specs.Conversing.{AreFew, live_budget, live_puts, live_takes, puts_left, takes_left, unless, unnumbered}
 
 -- an end that is up counts itself
@@ -35,10 +35,10 @@ unnumbered-append (first ∷ packets) packet =
     unless_more (is_numbered first) (unnumbered (packets ++ packet ∷ [])) ∙ omega (arith, unnumbered-append packets packet, unless_more (is_numbered first) (unnumbered packets))
 
 -- the queue without its first
-pub first_length : (packet : List ℕ) (waiting : List (List ℕ)) → IsFirst packet waiting → length waiting ≡ length (drop 1 waiting) + 1
+pub first_length : (packet : List ℕ) (waiting : List (List ℕ)) → WaitsLongest packet waiting → length waiting ≡ length (drop 1 waiting) + 1
 first_length packet waiting first = omega (arith, ap length first)
 
-pub first_unnumbered : (packet : List ℕ) (waiting : List (List ℕ)) → IsFirst packet waiting → unnumbered waiting ≡ unnumbered (drop 1 waiting) + unless (is_numbered packet) 0
+pub first_unnumbered : (packet : List ℕ) (waiting : List (List ℕ)) → WaitsLongest packet waiting → unnumbered waiting ≡ unnumbered (drop 1 waiting) + unless (is_numbered packet) 0
 first_unnumbered packet waiting first = ap unnumbered first ∙ unless_more (is_numbered packet) (unnumbered (drop 1 waiting))
 
 -- nothing is lost at the beginning

@@ -20,7 +20,7 @@ use Rattle.ldc_queue.specs.Fragments.{Fragment, fragment_at, fragments_in, is_pa
 use Rattle.ldc_queue.specs.Messages.{AllMayCome, MayCome, half_in, half_with, is_empty}
 use Rattle.ldc_queue.specs.Numbered.{is_numbered, numbered}
 use Rattle.ldc_queue.specs.OneStream.{OneWay}
-use Rattle.ldc_queue.specs.QueueLog.{IsFirst}
+use Rattle.ldc_queue.specs.QueueLog.{WaitsLongest}
 use Rattle.ldc_queue.specs.Transcript.{Turn, numbered_heard}
 use Rattle.vio_tag.specs.declared.cause.Cause.{Cause}
 use Rattle.vio_tag.specs.declared.cause.Cause.TheVariants as the_cause
@@ -137,7 +137,7 @@ heard_is : (b : Bool) (m : LinkState) (next number : ℕ) (cause : Cause) → b 
 heard_is true m next number cause yes_one is = let never : Unheard cause ≡ Heard (counted m) = is in cc never
 heard_is false m next number cause yes_one is = cc yes_one
 
-pub turned_own : (lossy : Bool) (k : LinkState) (turns : List Turn) (said waiting : List (List ℕ)) (packet : List ℕ) (lost : ℕ) (cause : Cause) → Follows k turns → IsFirst packet waiting
+pub turned_own : (lossy : Bool) (k : LinkState) (turns : List Turn) (said waiting : List (List ℕ)) (packet : List ℕ) (lost : ℕ) (cause : Cause) → Follows k turns → WaitsLongest packet waiting
     → OneWay said (numbered_heard turns) (numbered waiting) lost → lost < 4294967296 → (lossy ≡ false → lost ≡ 0) → is_numbered packet ≡ true
     → Turned k said (numbered_heard turns) packet → TakesBytes k packet (Unheard cause) → IsGapBehindLoss lossy cause
 turned_own lossy k turns said waiting packet lost cause follows first way few whole has turned takes = by_test (nat_eq turned.number k.take_next) refl

@@ -10,11 +10,11 @@ use Rattle.ldc_link.specs.Putting.{control}
 use Rattle.ldc_queue.proofs.Streams.{count_up_later, way_took}
 use Rattle.ldc_queue.specs.Numbered.{CountUp, is_numbered, kept, numbered}
 use Rattle.ldc_queue.specs.OneStream.{OneWay}
-use Rattle.ldc_queue.specs.QueueLog.{IsFirst}
+use Rattle.ldc_queue.specs.QueueLog.{WaitsLongest}
 use Rattle.channel_laws.specs.LinkPlaces.{EachPart, IsPartOf, IsReady, ReadyFirst}
 
 -- what waits, where the first has a number
-first_in : (waiting : List (List ℕ)) (packet : List ℕ) → IsFirst packet waiting → is_numbered packet ≡ true → numbered waiting ≡ packet ∷ numbered (drop 1 waiting)
+first_in : (waiting : List (List ℕ)) (packet : List ℕ) → WaitsLongest packet waiting → is_numbered packet ≡ true → numbered waiting ≡ packet ∷ numbered (drop 1 waiting)
 first_in waiting packet first has = ap numbered first ∙ ap (λ (b : Bool). kept b packet (numbered (drop 1 waiting))) has
 
 -- it was said
@@ -23,7 +23,7 @@ pub record WasSaid (said heard : List (List ℕ)) (packet : List ℕ) : Type 0 w
   pub rest : List (List ℕ)
   pub is : said ≡ (heard ++ gone) ++ packet ∷ rest
 
-pub was_said : (said heard waiting : List (List ℕ)) (packet : List ℕ) (lost : ℕ) → IsFirst packet waiting → OneWay said heard (numbered waiting) lost → is_numbered packet ≡ true
+pub was_said : (said heard waiting : List (List ℕ)) (packet : List ℕ) (lost : ℕ) → WaitsLongest packet waiting → OneWay said heard (numbered waiting) lost → is_numbered packet ≡ true
     → WasSaid said heard packet
 was_said said heard waiting packet lost first way has = record {
   gone = way.gone;
@@ -36,7 +36,7 @@ pub record IsNext (said heard : List (List ℕ)) (packet : List ℕ) : Type 0 wh
   pub rest : List (List ℕ)
   pub is : said ≡ (heard ++ packet ∷ []) ++ rest
 
-pub is_next : (said heard waiting : List (List ℕ)) (packet : List ℕ) (lost : ℕ) → IsFirst packet waiting → OneWay said heard (numbered waiting) lost → lost < 4294967296
+pub is_next : (said heard waiting : List (List ℕ)) (packet : List ℕ) (lost : ℕ) → WaitsLongest packet waiting → OneWay said heard (numbered waiting) lost → lost < 4294967296
     → is_numbered packet ≡ true → seqid_at packet ≡ (length heard + 1) % 4294967296 → IsNext said heard packet
 is_next said heard waiting packet lost first way few has number =
     let took = way_took said heard (drop 1 waiting) packet lost (subst (λ (xs : List (List ℕ)). OneWay said heard (numbered xs) lost) first way)
@@ -51,7 +51,7 @@ pub none_of : (packets : List (List ℕ)) → length packets ≤ 0 → packets �
 none_of [] few = refl
 none_of (packet ∷ packets) few = absurd (omega (arith, few))
 
-pub whole_number : (said heard waiting : List (List ℕ)) (packet : List ℕ) (lost : ℕ) → IsFirst packet waiting → OneWay said heard (numbered waiting) lost → lost ≡ 0
+pub whole_number : (said heard waiting : List (List ℕ)) (packet : List ℕ) (lost : ℕ) → WaitsLongest packet waiting → OneWay said heard (numbered waiting) lost → lost ≡ 0
     → is_numbered packet ≡ true → seqid_at packet ≡ (length heard + 1) % 4294967296
 whole_number said heard waiting packet lost first way whole has =
     let gone : way.gone ≡ [] = none_of way.gone (omega (arith, way.few, whole)) in

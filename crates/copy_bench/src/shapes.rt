@@ -2,6 +2,7 @@
 
 ghost use Rattle.std.specs.Prelude.{◌≡◌, ◌≤◌, IfOk, length};
 ghost use Rattle.cookie_copy.specs.Faults.{PagesWithin};
+ghost use Rattle.copy_bench.specs.Sizes.{memory_long};
 
 use cookie_copy::{copy_in, copy_out};
 use dom_memory::Memory;
@@ -61,8 +62,8 @@ fn repeat(
     from: &[u8],
     to: &mut [u8],
 ) -> u32
-    requires within { PagesWithin table.now 32768 }
-    requires pages { length memory.old ≡ 32768 }
+    requires within { PagesWithin table.now memory_long }
+    requires pages { length memory.old ≡ memory_long }
     requires same { length to.old ≡ length from.now }
     ensures { result ≤ count }
 {
@@ -77,7 +78,7 @@ fn repeat(
 
 /// Four pages, each at its own index.
 fn table_of(alloc: Global) -> Result<MapTable, NoMemory>
-    ensures { IfOk result (λ table. PagesWithin table 32768) }
+    ensures { IfOk result (λ table. PagesWithin table memory_long) }
 {
     let mut table = MapTable::new(alloc, 4)?;
     for page in 0..4 {
@@ -95,10 +96,10 @@ fn copy(
     from: &[u8],
     to: &mut [u8],
 ) -> bool
-    requires within { PagesWithin table.now 32768 }
-    requires pages { length memory.old ≡ 32768 }
+    requires within { PagesWithin table.now memory_long }
+    requires pages { length memory.old ≡ memory_long }
     requires same { length to.old ≡ length from.now }
-    ensures same_pages { length memory.new ≡ 32768 }
+    ensures same_pages { length memory.new ≡ memory_long }
 {
     let cookies = [
         cookie_of(0, 4096, 2048),

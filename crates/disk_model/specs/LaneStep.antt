@@ -131,17 +131,17 @@ TurnStep s Started t = (s.stopped ≡ true) × (t ≡ record s { stopped = false
 TurnStep s Off t = (s.stopped ≡ true) × (t ≡ s)
 
 -- CALLS that change nothing, each exactly where it is said
-abbrev pub RestStep : LaneState → Calm → LaneState → Type 0
-RestStep s CalmTick t = (is_finished s.client ≡ true) × (t ≡ s)
-RestStep s CalmStop t = (s.stopped ≡ true) × (t ≡ s)
-RestStep s CalmStart t = (s.stopped ≡ false) × (t ≡ s)
-RestStep s (CalmReset A) t = ⊥
-RestStep s (CalmReset B) t = (s.stopped ≡ true) × (t ≡ s)
-RestStep s CalmRestart t = (s.stopped ≡ true) × (t ≡ s)
+abbrev pub CalmStep : LaneState → Calm → LaneState → Type 0
+CalmStep s CalmTick t = (is_finished s.client ≡ true) × (t ≡ s)
+CalmStep s CalmStop t = (s.stopped ≡ true) × (t ≡ s)
+CalmStep s CalmStart t = (s.stopped ≡ false) × (t ≡ s)
+CalmStep s (CalmReset A) t = ⊥
+CalmStep s (CalmReset B) t = (s.stopped ≡ true) × (t ≡ s)
+CalmStep s CalmRestart t = (s.stopped ≡ true) × (t ≡ s)
 
 abbrev pub LaneStep : LaneState → DiskEvent → LaneState → Type 0
 LaneStep s (OnWire event) t = WireStep s event t
 LaneStep s (Asks event) t = ClientAdmits s.client event t.client × (t ≡ record s { client = t.client })
 LaneStep s (Works event) t = WorkStep s event t
 LaneStep s (Switches event) t = TurnStep s event t
-LaneStep s (Calms event) t = RestStep s event t
+LaneStep s (Calms event) t = CalmStep s event t

@@ -27,7 +27,7 @@ use Rattle.port_model.specs.NetEvent.{Steps}
 use Rattle.port_model.specs.PortState.{OnLane}
 use Rattle.switch_laws.proofs.Counting as switch_counts
 use Rattle.switch_laws.proofs.Resting as port_resting
-use Rattle.switch_laws.proofs.Turns.{silent_calm, turn_steps}
+use Rattle.switch_laws.proofs.PortTurns.{silent_calm, turn_steps}
 use Rattle.switch_laws.specs.Events.{OnPort, SwitchEvent}
 use Rattle.switch_laws.specs.PortCounts as port_counts
 use Rattle.switch_laws.specs.Ports.{IsTurn, is_calm, is_silent, of_ports, ports}

@@ -15,7 +15,7 @@ use Rattle.lane_kinds.specs.Fronts.{SettleFront}
 use Rattle.lane_kinds.specs.LaneFronts.{fronts_of}
 use Rattle.lane_kinds.specs.Laws.{Ends, FrontsLead, Leads}
 use Rattle.lane_kinds.specs.Settles.{GoesOn, SettlePart, entries_of_rounds}
-use Rattle.switch_laws.proofs.Turns.{turn_steps}
+use Rattle.switch_laws.proofs.PortTurns.{turn_steps}
 use Rattle.switch_laws.specs.Ports.{ports}
 use Rattle.world_laws.proofs.DiskLaws as disk_laws
 use Rattle.world_laws.proofs.Moving as moving

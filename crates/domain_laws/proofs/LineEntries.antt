@@ -18,7 +18,7 @@ use Rattle.lane_kinds.specs.Laws.{Ends, FrontsLead, Leads}
 use Rattle.lane_kinds.specs.Settles.{GoesOn, SettleRound, Settles, Settling, entries_of_rounds, most_rounds}
 use Rattle.lane_laws.specs.CalmEnds.{IsStep}
 use Rattle.port_model.specs.PortState.{PortState}
-use Rattle.switch_laws.proofs.Turns.{silence, turn_steps}
+use Rattle.switch_laws.proofs.PortTurns.{silence, turn_steps}
 use Rattle.switch_laws.specs.Events.{SwitchEvent}
 use Rattle.switch_laws.specs.Ports.{IsStepOf as IsPortStep, is_silent, ports, tick as port_tick}
 use Rattle.world_laws.proofs.DiskLaws as disk_laws

@@ -19,7 +19,7 @@ use Rattle.port_model.specs.NetEvent as net
 use Rattle.port_model.specs.NetEvent.{NetEvent, Steps, Ticked}
 use Rattle.port_model.specs.NetLaneStep as port_lane
 use Rattle.port_model.specs.PortState.{OnLane, PortState}
-use Rattle.switch_laws.proofs.Turns.{silence}
+use Rattle.switch_laws.proofs.PortTurns.{silence}
 use Rattle.switch_laws.specs.Events.{OnPort, SwitchEvent}
 use Rattle.switch_laws.specs.Ports.{IsStepOf, ports}
 use Rattle.switch_laws.specs.Ports as switch_ports

@@ -10,7 +10,7 @@ use Rattle.lane_kinds.proofs.LaneFronts.{of_both}
 use Rattle.lane_kinds.proofs.LanesMade.{front_named, front_whole, round_said, ticks_made}
 use Rattle.lane_kinds.proofs.Places.{take_whole}
 use Rattle.lane_kinds.proofs.RoundsMade as rounds
-use Rattle.lane_kinds.proofs.RoundsMade.{Says}
+use Rattle.lane_kinds.proofs.RoundsMade.{MarksSay}
 use Rattle.lane_kinds.proofs.WorldMade.{names_leave}
 use Rattle.lane_kinds.specs.Both.{AllRound, AllTicks}
 use Rattle.lane_kinds.specs.LaneFronts.{RoundFront, TickFront}
@@ -34,7 +34,7 @@ use Rattle.domain_laws.specs.TicksMade.{DiskTicksBegun, DiskTicksUpTo, PortTicks
 use Rattle.domain_laws.proofs.LoopKinds.{disk_runs, port_runs}
 
 -- what marks say of both kinds
-says : Says lanes said both_true names_of
+says : MarksSay lanes said both_true names_of
 says = lists_say disk_kind disk_entries ports port_entries
 
 -- THE LANES, where those of the one kind stayed

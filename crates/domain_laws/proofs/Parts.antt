@@ -13,7 +13,7 @@ use Rattle.lane_kinds.specs.Lanes.{EachOf, EntryOf}
 use Rattle.lane_kinds.specs.Laws.{Ends, Leads}
 use Rattle.lane_kinds.specs.Settles.{SettlePart}
 use Rattle.port_model.specs.PortState.{OnLane, PortState, Receives}
-use Rattle.switch_laws.proofs.Turns.{silence, turn_steps}
+use Rattle.switch_laws.proofs.PortTurns.{silence, turn_steps}
 use Rattle.switch_laws.specs.Events.{OnPort, SwitchEvent, Switched}
 use Rattle.switch_laws.specs.Ports.{ports}
 use Rattle.world_laws.specs.DiskKind.{disk_kind}

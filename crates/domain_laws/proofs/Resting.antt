@@ -26,7 +26,7 @@ use Rattle.port_model.specs.NetLaneStep.{is_finished, is_nothing, told_all}
 use Rattle.port_model.specs.PortState.{PortState}
 use Rattle.switch_laws.proofs.Counting as switch_counts
 use Rattle.switch_laws.proofs.Resting.{port_rests}
-use Rattle.switch_laws.proofs.Turns.{turn_steps}
+use Rattle.switch_laws.proofs.PortTurns.{turn_steps}
 use Rattle.switch_laws.specs.Ports.{ports, waits_on}
 use Rattle.switch_laws.specs.Reached as port
 use Rattle.world_laws.proofs.Behind as behind_disks

@@ -10,7 +10,7 @@ use Rattle.lane_kinds.specs.Lanes.{AllMove, EachOf, Reads}
 use Rattle.port_model.specs.NetLaneState.{IsNetShape, NetShape}
 use Rattle.port_model.specs.PortState.{PortState, PortStep, fresh_port}
 use Rattle.switch_laws.proofs.Steps.{reached_step, run_on_port}
-use Rattle.switch_laws.proofs.Turns.{silence}
+use Rattle.switch_laws.proofs.PortTurns.{silence}
 use Rattle.switch_laws.specs.Events.{SwitchEvent, SwitchStep, at_port}
 use Rattle.switch_laws.specs.Ports.{ports}
 use Rattle.switch_laws.specs.Reached.{IsReached}

@@ -9,8 +9,8 @@ ghost use Rattle.domain_laws.specs.Domain.{DomainState};
 ghost use Rattle.domain_laws.specs.Lines.{Line};
 ghost use Rattle.domain_laws.specs.Quiet.{RunsPlainly, RunsQuietly};
 
-/// In a world of one disk and no port whose lines only ask the disk, settle or do nothing, what the lines show is what
-/// a plain list of requests shows. The disk begins the image, which is told and never failed. A request is refused for
+/// In a world of one disk and no port, let lines only ask the disk, settle or do nothing. Then what they show is what a
+/// plain list of requests shows. The disk begins the image, which is told and never failed. A request is refused for
 /// its defect, finds as many waiting as the ring has slots, or waits. A settle completes all that wait, in order, each
 /// once and with the status 0. Each read has the bytes that the image has after the writes before it. And nothing else
 /// is shown, so that no end was reset. After each line the image has exactly the plain list's bytes.

@@ -3,7 +3,7 @@ use Rattle.std.proofs.Common.{◌≡◌, ℕ, Bool, false, List, ◌++◌, lengt
 use Rattle.std.specs.Prelude.{◌&&◌, ◌||◌}
 use Rattle.lane_kinds.proofs.LaneCounts.{turns_many}
 use Rattle.lane_kinds.proofs.LanesMade.{fresh_marks, lanes_say, or_parts, ticked_many}
-use Rattle.lane_kinds.proofs.RoundsMade.{Says}
+use Rattle.lane_kinds.proofs.RoundsMade.{MarksSay}
 use Rattle.lane_kinds.specs.Both.{BothMake, BothTick, Two, both}
 use Rattle.lane_kinds.specs.Lanes.{Entries, LaneKind, all_calm, lanes_of, unmarked}
 use Rattle.lane_kinds.specs.LanesMade.{Marks, all_true, both_true, first_marks, names}
@@ -28,8 +28,8 @@ module _ {W V M N R Q E P O : Type 0} (K : Rounds W M R E) (L : Rounds V N Q E) 
   both_ticks had have some any w v part later first second = grind arith
 
   -- WHAT THE MARKS OF BOTH SAY
-  pub both_say : (all : P → Bool) (every : O → Bool) (named : P → W → List E) (names : O → V → List E) → Says K one all named → Says L two every names
-      → Says (both K L) (both_said one two) (λ quiet. all quiet.first && every quiet.second) (λ quiet w. named quiet.first w.first ++ names quiet.second w.second)
+  pub both_say : (all : P → Bool) (every : O → Bool) (named : P → W → List E) (names : O → V → List E) → MarksSay K one all named → MarksSay L two every names
+      → MarksSay (both K L) (both_said one two) (λ quiet. all quiet.first && every quiet.second) (λ quiet w. named quiet.first w.first ++ names quiet.second w.second)
   both_say all every named names first second = grind (arith, or_parts)
 
 -- OF TWO LISTS: as many lanes
@@ -59,7 +59,7 @@ module _ {S V T X E : Type 0} (K : LaneKind S V) (N : Entries V E) (L : LaneKind
   abbrev pub names_of : Marks → Two (List S) (List T) → List E
   names_of quiet w = names K N 0 quiet.first w.first ++ names L O 0 quiet.second w.second
 
-  pub lists_say : Says both_lists say_lists both_true names_of
+  pub lists_say : MarksSay both_lists say_lists both_true names_of
   lists_say =
       both_say (lanes_of K N) (lanes_of L O) (map (all_calm K)) (map (all_calm L)) all_true all_true (names K N 0) (names L O 0) (lanes_say K N) (lanes_say L O)
 

@@ -5,7 +5,7 @@ use Rattle.std.specs.Prelude.{◌&&◌, ◌||◌, if◌then◌else◌}
 use Rattle.runs.specs.Run.{Run}
 use Rattle.lane_kinds.proofs.LaneCounts.{turns_many}
 use Rattle.lane_kinds.proofs.Places.{after_one, drop_set, drop_whole, get_set, map_both, same_first, same_next, take_length, take_most, take_one, take_set, take_set_one, take_whole, take_within}
-use Rattle.lane_kinds.proofs.RoundsMade.{Says}
+use Rattle.lane_kinds.proofs.RoundsMade.{MarksSay}
 use Rattle.lane_kinds.specs.LaneFronts.{BeginsTurn, RoundFront, TickFront}
 use Rattle.lane_kinds.specs.Lanes.{Entries, LaneKind, MakeRound, MakeTurns, MakesTurn, StepOf, TickAll, TicksIf, all_calm, are_still, gets_tick, lanes_of, left_names, marked, round_entries, some_tick, tick_entries, turn_entries, unmarked}
 use Rattle.lane_kinds.specs.LanesMade.{RoundUpTo, TicksUpTo, all_true, name_of, names}
@@ -217,7 +217,7 @@ module _ {S V E : Type 0} (K : LaneKind S V) (N : Entries V E) where
   no_lanes k (quiet ∷ marks) = refl
 
   -- WHAT THE MARKS SAY of a round, its names and its ticks
-  pub lanes_say : Says (lanes_of K N) (map (all_calm K)) all_true (names K N 0)
+  pub lanes_say : MarksSay (lanes_of K N) (map (all_calm K)) all_true (names K N 0)
   lanes_say = record { quiet = marks_say; names = λ steps lanes. left_named 0 steps lanes; no_ticks = λ lanes marks none. no_entries 0 lanes marks none }
 
   first_zero : (j n : ℕ) → n ≡ j + 0 → n ≡ j

@@ -126,12 +126,12 @@ module _ {W M R E : Type 0} (K : Rounds W M R E) where
 
 -- WHERE MARKS SAY which lanes were quiet: whether all were, and which names stand behind such a round; and where no lane
 -- gets a tick none leaves anything
-pub record Says {W M R E Q : Type 0} (K : Rounds W M R E) (said : R → Q) (all : Q → Bool) (named : Q → W → List E) : Type 0 where
+pub record MarksSay {W M R E Q : Type 0} (K : Rounds W M R E) (said : R → Q) (all : Q → Bool) (named : Q → W → List E) : Type 0 where
   pub quiet : (r : R) → K.quiet r ≡ all (said r)
   pub names : (r : R) (w : W) → named (said r) w ≡ K.names r w
   pub no_ticks : (w : W) (m : M) → K.some_ticks w m ≡ false → K.ticks_leave w m ≡ []
 
-module _ {W M R E Q : Type 0} (K : Rounds W M R E) (said : R → Q) (all : Q → Bool) (named : Q → W → List E) (says : Says K said all named) where
+module _ {W M R E Q : Type 0} (K : Rounds W M R E) (said : R → Q) (all : Q → Bool) (named : Q → W → List E) (says : MarksSay K said all named) where
   quiet_so : (quiet : Q) (w : W) (part : List E) (v : W) (round : RoundSaid K said quiet w part v) (b : Bool) → all quiet ≡ b → K.quiet round.steps ≡ b
   quiet_so quiet w part v round b is = says.quiet round.steps ∙ ap all (sym round.marks) ∙ is
 

@@ -6,6 +6,7 @@ use Rattle.dring.specs.Slots.{free_slots, free_state}
 use Rattle.vdisk_msg.proofs.Repeated.{length-repeated}
 use Rattle.vdisk_msg.specs.declared.request.Request.{Request}
 use Rattle.vdisk_msg.specs.declared.request.Request.TheVariants.{Flush, Read, Write}
+use Rattle.vdisk_msg.specs.Check.{most_bytes}
 use Rattle.vdisk_msg.specs.Descriptor as slot_says
 use Rattle.vdisk_msg.specs.Requested.{buffer_place, descriptor_of, ring_pages, size_of, status_word}
 use Rattle.vdisk_msg.specs.Requests.{written}
@@ -49,17 +50,17 @@ pub drop_front : (front q : ℕ) (piece memory : List ℕ) → q + length piece 
 drop_front front q piece memory within room = drop-put_at q front piece memory within (omega (arith, within, room))
 
 -- THE CLIENT publishes, frees a slot, and clears the ring
-pub filled_behind : (request : Request) (slots slot : ℕ) (memory : List ℕ) → size_of request ≤ 32768 → slot < slots → length memory ≡ memory_long slots
-    → drop (ring_end slots) (filled_buffer request (buffer_place slots slot) memory) ≡ filled request (32768 * slot) (drop (ring_end slots) memory)
+pub filled_behind : (request : Request) (slots slot : ℕ) (memory : List ℕ) → size_of request ≤ most_bytes → slot < slots → length memory ≡ memory_long slots
+    → drop (ring_end slots) (filled_buffer request (buffer_place slots slot) memory) ≡ filled request (most_bytes * slot) (drop (ring_end slots) memory)
 filled_behind (Read block count) slots slot memory small below long = refl
 filled_behind (Write block count fill) slots slot memory small below long =
-    let place : buffer_place slots slot ≡ ring_end slots + 32768 * slot = omega arith in
+    let place : buffer_place slots slot ≡ ring_end slots + most_bytes * slot = omega arith in
     ap (λ (p : ℕ). drop (ring_end slots) (put_at p (written fill count) memory)) place
-    ∙ drop_put (ring_end slots) (32768 * slot) (written fill count) memory (omega (arith, small, below, long, length-repeated fill 0 (512 * count)))
+    ∙ drop_put (ring_end slots) (most_bytes * slot) (written fill count) memory (omega (arith, small, below, long, length-repeated fill 0 (512 * count)))
 filled_behind Flush slots slot memory small below long = refl
 
-pub published_behind : (request : Request) (slots slot id : ℕ) (memory : List ℕ) → size_of request ≤ 32768 → slot < slots → length memory ≡ memory_long slots
-    → drop (ring_end slots) (published_memory slots slot id request memory) ≡ filled request (32768 * slot) (drop (ring_end slots) memory)
+pub published_behind : (request : Request) (slots slot id : ℕ) (memory : List ℕ) → size_of request ≤ most_bytes → slot < slots → length memory ≡ memory_long slots
+    → drop (ring_end slots) (published_memory slots slot id request memory) ≡ filled request (most_bytes * slot) (drop (ring_end slots) memory)
 published_behind request slots slot id memory small below long =
     let middle = filled_buffer request (buffer_place slots slot) memory in
     let fits : 128 * slot + 128 ≤ 128 * slots = slot_fits 128 slot slots below in

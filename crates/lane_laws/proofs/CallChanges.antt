@@ -13,7 +13,7 @@ use Rattle.lane_laws.specs.WorkLog.{ServerCounts}
 use Rattle.disk_model.specs.ClientState.{ClientSession, ClientState, opened_session}
 use Rattle.disk_model.specs.DiskEvent.{Accepted, Admitted, Asks, Calm, DiskEvent, Full, Off, OnWire, Refused, Calms, Started, Stopped, Switched, Switches}
 use Rattle.disk_model.specs.LaneState.{LaneState, NearCounts}
-use Rattle.disk_model.specs.LaneStep.{LaneStep, RestStep, TurnStep, WireStep}
+use Rattle.disk_model.specs.LaneStep.{LaneStep, CalmStep, TurnStep, WireStep}
 use Rattle.channel_model.specs.Seeing.{seen}
 use Rattle.disk_model.specs.ServerState.{Work}
 use Rattle.lane_laws.proofs.RingWire.{published_of, sent_clears, wire_same}
@@ -153,5 +153,5 @@ turn_changes s l Started t before contents step =
     (ap (λ (x : LaneState). x.memory) step.1) (λ content. refl)
 turn_changes s l Off t before contents step = all_same s (Switches Off) t step.1 (λ content. refl)
 
-pub calm_changes : (s : LaneState) (event : Calm) (t : LaneState) → RestStep s event t → Changed s (Calms event) t
+pub calm_changes : (s : LaneState) (event : Calm) (t : LaneState) → CalmStep s event t → Changed s (Calms event) t
 calm_changes s event t step = all_same s (Calms event) t (calm s event t step) (λ content. refl)

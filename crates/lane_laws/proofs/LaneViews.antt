@@ -17,7 +17,7 @@ use Rattle.disk_model.specs.ClientState.{ClientState, joined_client}
 use Rattle.disk_model.specs.ClientStep.{ClientAdmits, ClientStep}
 use Rattle.disk_model.specs.DiskEvent.{Accepted, Admitted, Asks, Calm, CalmReset, Calms, DiskEvent, Done, Misplaced, OnWire, Published, Started, Stopped, Stored, Switched, Switches, Worked, Works}
 use Rattle.disk_model.specs.LaneState.{LaneState, NearCounts, near_disturbed}
-use Rattle.disk_model.specs.LaneStep.{EndOnWire, LaneStep, ResetBy, RestStep, ServerWorks, TurnStep, WireStep, WorkStep, failed_worked, near_on_wire, near_worked, reach}
+use Rattle.disk_model.specs.LaneStep.{EndOnWire, LaneStep, ResetBy, CalmStep, ServerWorks, TurnStep, WireStep, WorkStep, failed_worked, near_on_wire, near_worked, reach}
 use Rattle.disk_model.specs.ServerState.{ServerState, joined_server, restarted_server}
 use Rattle.disk_model.specs.ServerStep.{ServerStep}
 use Rattle.channel_laws.specs.Blockage.{Blockage, Clear}
@@ -247,7 +247,7 @@ turn_view : (s : LaneState) (event : Switched) (t : LaneState) → TurnStep s ev
 turn_view s Stopped t step = server_called s (Switches Stopped) (restarted_server s.server) t tt ServerStopped step.1
 turn_view s event t step = no_end s (Switches event) t tt tt step.1
 
-pub calm_same : (s : LaneState) (event : Calm) (t : LaneState) → RestStep s event t → t ≡ s
+pub calm_same : (s : LaneState) (event : Calm) (t : LaneState) → CalmStep s event t → t ≡ s
 calm_same s (CalmReset A) t step = absurd step
 calm_same s _ t step = step.1
 

@@ -16,7 +16,7 @@ use Rattle.disk_model.specs.ClientRule as client_rules
 use Rattle.disk_model.specs.ClientState.{ClientSession, ClientState}
 use Rattle.disk_model.specs.DiskEvent.{Admitted, Asks, Calm, Desc, DiskEvent, Done, Finished, Misplaced, Moved, Published, Calms, Stored, Switched, Switches, Worked, Works}
 use Rattle.disk_model.specs.LaneState.{LaneState, NearCounts}
-use Rattle.disk_model.specs.LaneStep.{LaneStep, RestStep, TurnStep, WorkStep}
+use Rattle.disk_model.specs.LaneStep.{LaneStep, CalmStep, TurnStep, WorkStep}
 use Rattle.channel_model.specs.Seeing.{seen}
 use Rattle.lane_laws.proofs.RingClientSteps.{completes_slot, in_order, publishing, since_base}
 use Rattle.lane_laws.proofs.RingSessions.{of_client}
@@ -177,5 +177,5 @@ near_asked s l event t before step = grind arith
 pub near_turned : (s : LaneState) (l : DiskLog) (event : Switched) (t : LaneState) → Before s l → TurnStep s event t → NearStands t (after l (Switches event))
 near_turned s l event t before step = grind (arith, ever_count)
 
-pub near_calm : (s : LaneState) (l : DiskLog) (event : Calm) (t : LaneState) → Before s l → RestStep s event t → NearStands t (after l (Calms event))
+pub near_calm : (s : LaneState) (l : DiskLog) (event : Calm) (t : LaneState) → Before s l → CalmStep s event t → NearStands t (after l (Calms event))
 near_calm s l event t before step = same_near s t l (after l (Calms event)) before (calm_same s event t step) refl refl refl refl

@@ -8,7 +8,7 @@ use Rattle.ldc_queue.specs.declared.end.End.TheVariants.{A, B}
 use Rattle.ldc_queue.specs.Numbered.{CountUp, is_numbered, kept, numbered}
 use Rattle.ldc_queue.specs.OneStream.{IsFront, OneStream, OneWay, live}
 use Rattle.ldc_queue.specs.QueueEvent.{Close, Forge, Join, Lose, Put, QueueEvent, Take}
-use Rattle.ldc_queue.specs.QueueLog.{AllMayStand, IsFirst, MayStand, QueueLog, after, log_of, lost_behind, lost_past, nothing_yet, transcript_of}
+use Rattle.ldc_queue.specs.QueueLog.{AllMayStand, WaitsLongest, MayStand, QueueLog, after, log_of, lost_behind, lost_past, nothing_yet, transcript_of}
 use Rattle.ldc_queue.specs.Transcript.{numbered_heard, numbered_said}
 use Rattle.ldc_queue.specs.Wire.{peer_behind, peer_of, queue_behind, state_of, upset}
 
@@ -127,7 +127,7 @@ says Up said heard waiting packet lost up way counts =
 says Down said heard waiting packet lost up way counts = absurd (cc)
 says Resetting said heard waiting packet lost up way counts = absurd (cc)
 
-hears : (e : ChannelState) (said heard waiting : List (List ℕ)) (packet : List ℕ) (lost : ℕ) → e ≡ Up → IsFirst packet waiting
+hears : (e : ChannelState) (said heard waiting : List (List ℕ)) (packet : List ℕ) (lost : ℕ) → e ≡ Up → WaitsLongest packet waiting
     → OneWay said (live e heard) (numbered waiting) lost → CountUp (length heard + 1) (numbered (packet ∷ [])) → (is_numbered packet ≡ true → lost < 4294967296)
     → OneWay said (live e (heard ++ numbered (packet ∷ []))) (numbered (drop 1 waiting)) (lost_past (numbered (packet ∷ [])) lost)
 hears Up said heard waiting packet lost up first way next few =
@@ -135,7 +135,7 @@ hears Up said heard waiting packet lost up first way next few =
 hears Down said heard waiting packet lost up first way next few = absurd (cc)
 hears Resetting said heard waiting packet lost up first way next few = absurd (cc)
 
-loses : (said heard waiting : List (List ℕ)) (packet : List ℕ) (lost : ℕ) → IsFirst packet waiting → OneWay said heard (numbered waiting) lost
+loses : (said heard waiting : List (List ℕ)) (packet : List ℕ) (lost : ℕ) → WaitsLongest packet waiting → OneWay said heard (numbered waiting) lost
     → OneWay said heard (numbered (drop 1 waiting)) (lost + length (numbered (packet ∷ [])))
 loses said heard waiting packet lost first way =
     way_lost said heard (numbered (packet ∷ [])) (numbered (drop 1 waiting)) lost

@@ -74,8 +74,8 @@ after l (Lose B packet) = record l { wire = taken_for B l.wire; lost_b = l.lost_
 after l (Forge e packet) = record l { wire = put_for e packet l.wire }
 
 -- the packet has waited longest
-abbrev pub IsFirst : List ℕ → List (List ℕ) → Type 0
-IsFirst packet waiting = waiting ≡ packet ∷ drop 1 waiting
+abbrev pub WaitsLongest : List ℕ → List (List ℕ) → Type 0
+WaitsLongest packet waiting = waiting ≡ packet ∷ drop 1 waiting
 
 -- Where an event may stand at a channel of two links that nobody forges. The ends that put and take are up; what is taken or lost
 -- has waited longest; the numbered packets that an end put, and those that it took, count up from 1 since it was configured; of
@@ -86,10 +86,10 @@ MayStand l (Close e) = ⊤
 MayStand l (Put e packet) =
     (state_of e l.wire ≡ Up) × CountUp (length (numbered_said (transcript_of e l)) + 1) (numbered (packet ∷ []))
 MayStand l (Take e packet) =
-    (state_of e l.wire ≡ Up) × IsFirst packet (waiting_for e l.wire)
+    (state_of e l.wire ≡ Up) × WaitsLongest packet (waiting_for e l.wire)
     × CountUp (length (numbered_heard (transcript_of e l)) + 1) (numbered (packet ∷ []))
     × (is_numbered packet ≡ true → lost_for e l < 4294967296)
-MayStand l (Lose e packet) = IsFirst packet (waiting_for e l.wire)
+MayStand l (Lose e packet) = WaitsLongest packet (waiting_for e l.wire)
 MayStand l (Forge e packet) = ⊥
 
 -- the log of a list of events that begins at a log, and that each may stand after those before it

@@ -11,8 +11,9 @@ ghost use Rattle.ldc_queue.specs.Wire.{peer_of, state_of};
 ghost use Rattle.ldc_queue.specs.declared.end.ChannelState.TheVariants.{Up};
 ghost use Rattle.ldc_queue.specs.declared.end.End.{End};
 
-/// Along every list of queue events that may stand, each direction of the channel is one stream. So what an end that is up has heard
-/// since it was configured is a front of what the other end said since it was: its numbered packets, and its messages.
+/// Along every list of queue events that may stand, each direction of the channel is one stream. So what an end that
+/// is up has heard since it was configured is a front of what the other end said since its own. That is so of numbered
+/// packets, and of messages.
 pub fn heard_is_a_front_of_said()
     ensures begins { OneStream nothing_yet }
     ensures kept { (l : QueueLog) (event : QueueEvent) → MayStand l event → OneStream l → OneStream (after l event) }

@@ -35,13 +35,13 @@ use Rattle.port_laws.specs.Counted.{unsaid}
 use Rattle.port_laws.specs.NetCore.{lane_core, one_if}
 use Rattle.port_laws.specs.WaysStand.{Way, Ways, WaysStand, ack_first, acks_in, info_first, infos_in, or_new}
 use Rattle.port_laws.proofs.Outbox.{EachFits, MessageFits, RangeFits, count-append, count_groups, listed, outbox, unheard as undrawn}
-use Rattle.port_laws.proofs.PeerOpens.{Talks, mine_at, theirs_at}
-use Rattle.port_laws.proofs.PortTalks.{answers_of, asks_of, open_turns}
+use Rattle.port_laws.proofs.PeerOpens.{TwoEnds, mine_at, theirs_at}
+use Rattle.port_laws.proofs.PortTwoEnds.{answers_of, asks_of, open_turns}
 use Rattle.port_laws.proofs.EndCounting.{own_left}
 use Rattle.port_laws.proofs.PutCounts.{own_half}
 use Rattle.port_laws.proofs.RingActs.{Finds, acting_at, open_both}
 use Rattle.port_laws.proofs.StepCounts.{Acting}
-use Rattle.port_laws.proofs.TalkGuest.{Between, TalkStands, guest_sid}
+use Rattle.port_laws.proofs.ExchangeGuest.{Between, ExchangeStands, guest_sid}
 
 -- LISTS
 suffix_of : {X : Type 0} (xs five ys rest : List X) → xs ++ ys ≡ five ++ rest → length five ≤ length xs → (x : List X) × (xs ≡ five ++ x) × (rest ≡ x ++ ys)
@@ -150,16 +150,16 @@ longer xs ys front = omega (arith, ap length front.1, length-append xs front.0)
 telling_few : (b : Bool) → one_if b ≤ 1
 telling_few b = grind arith
 
-module _ (shape : NetShape) (u : PortState) (l : PortLog) (p : NetSession) (finds : Finds shape u l) (ways : WaysStand u.lane l) (talk : TalkStands u.lane l) (up : IsUp A u.lane.wire.wire)
+module _ (shape : NetShape) (u : PortState) (l : PortLog) (p : NetSession) (finds : Finds shape u l) (ways : WaysStand u.lane l) (exchange : ExchangeStands u.lane l) (up : IsUp A u.lane.wire.wire)
     (other_up : IsUp B u.lane.wire.wire) (session : u.lane.guest.session ≡ Some p) (whole : u.lane.wire.lossy ≡ false) (parts : PartsSaid l.transcript.client) (long : LongSaid l.transcript.client) where
   abbrev sides : Sides
   sides = sides_of (lane_core u.lane) l.transcript
 
-  abbrev talks : Talks (asks_of shape) (answers_of shape) Initiator sides
-  talks = finds.talks.talks A
+  abbrev two_ends : TwoEnds (asks_of shape) (answers_of shape) Initiator sides
+  two_ends = finds.two_ends.two_ends A
 
   abbrev d : Deal
-  d = deal (asks_of shape) (answers_of shape) talks.meets.handshakes.sid
+  d = deal (asks_of shape) (answers_of shape) two_ends.meets.handshakes.sid
 
   opened : is_some u.lane.guest.session ≡ true
   opened = ap is_some session
@@ -168,35 +168,35 @@ module _ (shape : NetShape) (u : PortState) (l : PortLog) (p : NetSession) (find
   guest_in = λ none. true_false (sym opened ∙ (open_both Initiator shape.slots [] u.lane.guest l.guest finds.ready.guest).shut none)
 
   hub_said : 6 ≤ length (said l.transcript.server)
-  hub_said = omega (arith, (open_turns shape (lane_core u.lane) l A finds.talks up opened).heard_long, longer (heard l.transcript.client) (said l.transcript.server) (finds.talks.front_a up))
+  hub_said = omega (arith, (open_turns shape (lane_core u.lane) l A finds.two_ends up opened).heard_long, longer (heard l.transcript.client) (said l.transcript.server) (finds.two_ends.front_a up))
 
   hub_link : is_up u.lane.hub.link ≡ true
   hub_link = by_link (is_up u.lane.hub.link) refl
     where
       by_link : (b : Bool) → is_up u.lane.hub.link ≡ b → is_up u.lane.hub.link ≡ true
       by_link true is = is
-      by_link false is = absurd (omega (arith, hub_said, ap length (talks.theirs.below is).said_none))
+      by_link false is = absurd (omega (arith, hub_said, ap length (two_ends.theirs.below is).said_none))
 
-  place : talks.meets.links.place ≡ BothUp
+  place : two_ends.meets.links.place ≡ BothUp
   place =
-      both_up talks.meets.links.place
-      (sym (ap is_established talks.meets.links.theirs) ∙ ap (λ (x : ChannelState). is_established (live_phase x (first_phase Responder) u.lane.hub.link.phase)) other_up ∙ hub_link)
+      both_up two_ends.meets.links.place
+      (sym (ap is_established two_ends.meets.links.theirs) ∙ ap (λ (x : ChannelState). is_established (live_phase x (first_phase Responder) u.lane.hub.link.phase)) other_up ∙ hub_link)
 
   left : Unheard sides
-  left = unheard sides talks.meets.converse talks.meets.links place whole up other_up parts long
+  left = unheard sides two_ends.meets.converse two_ends.meets.links place whole up other_up parts long
 
   at : AtPlace true d Initiator u.lane.guest.handshake l.transcript.client
-  at = mine_at (asks_of shape) (answers_of shape) Initiator sides talks up (open_up Initiator sides.mine.core l.transcript.client talks.mine opened)
+  at = mine_at (asks_of shape) (answers_of shape) Initiator sides two_ends up (open_up Initiator sides.mine.core l.transcript.client two_ends.mine opened)
 
   last : at.place ≡ AllSaid
-  last = open_place true d Initiator sides.mine.core l.transcript.client talks.mine at opened
+  last = open_place true d Initiator sides.mine.core l.transcript.client two_ends.mine at opened
 
   says : heard l.transcript.server ++ left.messages ≡ first_five d ++ bytes_at d PeerReadyAnswered ∷ at.mine
   says = sym left.says ∙ at.said_is ∙ ap (λ (n : Place). said_at true d Initiator n ++ at.mine) last ∙ six_are d at.mine
 
   five : 5 ≤ length (heard l.transcript.server)
   five =
-      let there = theirs_at (asks_of shape) (answers_of shape) Initiator sides talks other_up hub_link in
+      let there = theirs_at (asks_of shape) (answers_of shape) Initiator sides two_ends other_up hub_link in
       five_heard d there.place (said l.transcript.server) there.mine (heard l.transcript.server) there.theirs there.said_is there.heard_is (λ far. (there.only far).0) hub_said
 
   suffix : (x : List (List ℕ)) × (heard l.transcript.server ≡ first_five d ++ x) × (bytes_at d PeerReadyAnswered ∷ at.mine ≡ x ++ left.messages)
@@ -204,7 +204,7 @@ module _ (shape : NetShape) (u : PortState) (l : PortLog) (p : NetSession) (find
 
   -- what it says fits
   between : Between u.lane.guest u.lane.hub l.transcript.client l.transcript.server p
-  between = talk p up other_up session
+  between = exchange p up other_up session
 
   undrawn_is : undrawn (said l.transcript.client) (heard l.transcript.server) ≡ left.messages
   undrawn_is = ap (drop (length (heard l.transcript.server))) left.says ∙ drop_front (heard l.transcript.server) left.messages
@@ -245,7 +245,7 @@ module _ (shape : NetShape) (u : PortState) (l : PortLog) (p : NetSession) (find
       by_log (Some w) is =
           let hub = open_both Responder shape.slots u.queue u.lane.hub l.hub finds.ready.hub in
           let there = hub.opened (λ none. none_some w (sym none ∙ is)) in
-          absurd (omega (arith, short, (open_turns shape (lane_core u.lane) l B finds.talks other_up there).heard_long))
+          absurd (omega (arith, short, (open_turns shape (lane_core u.lane) l B finds.two_ends other_up there).heard_long))
 
   -- no part of a message was said
   acting : Acting Initiator shape.slots [] u.lane.guest l.guest l.transcript.client
@@ -255,7 +255,7 @@ module _ (shape : NetShape) (u : PortState) (l : PortLog) (p : NetSession) (find
   no_half = by_left u.lane.guest.link.to_send refl
     where
       owed : is_none u.lane.guest.handshake.owed ≡ true
-      owed = ap is_none (guest_sid shape u.lane l finds.talks up opened).agreed.owed
+      owed = ap is_none (guest_sid shape u.lane l finds.two_ends up opened).agreed.owed
 
       by_left : (bytes : List ℕ) → u.lane.guest.link.to_send ≡ bytes → half_said l.transcript.client ≡ []
       by_left [] is = acting.ends.link.cuts.free is

@@ -27,7 +27,7 @@ use Rattle.port_laws.specs.NetCore.{lane_core}
 use Rattle.port_laws.specs.RingStands.{taken_by, taken_of}
 use Rattle.port_laws.proofs.FramesOnce.{Bounds, Moves, Once, bounds, changed, event_moves, fresh_once, given_same, guest_takes_in_order, heard_taken, hub_takes_in_order, none_acked, once_step}
 use Rattle.port_laws.proofs.PortCounts.{before_queue, before_wire}
-use Rattle.port_laws.proofs.PortTalks.{PortTalks, port_talks}
+use Rattle.port_laws.proofs.PortTwoEnds.{PortTwoEnds, port_two_ends}
 use Rattle.port_laws.proofs.RingActs.{Acts, Finds, LogNow, acts_up_at, goes_same, left_taken, log_now}
 use Rattle.port_laws.proofs.RingEvents.{Goes, mine_now, theirs_now, wire_now}
 use Rattle.port_laws.proofs.RingRuns.{Kept, finds_before, was_clean}
@@ -131,42 +131,42 @@ still_adds : (e d : End) (s t : NetLaneState) (l m : PortLog) → state_of d t.w
 still_adds e d s t l m state session gone peer = grind (arith, none_some)
 
 event_adds : (shape : NetShape) (d : End) (u t : PortState) (l : PortLog) (event : NetEvent) → OfQueue u event → Finds shape u l → NetLaneStep u.lane event t.lane → (moved_on l.wire (on_wire event)).forged ≡ false
-    → Kept shape t (after l (OnLane event)) → PortTalks shape (lane_core t.lane) (after l (OnLane event))
+    → Kept shape t (after l (OnLane event)) → PortTwoEnds shape (lane_core t.lane) (after l (OnLane event))
     → Adds (peer_of d) d u.lane t.lane l (after l (OnLane event)) (length (took d (OnLane event)) + lost_at (peer_of d) (OnLane event))
-event_adds shape B u t l (Steps A answer) of_queue finds step clean kept talks =
-    own_adds shape A u t l answer step.left (0 + lost_by answer) (acts_of shape A u t l answer finds step kept.counts talks) (omega arith)
-event_adds shape A u t l (Steps B answer) of_queue finds step clean kept talks =
-    own_adds shape B u t l answer step.left (0 + lost_by answer) (acts_of shape B u t l answer finds step kept.counts talks) (omega arith)
-event_adds shape A u t l (Steps A answer) of_queue finds step clean kept talks =
+event_adds shape B u t l (Steps A answer) of_queue finds step clean kept two_ends =
+    own_adds shape A u t l answer step.left (0 + lost_by answer) (acts_of shape A u t l answer finds step kept.counts two_ends) (omega arith)
+event_adds shape A u t l (Steps B answer) of_queue finds step clean kept two_ends =
+    own_adds shape B u t l answer step.left (0 + lost_by answer) (acts_of shape B u t l answer finds step kept.counts two_ends) (omega arith)
+event_adds shape A u t l (Steps A answer) of_queue finds step clean kept two_ends =
     let one = took_one A answer in
-    taker_adds shape A u t l answer step.left (length (took A (OnLane (Steps A answer))) + 0) (acts_of shape A u t l answer finds step kept.counts talks) (omega (arith, one))
-event_adds shape B u t l (Steps B answer) of_queue finds step clean kept talks =
+    taker_adds shape A u t l answer step.left (length (took A (OnLane (Steps A answer))) + 0) (acts_of shape A u t l answer finds step kept.counts two_ends) (omega (arith, one))
+event_adds shape B u t l (Steps B answer) of_queue finds step clean kept two_ends =
     let one = took_one B answer in
-    taker_adds shape B u t l answer step.left (length (took B (OnLane (Steps B answer))) + 0) (acts_of shape B u t l answer finds step kept.counts talks) (omega (arith, one))
-event_adds shape B u t l (Asked A lost) of_queue finds step clean kept talks =
+    taker_adds shape B u t l answer step.left (length (took B (OnLane (Steps B answer))) + 0) (acts_of shape B u t l answer finds step kept.counts two_ends) (omega (arith, one))
+event_adds shape B u t l (Asked A lost) of_queue finds step clean kept two_ends =
     anew_adds A B u.lane t.lane l (after l (OnLane (Asked A lost))) (0 + lost) refl (omega arith) refl (ap (λ (x : NetLaneState). x.wire.wire.end_b) step.1)
-event_adds shape A u t l (Asked B lost) of_queue finds step clean kept talks =
+event_adds shape A u t l (Asked B lost) of_queue finds step clean kept two_ends =
     anew_adds B A u.lane t.lane l (after l (OnLane (Asked B lost))) (0 + lost) refl (omega arith) refl (ap (λ (x : NetLaneState). x.wire.wire.end_a) step.1)
-event_adds shape A u t l (Asked A lost) of_queue finds step clean kept talks = other_anew B A u.lane t.lane l (after l (OnLane (Asked A lost))) refl refl
-event_adds shape B u t l (Asked B lost) of_queue finds step clean kept talks = other_anew A B u.lane t.lane l (after l (OnLane (Asked B lost))) refl refl
-event_adds shape B u t l (Ticked queued lost) of_queue finds step clean kept talks =
+event_adds shape A u t l (Asked A lost) of_queue finds step clean kept two_ends = other_anew B A u.lane t.lane l (after l (OnLane (Asked A lost))) refl refl
+event_adds shape B u t l (Asked B lost) of_queue finds step clean kept two_ends = other_anew A B u.lane t.lane l (after l (OnLane (Asked B lost))) refl refl
+event_adds shape B u t l (Ticked queued lost) of_queue finds step clean kept two_ends =
     anew_adds A B u.lane t.lane l (after l (OnLane (Ticked queued lost))) (0 + lost) refl (omega arith) refl (ap (λ (x : NetLaneState). x.wire.wire.end_b) step.1.1)
-event_adds shape A u t l (Ticked queued lost) of_queue finds step clean kept talks = other_anew B A u.lane t.lane l (after l (OnLane (Ticked queued lost))) refl refl
-event_adds shape B u t l (Gives A given) of_queue finds step clean kept talks =
+event_adds shape A u t l (Ticked queued lost) of_queue finds step clean kept two_ends = other_anew B A u.lane t.lane l (after l (OnLane (Ticked queued lost))) refl refl
+event_adds shape B u t l (Gives A given) of_queue finds step clean kept two_ends =
     let same = given_same given l.guest in
     still_adds A B u.lane t.lane l (after l (OnLane (Gives A given))) (ap (λ (x : NetLaneState). x.wire.wire.end_b) step.1) same.session same.gone refl
-event_adds shape A u t l (Gives A given) of_queue finds step clean kept talks =
+event_adds shape A u t l (Gives A given) of_queue finds step clean kept two_ends =
     still_adds B A u.lane t.lane l (after l (OnLane (Gives A given))) (ap (λ (x : NetLaneState). x.wire.wire.end_a) step.1) refl refl (given_same given l.guest).session
-event_adds shape d u t l (Gives B given) of_queue finds step clean kept talks = absurd of_queue
-event_adds shape d u t l (Injects e packet) of_queue finds step clean kept talks = true_false clean
-event_adds shape d u t l (Pokes e at bytes) of_queue finds step clean kept talks = true_false clean
-event_adds shape B u t l (Loses A packet) of_queue finds step clean kept talks =
+event_adds shape d u t l (Gives B given) of_queue finds step clean kept two_ends = absurd of_queue
+event_adds shape d u t l (Injects e packet) of_queue finds step clean kept two_ends = true_false clean
+event_adds shape d u t l (Pokes e at bytes) of_queue finds step clean kept two_ends = true_false clean
+event_adds shape B u t l (Loses A packet) of_queue finds step clean kept two_ends =
     still_adds A B u.lane t.lane l (after l (OnLane (Loses A packet))) (ap (λ (x : NetLaneState). x.wire.wire.end_b) step.1) refl refl refl
-event_adds shape A u t l (Loses A packet) of_queue finds step clean kept talks =
+event_adds shape A u t l (Loses A packet) of_queue finds step clean kept two_ends =
     still_adds B A u.lane t.lane l (after l (OnLane (Loses A packet))) (ap (λ (x : NetLaneState). x.wire.wire.end_a) step.1) refl refl refl
-event_adds shape B u t l event of_queue finds step clean kept talks =
+event_adds shape B u t l event of_queue finds step clean kept two_ends =
     still_adds A B u.lane t.lane l (after l (OnLane event)) (ap (λ (x : NetLaneState). x.wire.wire.end_b) step.1) refl refl refl
-event_adds shape A u t l event of_queue finds step clean kept talks =
+event_adds shape A u t l event of_queue finds step clean kept two_ends =
     still_adds B A u.lane t.lane l (after l (OnLane event)) (ap (λ (x : NetLaneState). x.wire.wire.end_a) step.1) refl refl refl
 
 -- NO MORE OF AN END'S FRAMES ARE GONE than were taken or are said to be lost; while it is up and in session, that is so where those that
@@ -205,9 +205,9 @@ module _ (shape : NetShape) (is : IsNetShape shape) where
       let finds : Finds shape u l = finds_before shape s l event is had.kept was in
       let found : Finds shape t m = finds_before shape t m (CalmTick 0) is next.kept clean in
       let wire : t.lane.wire.forged ≡ false = ap (λ (w : WireLog). w.forged) next.kept.counts.wire ∙ clean in
-      let talks = port_talks shape t m is next.kept.counts wire in
-      let moves = event_moves shape d u t l event (before_queue event s step.0) finds step.1 clean next.kept talks in
-      let adds = event_adds shape d u t l event (before_queue event s step.0) finds step.1 clean next.kept talks in
+      let two_ends = port_two_ends shape t m is next.kept.counts wire in
+      let moves = event_moves shape d u t l event (before_queue event s step.0) finds step.1 clean next.kept two_ends in
+      let adds = event_adds shape d u t l event (before_queue event s step.0) finds step.1 clean next.kept two_ends in
       arrives (peer_of d) d u.lane t.lane l m n (length (took d (OnLane event)) + lost_at (peer_of d) (OnLane event)) (bounds shape d t m found) moves adds
       (arrived_as (peer_of d) d s.lane u.lane l n (before_wire event s) (arrived was))
   event_arrives d s l (Receives frame) t by_end now n had next step clean arrived = received d s l frame t n (ap (λ (x : PortState). x.lane.wire) step.2) (arrived clean)

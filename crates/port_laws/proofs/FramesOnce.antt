@@ -40,7 +40,7 @@ use Rattle.port_laws.proofs.RingSteps.{opens_by}
 use Rattle.port_laws.proofs.RuleFrames.{both_open, end_counted, end_stood, lost_log, seen_within}
 use Rattle.port_laws.proofs.RuleUnforged.{TakesPublished, takes_published}
 use Rattle.port_laws.proofs.SessionsHeard.{get_more}
-use Rattle.port_laws.proofs.PortTalks.{PortTalks, port_talks}
+use Rattle.port_laws.proofs.PortTwoEnds.{PortTwoEnds, port_two_ends}
 use Rattle.port_laws.proofs.WayRuns.{acts_of, goes_theirs, guest_goes}
 
 -- FRAMES IN ORDER at places from n on and below m
@@ -329,30 +329,30 @@ still e d s t l m state peer_state same peer =
 
 -- AN EVENT
 pub event_moves : (shape : NetShape) (d : End) (u t : PortState) (l : PortLog) (event : NetEvent) → OfQueue u event → Finds shape u l → NetLaneStep u.lane event t.lane → (moved_on l.wire (on_wire event)).forged ≡ false
-    → Kept shape t (after l (OnLane event)) → PortTalks shape (lane_core t.lane) (after l (OnLane event)) → Moves (peer_of d) d u.lane t.lane l (after l (OnLane event))
-event_moves shape B u t l (Steps A answer) of_queue finds step clean kept talks = own_moves shape A u t l answer step.left (acts_of shape A u t l answer finds step kept.counts talks)
-event_moves shape A u t l (Steps B answer) of_queue finds step clean kept talks = own_moves shape B u t l answer step.left (acts_of shape B u t l answer finds step kept.counts talks)
-event_moves shape d u t l (Steps _ answer) of_queue finds step clean kept talks = taker_moves shape d u t l answer step.left (acts_of shape d u t l answer finds step kept.counts talks)
-event_moves shape A u t l (Asked A lost) of_queue finds step clean kept talks = anew_moves B A u.lane t.lane l (after l (OnLane (Asked A lost))) refl (ap (λ (x : NetLaneState). x.wire.wire.end_b) step.1)
-event_moves shape B u t l (Asked B lost) of_queue finds step clean kept talks = anew_moves A B u.lane t.lane l (after l (OnLane (Asked B lost))) refl (ap (λ (x : NetLaneState). x.wire.wire.end_a) step.1)
-event_moves shape _ u t l (Asked e lost) of_queue finds step clean kept talks = record { grows = omega arith; changes = λ v up is. none_some v is }
-event_moves shape A u t l (Ticked queued lost) of_queue finds step clean kept talks = anew_moves B A u.lane t.lane l (after l (OnLane (Ticked queued lost))) refl (ap (λ (x : NetLaneState). x.wire.wire.end_b) step.1.1)
-event_moves shape B u t l (Ticked queued lost) of_queue finds step clean kept talks = record { grows = omega arith; changes = λ v up is. none_some v is }
-event_moves shape B u t l (Gives A given) of_queue finds step clean kept talks =
+    → Kept shape t (after l (OnLane event)) → PortTwoEnds shape (lane_core t.lane) (after l (OnLane event)) → Moves (peer_of d) d u.lane t.lane l (after l (OnLane event))
+event_moves shape B u t l (Steps A answer) of_queue finds step clean kept two_ends = own_moves shape A u t l answer step.left (acts_of shape A u t l answer finds step kept.counts two_ends)
+event_moves shape A u t l (Steps B answer) of_queue finds step clean kept two_ends = own_moves shape B u t l answer step.left (acts_of shape B u t l answer finds step kept.counts two_ends)
+event_moves shape d u t l (Steps _ answer) of_queue finds step clean kept two_ends = taker_moves shape d u t l answer step.left (acts_of shape d u t l answer finds step kept.counts two_ends)
+event_moves shape A u t l (Asked A lost) of_queue finds step clean kept two_ends = anew_moves B A u.lane t.lane l (after l (OnLane (Asked A lost))) refl (ap (λ (x : NetLaneState). x.wire.wire.end_b) step.1)
+event_moves shape B u t l (Asked B lost) of_queue finds step clean kept two_ends = anew_moves A B u.lane t.lane l (after l (OnLane (Asked B lost))) refl (ap (λ (x : NetLaneState). x.wire.wire.end_a) step.1)
+event_moves shape _ u t l (Asked e lost) of_queue finds step clean kept two_ends = record { grows = omega arith; changes = λ v up is. none_some v is }
+event_moves shape A u t l (Ticked queued lost) of_queue finds step clean kept two_ends = anew_moves B A u.lane t.lane l (after l (OnLane (Ticked queued lost))) refl (ap (λ (x : NetLaneState). x.wire.wire.end_b) step.1.1)
+event_moves shape B u t l (Ticked queued lost) of_queue finds step clean kept two_ends = record { grows = omega arith; changes = λ v up is. none_some v is }
+event_moves shape B u t l (Gives A given) of_queue finds step clean kept two_ends =
     same_moves A B u.lane t.lane l (after l (OnLane (Gives A given))) (ap (λ (x : NetLaneState). x.wire.wire.end_a) step.1) (ap (λ (x : NetLaneState). x.wire.wire.end_b) step.1) (given_same given l.guest) refl
-event_moves shape A u t l (Gives A given) of_queue finds step clean kept talks =
+event_moves shape A u t l (Gives A given) of_queue finds step clean kept two_ends =
     same_moves B A u.lane t.lane l (after l (OnLane (Gives A given))) (ap (λ (x : NetLaneState). x.wire.wire.end_b) step.1) (ap (λ (x : NetLaneState). x.wire.wire.end_a) step.1)
     (record { session = refl; gone = refl; published = refl }) (given_same given l.guest).session
-event_moves shape d u t l (Gives B given) of_queue finds step clean kept talks = absurd of_queue
-event_moves shape d u t l (Injects e packet) of_queue finds step clean kept talks = true_false clean
-event_moves shape d u t l (Pokes e at bytes) of_queue finds step clean kept talks = true_false clean
-event_moves shape A u t l (Loses A packet) of_queue finds step clean kept talks =
+event_moves shape d u t l (Gives B given) of_queue finds step clean kept two_ends = absurd of_queue
+event_moves shape d u t l (Injects e packet) of_queue finds step clean kept two_ends = true_false clean
+event_moves shape d u t l (Pokes e at bytes) of_queue finds step clean kept two_ends = true_false clean
+event_moves shape A u t l (Loses A packet) of_queue finds step clean kept two_ends =
     still B A u.lane t.lane l (after l (OnLane (Loses A packet))) (ap (λ (x : NetLaneState). x.wire.wire.end_b) step.1) (ap (λ (x : NetLaneState). x.wire.wire.end_a) step.1) refl refl
-event_moves shape B u t l (Loses A packet) of_queue finds step clean kept talks =
+event_moves shape B u t l (Loses A packet) of_queue finds step clean kept two_ends =
     still A B u.lane t.lane l (after l (OnLane (Loses A packet))) (ap (λ (x : NetLaneState). x.wire.wire.end_a) step.1) (ap (λ (x : NetLaneState). x.wire.wire.end_b) step.1) refl refl
-event_moves shape A u t l event of_queue finds step clean kept talks =
+event_moves shape A u t l event of_queue finds step clean kept two_ends =
     still B A u.lane t.lane l (after l (OnLane event)) (ap (λ (x : NetLaneState). x.wire.wire.end_b) step.1) (ap (λ (x : NetLaneState). x.wire.wire.end_a) step.1) refl refl
-event_moves shape B u t l event of_queue finds step clean kept talks =
+event_moves shape B u t l event of_queue finds step clean kept two_ends =
     still A B u.lane t.lane l (after l (OnLane event)) (ap (λ (x : NetLaneState). x.wire.wire.end_a) step.1) (ap (λ (x : NetLaneState). x.wire.wire.end_b) step.1) refl refl
 
 -- THE LIST of frames that an end was given only grows
@@ -473,7 +473,7 @@ once_lane shape is s l event t by_end had step = record { kept = kept; in_order 
         let finds : Finds shape u l = finds_before shape s l event is had.kept was in
         let found : Finds shape t m = finds_before shape t m (CalmTick 0) is kept clean in
         let wire : t.lane.wire.forged ≡ false = ap (λ (w : WireLog). w.forged) kept.counts.wire ∙ clean in
-        let moves = event_moves shape d u t l event (before_queue event s step.0) finds step.1 clean kept (port_talks shape t m is kept.counts wire) in
+        let moves = event_moves shape d u t l event (before_queue event s step.0) finds step.1 clean kept (port_two_ends shape t m is kept.counts wire) in
         let rise = rises (peer_of d) d u.lane t.lane l m (bounds shape d u l finds) (bounds shape d t m found) moves in
         omega (arith, rise, before_place (peer_of d) d event s l)
 

@@ -35,7 +35,7 @@ use Rattle.port_model.specs.NetEndState.{NetEndState}
 use Rattle.port_model.specs.NetEndTaking.{GoesOn, HearsLink, HearsWhole, NetTake, NetTakes, Resets, reads}
 use Rattle.port_laws.specs.NetCore.{net_core}
 use Rattle.port_laws.proofs.OwnBytes.{groups_bytes, range_bytes}
-use Rattle.port_laws.proofs.PeerOpens.{Talks, mine_at, theirs_at}
+use Rattle.port_laws.proofs.PeerOpens.{TwoEnds, mine_at, theirs_at}
 use Rattle.port_laws.proofs.TookCounts.{heard_send, risen_up}
 
 -- WHAT IT MAKES of a packet
@@ -185,18 +185,18 @@ pub record AllAgreed (h : Handshake) (sid : ℕ) : Type 0 where
 agreed_at : (d : Deal) (r : Role) (h : Handshake) → h ≡ handshake_at true d r AllSaid → AllAgreed h d.sid
 agreed_at d r h is = grind arith
 
-pub mine_agreed : (asks answers : Offer) (role : Role) (s : Sides) → (talks : Talks asks answers role s) → s.mine.state ≡ Up → s.mine.core.is_open ≡ true
-    → AllAgreed s.mine.core.handshake talks.meets.handshakes.sid
-mine_agreed asks answers role s talks up opened =
-    let d = deal asks answers talks.meets.handshakes.sid in
-    let at = mine_at asks answers role s talks up (open_up role s.mine.core s.mine.turns talks.mine opened) in
-    let last : at.place ≡ AllSaid = open_place true d role s.mine.core s.mine.turns talks.mine at opened in
+pub mine_agreed : (asks answers : Offer) (role : Role) (s : Sides) → (two_ends : TwoEnds asks answers role s) → s.mine.state ≡ Up → s.mine.core.is_open ≡ true
+    → AllAgreed s.mine.core.handshake two_ends.meets.handshakes.sid
+mine_agreed asks answers role s two_ends up opened =
+    let d = deal asks answers two_ends.meets.handshakes.sid in
+    let at = mine_at asks answers role s two_ends up (open_up role s.mine.core s.mine.turns two_ends.mine opened) in
+    let last : at.place ≡ AllSaid = open_place true d role s.mine.core s.mine.turns two_ends.mine at opened in
     agreed_at d role s.mine.core.handshake (at.is ∙ ap (handshake_at true d role) last)
 
-pub theirs_agreed : (asks answers : Offer) (role : Role) (s : Sides) → (talks : Talks asks answers role s) → s.theirs.state ≡ Up → s.theirs.core.is_open ≡ true
-    → AllAgreed s.theirs.core.handshake talks.meets.handshakes.sid
-theirs_agreed asks answers role s talks up opened =
-    let d = deal asks answers talks.meets.handshakes.sid in
-    let at = theirs_at asks answers role s talks up (open_up (other role) s.theirs.core s.theirs.turns talks.theirs opened) in
-    let last : at.place ≡ AllSaid = open_place true d (other role) s.theirs.core s.theirs.turns talks.theirs at opened in
+pub theirs_agreed : (asks answers : Offer) (role : Role) (s : Sides) → (two_ends : TwoEnds asks answers role s) → s.theirs.state ≡ Up → s.theirs.core.is_open ≡ true
+    → AllAgreed s.theirs.core.handshake two_ends.meets.handshakes.sid
+theirs_agreed asks answers role s two_ends up opened =
+    let d = deal asks answers two_ends.meets.handshakes.sid in
+    let at = theirs_at asks answers role s two_ends up (open_up (other role) s.theirs.core s.theirs.turns two_ends.theirs opened) in
+    let last : at.place ≡ AllSaid = open_place true d (other role) s.theirs.core s.theirs.turns two_ends.theirs at opened in
     agreed_at d (other role) s.theirs.core.handshake (at.is ∙ ap (handshake_at true d (other role)) last)

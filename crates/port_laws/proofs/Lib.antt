@@ -41,7 +41,7 @@ mod SessionsHeard
 mod RingMoves
 mod RingFetches
 mod RingSteps
-mod PortTalks
+mod PortTwoEnds
 mod RingEvents
 mod ReadyFrames
 mod LogsStand
@@ -54,14 +54,14 @@ mod WayPlain
 mod Outbox
 mod HearsIn
 mod Refusing
-mod Talking
+mod GroupsExchanged
 mod FormsOwn
 mod GroupsLearnt
 mod TakesIn
-mod TalkSteps
-mod TalkGuest
-mod TalkHub
-mod TalkRuns
+mod ExchangeSteps
+mod ExchangeGuest
+mod ExchangeHub
+mod ExchangeRuns
 pub mod NoRefusal
 pub mod RemainingResets
 pub mod RemainingBound

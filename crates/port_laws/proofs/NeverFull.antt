@@ -46,15 +46,15 @@ use Rattle.port_laws.proofs.EveryRun.{every_run}
 use Rattle.port_laws.proofs.FewWait.{guest_few}
 use Rattle.port_laws.proofs.LastEvent.{last_lawful, many_entries}
 use Rattle.port_laws.proofs.NoRefusal.{parts_at}
-use Rattle.port_laws.proofs.PeerOpens.{Talks, mine_at, theirs_at}
+use Rattle.port_laws.proofs.PeerOpens.{TwoEnds, mine_at, theirs_at}
 use Rattle.port_laws.proofs.PortCounts.{PortCounts, before_wire, wire_event}
 use Rattle.port_laws.proofs.PortRuns.{before_core, fresh_port_core, spoken_behind}
-use Rattle.port_laws.proofs.PortTalks.{answers_of, asks_of}
+use Rattle.port_laws.proofs.PortTwoEnds.{answers_of, asks_of}
 use Rattle.port_laws.proofs.EndCounting.{own_left}
 use Rattle.port_laws.proofs.RingActs.{Finds, acting_at, step_now}
 use Rattle.port_laws.proofs.RingRuns.{finds_before, port_kept}
-use Rattle.port_laws.proofs.TalkGuest.{shut_unsaid}
-use Rattle.port_laws.proofs.TalkRuns.{KeptTalk, port_talk}
+use Rattle.port_laws.proofs.ExchangeGuest.{shut_unsaid}
+use Rattle.port_laws.proofs.ExchangeRuns.{KeptExchange, port_exchange}
 
 -- AN END WITHOUT A SESSION that has a packet to put owes a message of its handshake
 link_owes : (role : Role) (s : NetEndState) (turns : List Turn) (owed : Option Message) → EndStands role (net_core role s) turns → s.session ≡ None → 1 ≤ length s.link.to_send → s.handshake.owed ≡ owed
@@ -107,8 +107,8 @@ never_full shape events s m t is run clean whole first second = by_session s.lan
     run_one : Run PortStep (fresh_port shape) so_far m
     run_one = run_push PortStep (fresh_port shape) s m events one run first
 
-    had : KeptTalk shape s l
-    had = port_talk shape events s is run
+    had : KeptExchange shape s l
+    had = port_exchange shape events s is run
 
     wire : s.lane.wire ≡ l.wire
     wire = had.ways.kept.counts.wire
@@ -148,27 +148,27 @@ never_full shape events s m t is run clean whole first second = by_session s.lan
     in_session : (p : NetSession) → s.lane.guest.session ≡ Some p → ⊥
     in_session p session =
         let counts = had.ways.kept.counts in
-        let few = guest_few shape s l p finds (had.ways.ways unforged) (had.talk unforged) up other_up session whole (parts_at shape s l A is counts) (guest_long shape s l is counts) in
+        let few = guest_few shape s l p finds (had.ways.ways unforged) (had.exchange unforged) up other_up session whole (parts_at shape s l A is counts) (guest_long shape s l is counts) in
         omega (arith, many_b, few)
 
     sides : Sides
     sides = sides_of (lane_core s.lane) l.transcript
 
-    talks : Talks (asks_of shape) (answers_of shape) Initiator sides
-    talks = finds.talks.talks A
+    two_ends : TwoEnds (asks_of shape) (answers_of shape) Initiator sides
+    two_ends = finds.two_ends.two_ends A
 
     d : Deal
-    d = deal (asks_of shape) (answers_of shape) talks.meets.handshakes.sid
+    d = deal (asks_of shape) (answers_of shape) two_ends.meets.handshakes.sid
 
-    both : talks.meets.links.place ≡ BothUp
+    both : two_ends.meets.links.place ≡ BothUp
     both =
-        many_wait talks.meets.links.place s.lane.wire.lossy s.lane.wire.wire.to_a s.lane.wire.wire.to_b talks.meets.links.to_theirs talks.meets.links.to_mine (omega (arith, many_a)) (omega (arith, many_b))
+        many_wait two_ends.meets.links.place s.lane.wire.lossy s.lane.wire.wire.to_a s.lane.wire.wire.to_b two_ends.meets.links.to_theirs two_ends.meets.links.to_mine (omega (arith, many_a)) (omega (arith, many_b))
 
     phase_a : s.lane.guest.link.phase ≡ phase.Established
-    phase_a = sym (ap (λ (x : ChannelState). live_phase x (first_phase Initiator) s.lane.guest.link.phase) up) ∙ talks.meets.links.mine ∙ ap (phase_at Initiator) both
+    phase_a = sym (ap (λ (x : ChannelState). live_phase x (first_phase Initiator) s.lane.guest.link.phase) up) ∙ two_ends.meets.links.mine ∙ ap (phase_at Initiator) both
 
     phase_b : s.lane.hub.link.phase ≡ phase.Established
-    phase_b = sym (ap (λ (x : ChannelState). live_phase x (first_phase Responder) s.lane.hub.link.phase) other_up) ∙ talks.meets.links.theirs ∙ ap (phase_at Responder) both
+    phase_b = sym (ap (λ (x : ChannelState). live_phase x (first_phase Responder) s.lane.hub.link.phase) other_up) ∙ two_ends.meets.links.theirs ∙ ap (phase_at Responder) both
 
     -- the switch's end as it makes its step
     u : PortState
@@ -209,14 +209,14 @@ never_full shape events s m t is run clean whole first second = by_session s.lan
     not_in_session none =
         let owed = shut_owes Initiator s.lane.guest (seen_at A s.lane) (reach_of A s.lane) (port_rule Initiator s.lane.guest (seen_at A s.lane)) first.1.left.end l.transcript.client
         (acting_at shape A s l finds up).ends none phase_a refl first.1.step.0 in
-        let at = mine_at (asks_of shape) (answers_of shape) Initiator sides talks up (ap is_established phase_a) in
-        let there = theirs_at (asks_of shape) (answers_of shape) Initiator sides talks other_up (ap is_established phase_b) in
+        let at = mine_at (asks_of shape) (answers_of shape) Initiator sides two_ends up (ap is_established phase_a) in
+        let there = theirs_at (asks_of shape) (answers_of shape) Initiator sides two_ends other_up (ap is_established phase_b) in
         let owns : (is_some s.lane.hub.handshake.owed ≡ true) ⊎ (there.place ≡ AllSaid) =
         elim hub_owes [
           | inl owes ↦ inl owes
-          | inr opened ↦ inr (open_place true d Responder sides.theirs.core l.transcript.server talks.theirs there opened)
+          | inr opened ↦ inr (open_place true d Responder sides.theirs.core l.transcript.server two_ends.theirs there opened)
         ] in
-        never_both true d s.lane.guest.handshake s.lane.hub.handshake l.transcript.client l.transcript.server at there owed owns (finds.talks.front other_up) (finds.talks.front_a up)
+        never_both true d s.lane.guest.handshake s.lane.hub.handshake l.transcript.client l.transcript.server at there owed owns (finds.two_ends.front other_up) (finds.two_ends.front_a up)
 
     by_session : (session : Option NetSession) → s.lane.guest.session ≡ session → ⊥
     by_session (Some p) session = in_session p session

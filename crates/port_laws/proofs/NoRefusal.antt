@@ -55,10 +55,10 @@ use Rattle.port_laws.proofs.EndCounting.{OpenCounts, open_empty}
 use Rattle.port_laws.proofs.HearsIn.{AllAgreed, Hears, OwnRead, hears_in, mine_agreed}
 use Rattle.port_laws.proofs.LaneMoves.{event_core_step}
 use Rattle.port_laws.proofs.Outbox.{MessageFits, outbox}
-use Rattle.port_laws.proofs.PeerOpens.{PeerIn, Talks, least_heard, peer_open}
+use Rattle.port_laws.proofs.PeerOpens.{PeerIn, TwoEnds, least_heard, peer_open}
 use Rattle.port_laws.proofs.PortCounts.{PortCounts, queue_of}
 use Rattle.port_laws.proofs.PortRuns.{before_core, before_fits, fresh_port_core, lawful_along, port_fits_behind, spoken_behind}
-use Rattle.port_laws.proofs.PortTalks.{answers_of, asks_of, open_turns}
+use Rattle.port_laws.proofs.PortTwoEnds.{answers_of, asks_of, open_turns}
 use Rattle.port_laws.proofs.Refusing.{Expects, ack_comes, info_comes, ring_done, taken_in_session}
 use Rattle.port_laws.proofs.RingActs.{Finds, core_open, open_both, ring_of_end}
 use Rattle.port_laws.proofs.RingRuns.{finds_before}
@@ -68,10 +68,10 @@ use Rattle.port_laws.proofs.RuleSlots.{slot_reset}
 use Rattle.port_laws.proofs.PutCounts.{some_of}
 use Rattle.port_laws.proofs.StepCounts.{Acting}
 use Rattle.port_laws.proofs.TakesIn.{InSession, in_own_session, next_read}
-use Rattle.port_laws.proofs.Talking.{TalkIn, is_telling}
-use Rattle.port_laws.proofs.TalkGuest.{TalkStands, guest_sid, hub_agreed}
-use Rattle.port_laws.proofs.TalkRuns.{KeptTalk, before_talk, port_talk}
-use Rattle.port_laws.proofs.TalkSteps.{outbox_heard}
+use Rattle.port_laws.proofs.GroupsExchanged.{ExchangeIn, is_telling}
+use Rattle.port_laws.proofs.ExchangeGuest.{ExchangeStands, guest_sid, hub_agreed}
+use Rattle.port_laws.proofs.ExchangeRuns.{KeptExchange, before_exchange, port_exchange}
+use Rattle.port_laws.proofs.ExchangeSteps.{outbox_heard}
 use Rattle.port_laws.proofs.TookCounts.{free_empty, session_up}
 use Rattle.port_laws.proofs.WayMoves.{first_came, span, swap_ways}
 use Rattle.port_laws.proofs.WayRuns.{guest_open_up, new_taken, turn_at, ways_before}
@@ -181,10 +181,10 @@ expects_at shape e u l k bytes p sid finds up other_up session ways empty front 
     ring = subst (λ (o : Option NetSession). RingIn slots taken o s.frames (memory_of e u.lane)) session (ring_of_end e u.lane l finds.rings up)
 
 -- A PACKET that an end in session doesn't take is a gap behind a loss
-guest_resets : (shape : NetShape) (u : PortState) (l : PortLog) (cause : Cause) (packet : List ℕ) (p : NetSession) → Finds shape u l → WaysStand u.lane l → TalkStands u.lane l → PartsSaid l.transcript.server
+guest_resets : (shape : NetShape) (u : PortState) (l : PortLog) (cause : Cause) (packet : List ℕ) (p : NetSession) → Finds shape u l → WaysStand u.lane l → ExchangeStands u.lane l → PartsSaid l.transcript.server
     → u.lane.guest.session ≡ Some p → port_rule Initiator u.lane.guest (seen_at A u.lane) ≡ Takes packet → NetTakes Initiator u.lane.guest u.lane.guest_memory packet (Resets cause)
     → IsGapBehindLoss u.lane.wire.lossy cause
-guest_resets shape u l cause packet p finds ways talk parts session rule takes =
+guest_resets shape u l cause packet p finds ways exchange parts session rule takes =
     by_hears (hears_in Initiator s l.transcript.client u.lane.guest_memory packet (Resets cause) acting.ends (session_up Initiator s l.transcript.client p acting.ends session) takes)
   where
     s : NetEndState
@@ -209,8 +209,8 @@ guest_resets shape u l cause packet p finds ways talk parts session rule takes =
     sides : Sides
     sides = sides_of (lane_core u.lane) l.transcript
 
-    one_talk : Talks (asks_of shape) (answers_of shape) Initiator sides
-    one_talk = finds.talks.talks A
+    one_side : TwoEnds (asks_of shape) (answers_of shape) Initiator sides
+    one_side = finds.two_ends.two_ends A
 
     opened : is_some s.session ≡ true
     opened = ap is_some session
@@ -220,32 +220,32 @@ guest_resets shape u l cause packet p finds ways talk parts session rule takes =
     by_hears (inr (inr refused)) =
         let same : cause ≡ refused.cause = cc refused.is in
         subst (IsGapBehindLoss u.lane.wire.lossy) (sym same)
-        (link_refuses Initiator sides packet refused.cause one_talk.meets.converse one_talk.meets.links one_talk.mine.link.follows parts up says.1 refused.takes)
+        (link_refuses Initiator sides packet refused.cause one_side.meets.converse one_side.meets.links one_side.mine.link.follows parts up says.1 refused.takes)
     by_hears (inr (inl one)) =
         let front : IsFront (heard (Heard packet ∷ l.transcript.client)) (said l.transcript.server) =
-        (hears_next Initiator sides packet one.from one_talk.meets.converse up says.1 one_talk.mine.link.follows one.takes).front in
+        (hears_next Initiator sides packet one.from one_side.meets.converse up says.1 one_side.mine.link.follows one.takes).front in
         let grown : IsFront (heard l.transcript.client ++ one.bytes ∷ []) (said l.transcript.server) = subst (λ (xs : List (List ℕ)). IsFront xs (said l.transcript.server)) one.messages front in
         let first = outbox_heard u.lane.hub l.transcript.server l.transcript.client packet one.bytes one.messages grown in
         let sid = s.handshake.draft.sid in
-        let before : TalkIn sid s.groups p (outbox s l.transcript.client l.transcript.server) (one.bytes ∷ outbox u.lane.hub l.transcript.server (Heard packet ∷ l.transcript.client))
+        let before : ExchangeIn sid s.groups p (outbox s l.transcript.client l.transcript.server) (one.bytes ∷ outbox u.lane.hub l.transcript.server (Heard packet ∷ l.transcript.client))
         u.lane.hub.session u.lane.hub.groups =
-        subst (λ (xs : List (List ℕ)). TalkIn sid s.groups p (outbox s l.transcript.client l.transcript.server) xs u.lane.hub.session u.lane.hub.groups) first (talk p up other_up session) in
-        let own : OwnRead one.bytes one_talk.meets.handshakes.sid =
-        next_read (asks_of shape) (answers_of shape) Initiator Responder sides one.bytes sid one_talk up opened other_up grown before.answers_fit.0 in
-        let agreed = mine_agreed (asks_of shape) (answers_of shape) Initiator sides one_talk up opened in
+        subst (λ (xs : List (List ℕ)). ExchangeIn sid s.groups p (outbox s l.transcript.client l.transcript.server) xs u.lane.hub.session u.lane.hub.groups) first (exchange p up other_up session) in
+        let own : OwnRead one.bytes one_side.meets.handshakes.sid =
+        next_read (asks_of shape) (answers_of shape) Initiator Responder sides one.bytes sid one_side up opened other_up grown before.answers_fit.0 in
+        let agreed = mine_agreed (asks_of shape) (answers_of shape) Initiator sides one_side up opened in
         let in_it : InSession Initiator (record s { link = one.link }) p u.lane.guest_memory own.message (Resets cause) =
-        in_own_session Initiator s p u.lane.guest_memory packet l.transcript.client (Resets cause) one_talk.meets.handshakes.sid one session agreed.knows own in
+        in_own_session Initiator s p u.lane.guest_memory packet l.transcript.client (Resets cause) one_side.meets.handshakes.sid one session agreed.knows own in
         let expects = expects_at shape A u l one.link one.bytes p sid finds up other_up session (ways_at A u.lane l ways up other_up in_log)
-        (free_empty Initiator s l.transcript.client acting.ends says.0.quiet) grown before.answers_fit.0 (guest_sid shape u.lane l finds.talks up opened).agreed
+        (free_empty Initiator s l.transcript.client acting.ends says.0.quiet) grown before.answers_fit.0 (guest_sid shape u.lane l finds.two_ends up opened).agreed
         (λ named role. is_telling sid s.groups p (outbox s l.transcript.client l.transcript.server) (outbox u.lane.hub l.transcript.server (Heard packet ∷ l.transcript.client)) u.lane.hub.session
         u.lane.hub.groups one.bytes before named) in
         absurd (taken_in_session Initiator (record s { link = one.link }) p u.lane.guest_memory sid one.bytes own.message own.message.subtype own.message.body cause expects own.of own.spells refl refl
         (sym in_it.is))
 
-hub_resets : (shape : NetShape) (u : PortState) (l : PortLog) (cause : Cause) (packet : List ℕ) (q : NetSession) → Finds shape u l → WaysStand u.lane l → TalkStands u.lane l → PartsSaid l.transcript.client
+hub_resets : (shape : NetShape) (u : PortState) (l : PortLog) (cause : Cause) (packet : List ℕ) (q : NetSession) → Finds shape u l → WaysStand u.lane l → ExchangeStands u.lane l → PartsSaid l.transcript.client
     → u.lane.hub.session ≡ Some q → port_rule Responder u.lane.hub (seen_at B u.lane) ≡ Takes packet → NetTakes Responder u.lane.hub u.lane.hub_memory packet (Resets cause)
     → IsGapBehindLoss u.lane.wire.lossy cause
-hub_resets shape u l cause packet q finds ways talk parts session rule takes =
+hub_resets shape u l cause packet q finds ways exchange parts session rule takes =
     by_hears (hears_in Responder s l.transcript.server u.lane.hub_memory packet (Resets cause) acting.ends (session_up Responder s l.transcript.server q acting.ends session) takes)
   where
     s : NetEndState
@@ -263,16 +263,16 @@ hub_resets shape u l cause packet q finds ways talk parts session rule takes =
     sides : Sides
     sides = swapped (sides_of (lane_core u.lane) l.transcript)
 
-    one_talk : Talks (asks_of shape) (answers_of shape) Responder sides
-    one_talk = finds.talks.talks B
+    one_side : TwoEnds (asks_of shape) (answers_of shape) Responder sides
+    one_side = finds.two_ends.two_ends B
 
     opened : is_some s.session ≡ true
     opened = ap is_some session
 
     guest_in : PeerIn sides
     guest_in =
-        let all = open_turns shape (lane_core u.lane) l B finds.talks up opened in
-        peer_open (asks_of shape) (answers_of shape) Responder sides one_talk up (least_heard all.heard_long)
+        let all = open_turns shape (lane_core u.lane) l B finds.two_ends up opened in
+        peer_open (asks_of shape) (answers_of shape) Responder sides one_side up (least_heard all.heard_long)
 
     guest_session : (p : NetSession) × (u.lane.guest.session ≡ Some p)
     guest_session = some_of u.lane.guest.session guest_in.opened
@@ -286,23 +286,23 @@ hub_resets shape u l cause packet q finds ways talk parts session rule takes =
     by_hears (inr (inr refused)) =
         let same : cause ≡ refused.cause = cc refused.is in
         subst (IsGapBehindLoss u.lane.wire.lossy) (sym same)
-        (link_refuses Responder sides packet refused.cause one_talk.meets.converse one_talk.meets.links one_talk.mine.link.follows parts up says.1 refused.takes)
+        (link_refuses Responder sides packet refused.cause one_side.meets.converse one_side.meets.links one_side.mine.link.follows parts up says.1 refused.takes)
     by_hears (inr (inl one)) =
         let front : IsFront (heard (Heard packet ∷ l.transcript.server)) (said l.transcript.client) =
-        (hears_next Responder sides packet one.from one_talk.meets.converse up says.1 one_talk.mine.link.follows one.takes).front in
+        (hears_next Responder sides packet one.from one_side.meets.converse up says.1 one_side.mine.link.follows one.takes).front in
         let grown : IsFront (heard l.transcript.server ++ one.bytes ∷ []) (said l.transcript.client) = subst (λ (xs : List (List ℕ)). IsFront xs (said l.transcript.client)) one.messages front in
         let first = outbox_heard u.lane.guest l.transcript.client l.transcript.server packet one.bytes one.messages grown in
         let sid = u.lane.guest.handshake.draft.sid in
         let p = guest_session.0 in
-        let before : TalkIn sid u.lane.guest.groups p (one.bytes ∷ outbox u.lane.guest l.transcript.client (Heard packet ∷ l.transcript.server)) (outbox s l.transcript.server l.transcript.client) s.session s.groups =
-        subst (λ (xs : List (List ℕ)). TalkIn sid u.lane.guest.groups p xs (outbox s l.transcript.server l.transcript.client) s.session s.groups) first (talk p guest_in.up up guest_session.1) in
-        let own : OwnRead one.bytes one_talk.meets.handshakes.sid =
-        next_read (asks_of shape) (answers_of shape) Responder Initiator sides one.bytes sid one_talk up opened guest_in.up grown before.asks_fit.0 in
-        let agreed = mine_agreed (asks_of shape) (answers_of shape) Responder sides one_talk up opened in
+        let before : ExchangeIn sid u.lane.guest.groups p (one.bytes ∷ outbox u.lane.guest l.transcript.client (Heard packet ∷ l.transcript.server)) (outbox s l.transcript.server l.transcript.client) s.session s.groups =
+        subst (λ (xs : List (List ℕ)). ExchangeIn sid u.lane.guest.groups p xs (outbox s l.transcript.server l.transcript.client) s.session s.groups) first (exchange p guest_in.up up guest_session.1) in
+        let own : OwnRead one.bytes one_side.meets.handshakes.sid =
+        next_read (asks_of shape) (answers_of shape) Responder Initiator sides one.bytes sid one_side up opened guest_in.up grown before.asks_fit.0 in
+        let agreed = mine_agreed (asks_of shape) (answers_of shape) Responder sides one_side up opened in
         let in_it : InSession Responder (record s { link = one.link }) q u.lane.hub_memory own.message (Resets cause) =
-        in_own_session Responder s q u.lane.hub_memory packet l.transcript.server (Resets cause) one_talk.meets.handshakes.sid one session agreed.knows own in
+        in_own_session Responder s q u.lane.hub_memory packet l.transcript.server (Resets cause) one_side.meets.handshakes.sid one session agreed.knows own in
         let expects = expects_at shape B u l one.link one.bytes q sid finds up guest_in.up session (ways_at B u.lane l ways guest_in.up up in_log)
-        (free_empty Responder s l.transcript.server acting.ends says.0.quiet) grown before.asks_fit.0 (hub_agreed shape u.lane l finds.talks guest_in.up guest_in.opened up opened)
+        (free_empty Responder s l.transcript.server acting.ends says.0.quiet) grown before.asks_fit.0 (hub_agreed shape u.lane l finds.two_ends guest_in.up guest_in.opened up opened)
         (λ named role. absurd (cc role)) in
         absurd (taken_in_session Responder (record s { link = one.link }) q u.lane.hub_memory sid one.bytes own.message own.message.subtype own.message.body cause expects own.of own.spells refl refl
         (sym in_it.is))
@@ -327,7 +327,7 @@ parts_at shape s l B is counts =
     subst (λ (x : TranscriptLog). PartsSaid x.server) (spoken_behind shape counts.events ∙ sym (ap (λ (x : PortLog). x.transcript) counts.log))
     (parts_run shape.entries (asks_of shape) (answers_of shape) (port_events counts.events) (port_core s) (sizes_fit shape is) (fresh_port_core shape counts.events s counts.run)).b.parts
 
-pub step_resets : (shape : NetShape) (s t : PortState) (l : PortLog) (e : End) (cause : Cause) (packet : Option (List ℕ)) (lost : ℕ) → IsNetShape shape → KeptTalk shape s l → l.wire.forged ≡ false
+pub step_resets : (shape : NetShape) (s t : PortState) (l : PortLog) (e : End) (cause : Cause) (packet : Option (List ℕ)) (lost : ℕ) → IsNetShape shape → KeptExchange shape s l → l.wire.forged ≡ false
     → NetLaneStep (before (Steps e (Reset cause packet lost)) s).lane (Steps e (Reset cause packet lost)) t.lane → IsOwnReset l.wire cause
 step_resets shape s t l e cause packet lost is had clean step = by_packet packet refl
   where
@@ -343,8 +343,8 @@ step_resets shape s t l e cause packet lost is had clean step = by_packet packet
     ways : WaysStand u.lane l
     ways = ways_before event s l (had.ways.ways clean)
 
-    talk : TalkStands u.lane l
-    talk = before_talk event s l (had.talk clean)
+    exchange : ExchangeStands u.lane l
+    exchange = before_exchange event s l (had.exchange clean)
 
     lossy : l.wire.lossy ≡ u.lane.wire.lossy
     lossy = sym (ap (λ (x : WireLog). x.lossy) finds.ready.wire)
@@ -354,12 +354,12 @@ step_resets shape s t l e cause packet lost is had clean step = by_packet packet
         let fails = subst (λ (o : Option (List ℕ)). NetFails Initiator (port_rule Initiator u.lane.guest (seen_at A u.lane)) u.lane.guest u.lane.guest_memory (reach_of A u.lane) cause o) carried
         (subst (λ (y : End). NetFails (role_at y) (port_rule (role_at y) (net_end y u.lane) (seen_at y u.lane)) (net_end y u.lane) (memory_of y u.lane) (reach_of y u.lane) cause packet) at step.step.0) in
         let it = takes_it A u.lane cause bytes (port_rule Initiator u.lane.guest (seen_at A u.lane)) refl fails in
-        own_gap l.wire u.lane.wire.lossy cause lossy (guest_resets shape u l cause bytes p finds ways talk (parts_at shape s l B is had.ways.kept.counts) session it.0 it.1)
+        own_gap l.wire u.lane.wire.lossy cause lossy (guest_resets shape u l cause bytes p finds ways exchange (parts_at shape s l B is had.ways.kept.counts) session it.0 it.1)
     in_session B at bytes carried p session =
         let fails = subst (λ (o : Option (List ℕ)). NetFails Responder (port_rule Responder u.lane.hub (seen_at B u.lane)) u.lane.hub u.lane.hub_memory (reach_of B u.lane) cause o) carried
         (subst (λ (y : End). NetFails (role_at y) (port_rule (role_at y) (net_end y u.lane) (seen_at y u.lane)) (net_end y u.lane) (memory_of y u.lane) (reach_of y u.lane) cause packet) at step.step.0) in
         let it = takes_it B u.lane cause bytes (port_rule Responder u.lane.hub (seen_at B u.lane)) refl fails in
-        own_gap l.wire u.lane.wire.lossy cause lossy (hub_resets shape u l cause bytes p finds ways talk (parts_at shape s l A is had.ways.kept.counts) session it.0 it.1)
+        own_gap l.wire u.lane.wire.lossy cause lossy (hub_resets shape u l cause bytes p finds ways exchange (parts_at shape s l A is had.ways.kept.counts) session it.0 it.1)
 
     wire_clean : u.lane.wire.forged ≡ false
     wire_clean = ap (λ (x : WireLog). x.forged) finds.ready.wire ∙ clean
@@ -390,7 +390,7 @@ step_resets shape s t l e cause packet lost is had clean step = by_packet packet
 by_giver : (by : Giver) (w : WireLog) (cause : Cause) → (w.forged ≡ false → IsOwnReset w cause) → UnforgedReset by w cause
 by_giver by w cause own = grind arith
 
-unforged_event : (shape : NetShape) (s t : PortState) (l : PortLog) (event : NetEvent) → IsNetShape shape → KeptTalk shape s l → NetLaneStep (before event s).lane event t.lane
+unforged_event : (shape : NetShape) (s t : PortState) (l : PortLog) (event : NetEvent) → IsNetShape shape → KeptExchange shape s l → NetLaneStep (before event s).lane event t.lane
     → OfWire (WireUnforgedAt l.wire) (OnLane event)
 unforged_event shape s t l (Steps e (Reset cause packet lost)) is had step = by_giver (giver cause) l.wire cause (λ clean. step_resets shape s t l e cause packet lost is had clean step)
 unforged_event shape s t l _ is had step = tt
@@ -401,5 +401,5 @@ port_unforged_wire shape events s is run = lawful_along shape (λ (l : PortLog) 
   where
     here : (events : List PortEvent) (s : PortState) (event : PortEvent) (t : PortState) → Run PortStep (fresh_port shape) events s → PortStep s event t
         → OfWire (WireUnforgedAt (log_of after (no_events shape) events).wire) event
-    here events s (OnLane event) t run step = unforged_event shape s t (log_of after (no_events shape) events) event is (port_talk shape events s is run) step.1
+    here events s (OnLane event) t run step = unforged_event shape s t (log_of after (no_events shape) events) event is (port_exchange shape events s is run) step.1
     here events s (Receives frame) t run step = tt

@@ -54,7 +54,7 @@ unfolding least most
 more_than r = grind arith
 
 -- TWO ENDS, from the side of one
-pub record Talks (asks answers : Offer) (role : Role) (s : Sides) : Type 0 where
+pub record TwoEnds (asks answers : Offer) (role : Role) (s : Sides) : Type 0 where
   pub both : asks.both_rings ≡ true
   pub mine : EndStands role s.mine.core s.mine.turns
   pub theirs : EndStands (other role) s.theirs.core s.theirs.turns
@@ -70,13 +70,13 @@ none_long : (xs : List (List ℕ)) → xs ≡ [] → length xs ≡ 0
 none_long xs is = ap length is
 
 -- where its handshake stands
-pub mine_at : (asks answers : Offer) (role : Role) (s : Sides) → (talks : Talks asks answers role s) → s.mine.state ≡ Up → is_up s.mine.core.link ≡ true
-    → AtPlace true (deal asks answers talks.meets.handshakes.sid) role s.mine.core.handshake s.mine.turns
-mine_at asks answers role s talks up link = grind (arith, deal)
+pub mine_at : (asks answers : Offer) (role : Role) (s : Sides) → (two_ends : TwoEnds asks answers role s) → s.mine.state ≡ Up → is_up s.mine.core.link ≡ true
+    → AtPlace true (deal asks answers two_ends.meets.handshakes.sid) role s.mine.core.handshake s.mine.turns
+mine_at asks answers role s two_ends up link = grind (arith, deal)
 
-pub theirs_at : (asks answers : Offer) (role : Role) (s : Sides) → (talks : Talks asks answers role s) → s.theirs.state ≡ Up → is_up s.theirs.core.link ≡ true
-    → AtPlace true (deal asks answers talks.meets.handshakes.sid) (other role) s.theirs.core.handshake s.theirs.turns
-theirs_at asks answers role s talks up link = grind (arith, deal)
+pub theirs_at : (asks answers : Offer) (role : Role) (s : Sides) → (two_ends : TwoEnds asks answers role s) → s.theirs.state ≡ Up → is_up s.theirs.core.link ≡ true
+    → AtPlace true (deal asks answers two_ends.meets.handshakes.sid) (other role) s.theirs.core.handshake s.theirs.turns
+theirs_at asks answers role s two_ends up link = grind (arith, deal)
 
 -- THE ROW of what the initiator says, as an end of this role has it
 abbrev pub row : Role → List Turn → List (List ℕ)
@@ -99,11 +99,11 @@ pub record InAll (r : Role) (turns : List Turn) : Type 0 where
   pub row_long : 6 ≤ length (row r turns)
   pub heard_long : 6 ≤ length (heard turns)
 
-pub open_long : (asks answers : Offer) (role : Role) (s : Sides) → Talks asks answers role s → s.mine.state ≡ Up → s.mine.core.is_open ≡ true → InAll role s.mine.turns
-open_long asks answers role s talks up opened =
-    let d = deal asks answers talks.meets.handshakes.sid in
-    let at = mine_at asks answers role s talks up (open_up role s.mine.core s.mine.turns talks.mine opened) in
-    let last : at.place ≡ AllSaid = open_place true d role s.mine.core s.mine.turns talks.mine at opened in
+pub open_long : (asks answers : Offer) (role : Role) (s : Sides) → TwoEnds asks answers role s → s.mine.state ≡ Up → s.mine.core.is_open ≡ true → InAll role s.mine.turns
+open_long asks answers role s two_ends up opened =
+    let d = deal asks answers two_ends.meets.handshakes.sid in
+    let at = mine_at asks answers role s two_ends up (open_up role s.mine.core s.mine.turns two_ends.mine opened) in
+    let last : at.place ≡ AllSaid = open_place true d role s.mine.core s.mine.turns two_ends.mine at opened in
     let there = row_at d role s.mine.core.handshake s.mine.turns at in
     record {
       row_long = omega (arith, longer (said_at true d Initiator at.place) there.more (row role s.mine.turns) there.is, six_said d Initiator at.place last);
@@ -111,30 +111,30 @@ open_long asks answers role s talks up opened =
     }
 
 -- before, at most five of the row
-pub closed_short : (asks answers : Offer) (role : Role) (s : Sides) → Talks asks answers role s → s.mine.state ≡ Up → s.mine.core.is_open ≡ false → length (row role s.mine.turns) ≤ 5
+pub closed_short : (asks answers : Offer) (role : Role) (s : Sides) → TwoEnds asks answers role s → s.mine.state ≡ Up → s.mine.core.is_open ≡ false → length (row role s.mine.turns) ≤ 5
 unfolding most
-closed_short asks answers role s talks up shut = grind (arith, row_none, deal, mine_at, row_at, last_or, true_false, place_open, said_at, few_said, whole)
+closed_short asks answers role s two_ends up shut = grind (arith, row_none, deal, mine_at, row_at, last_or, true_false, place_open, said_at, few_said, whole)
 
 -- THE PEER'S SESSION is open where an end in session heard so many
 pub record PeerIn (s : Sides) : Type 0 where
   pub up : s.theirs.state ≡ Up
   pub opened : s.theirs.core.is_open ≡ true
 
-pub peer_open : (asks answers : Offer) (role : Role) (s : Sides) → Talks asks answers role s → s.mine.state ≡ Up → least role ≤ length (heard s.mine.turns) → PeerIn s
-peer_open asks answers role s talks up many = by_state s.theirs.state refl
+pub peer_open : (asks answers : Offer) (role : Role) (s : Sides) → TwoEnds asks answers role s → s.mine.state ≡ Up → least role ≤ length (heard s.mine.turns) → PeerIn s
+peer_open asks answers role s two_ends up many = by_state s.theirs.state refl
   where
     hears : HeardFrom s s.mine.turns
-    hears = hears_now role s talks.meets.converse up
+    hears = hears_now role s two_ends.meets.converse up
 
     some : 6 ≤ length (said s.theirs.turns)
     some = omega (arith, many, least_six role, longer (heard s.mine.turns) hears.front.0 (said s.theirs.turns) hears.front.1)
 
     all : s.theirs.state ≡ Up → is_up s.theirs.core.link ≡ true → PeerIn s
     all peer_up link =
-        let d = deal asks answers talks.meets.handshakes.sid in
-        let at = theirs_at asks answers role s talks peer_up link in
+        let d = deal asks answers two_ends.meets.handshakes.sid in
+        let at = theirs_at asks answers role s two_ends peer_up link in
         elim (last_or at.place) [
-          | inl last ↦ record { up = peer_up; opened = place_open true d (other role) s.theirs.core s.theirs.turns talks.theirs at last }
+          | inl last ↦ record { up = peer_up; opened = place_open true d (other role) s.theirs.core s.theirs.turns two_ends.theirs at last }
           | inr far ↦ (
               let none = (at.only far).0 in
               absurd (omega (
@@ -150,7 +150,7 @@ peer_open asks answers role s talks up many = by_state s.theirs.state refl
     by_link : s.theirs.state ≡ Up → (b : Bool) → is_up s.theirs.core.link ≡ b → PeerIn s
     by_link peer_up true link = all peer_up link
     by_link peer_up false down =
-        let below = talks.theirs.below down in absurd (omega (arith, some, none_long (said s.theirs.turns) below.said_none))
+        let below = two_ends.theirs.below down in absurd (omega (arith, some, none_long (said s.theirs.turns) below.said_none))
 
     never : (s.theirs.state ≡ Up → ⊥) → PeerIn s
     never not = absurd (omega (arith, many, least_six role, none_long (heard s.mine.turns) (hears.none not)))
@@ -160,5 +160,5 @@ peer_open asks answers role s talks up many = by_state s.theirs.state refl
     by_state x is = never (λ now. let wrong : x ≡ Up = sym is ∙ now in cc wrong)
 
 -- an end in session has a peer that is up
-pub peer_is_up : (asks answers : Offer) (role : Role) (s : Sides) → Talks asks answers role s → s.mine.state ≡ Up → 1 ≤ length (heard s.mine.turns) → s.theirs.state ≡ Up
-peer_is_up asks answers role s talks up some = grind (arith, hears_now, none_long)
+pub peer_is_up : (asks answers : Offer) (role : Role) (s : Sides) → TwoEnds asks answers role s → s.mine.state ≡ Up → 1 ≤ length (heard s.mine.turns) → s.theirs.state ≡ Up
+peer_is_up asks answers role s two_ends up some = grind (arith, hears_now, none_long)

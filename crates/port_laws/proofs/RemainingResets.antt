@@ -27,7 +27,7 @@ use Rattle.port_laws.proofs.RemainingEnds.{up_left}
 use Rattle.port_laws.proofs.RemainingFrames.{port_frame}
 use Rattle.port_laws.proofs.RemainingSteps.{away_falls, begun_left, joined_a, joined_at, joined_b, port_calm, port_falls, ready_here, steps_before}
 use Rattle.port_laws.proofs.RemainingTakes.{port_took}
-use Rattle.port_laws.proofs.TalkRuns.{port_talk}
+use Rattle.port_laws.proofs.ExchangeRuns.{port_exchange}
 
 -- THE LANE behind a reset of an end
 reset_lane : (e : End) (s : PortState) (event : NetEvent) (t : PortState) → PortStep s (OnLane event) t → IsReset e (OnLane event) → t.lane ≡ joined_at e (before event s).lane
@@ -134,9 +134,9 @@ port_again shape events s e _ t sound run step is lossy = absurd is
 pub port_own : (shape : NetShape) (events : List PortEvent) (s : PortState) (e : End) (cause : Cause) (packet : Option (List ℕ)) (lost : ℕ) (t : PortState) → IsNetShape shape
     → Run PortStep (fresh_port shape) events s → s.lane.wire.forged ≡ false → PortStep s (OnLane (Steps e (Reset cause packet lost))) t → remaining t < remaining s
 port_own shape events s e cause packet lost t sound run clean step =
-    let talk = port_talk shape events s sound run in
-    let wire : s.lane.wire ≡ (log_of after (no_events shape) events).wire = talk.ways.kept.counts.wire in
-    let own = step_resets shape s t _ e cause packet lost sound talk (sym (ap (λ (w : WireLog). w.forged) wire) ∙ clean) step.1 in
+    let exchange = port_exchange shape events s sound run in
+    let wire : s.lane.wire ≡ (log_of after (no_events shape) events).wire = exchange.ways.kept.counts.wire in
+    let own = step_resets shape s t _ e cause packet lost sound exchange (sym (ap (λ (w : WireLog). w.forged) wire) ∙ clean) step.1 in
     port_again shape events s e (OnLane (Steps e (Reset cause packet lost))) t sound run step refl (λ up. ap (λ (w : WireLog). w.lossy) wire ∙ own.lossy)
 
 -- so each step but a calm one lowers what remains

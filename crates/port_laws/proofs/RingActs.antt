@@ -50,7 +50,7 @@ use Rattle.port_laws.proofs.LogsStand.{LogsStand, TablesStand, held_given}
 use Rattle.port_laws.proofs.MemoryRoom.{MemoryHasRoom}
 use Rattle.port_laws.proofs.PeerOpens.{row}
 use Rattle.port_laws.proofs.PortCounts.{PortCounts, Ready, queue_of}
-use Rattle.port_laws.proofs.PortTalks.{PortTalks, many_open, open_turns, shut_turns}
+use Rattle.port_laws.proofs.PortTwoEnds.{PortTwoEnds, many_open, open_turns, shut_turns}
 use Rattle.port_laws.proofs.RemainingEnds.{kind_shut}
 use Rattle.port_laws.proofs.RingEvents.{Active, Frames, Goes, Turned, acts_up, mine_now, own_stands, peer_stands, saying_taken, some_not, spoke_after, theirs_now, turns_at, turns_now, wire_now}
 use Rattle.port_laws.proofs.RingFetches.{Reaches}
@@ -161,17 +161,17 @@ none_asked role turns v n is spoke never = grind arith
 none_taken : (role : Role) (turns : List Turn) (x : ChannelState) (log : Option SessionLog) → SpokeIn role turns log → (x ≡ Up → (v : SessionLog) → log ≡ Some v → 1 ≤ v.asked → ⊥) → taken_by x log ≡ 0
 none_taken role turns x log spoke never = grind (arith, none_asked)
 
-pub shut_peer : (shape : NetShape) (e : End) (u : NetLaneState) (l : PortLog) → PortTalks shape (lane_core u) l → Rings u l → (net_end e u).session ≡ None
+pub shut_peer : (shape : NetShape) (e : End) (u : NetLaneState) (l : PortLog) → PortTwoEnds shape (lane_core u) l → Rings u l → (net_end e u).session ≡ None
     → taken_by (state_of (peer_of e) u.wire.wire) (log_of_end (peer_of e) l).session ≡ 0
-shut_peer shape A u l talks rings none =
+shut_peer shape A u l two_ends rings none =
     none_taken Responder l.transcript.server u.wire.wire.end_b l.hub.session rings.hub_spoke
     (λ up v is asked.
-    let there = many_open shape (lane_core u) l B talks up ((spoke_some Responder l.transcript.server l.hub.session v is rings.hub_spoke).many asked) in
+    let there = many_open shape (lane_core u) l B two_ends up ((spoke_some Responder l.transcript.server l.hub.session v is rings.hub_spoke).many asked) in
     true_false (sym there.opened ∙ some_session u.guest.session none))
-shut_peer shape B u l talks rings none =
+shut_peer shape B u l two_ends rings none =
     none_taken Initiator l.transcript.client u.wire.wire.end_a l.guest.session rings.guest_spoke
     (λ up v is asked.
-    let there = many_open shape (lane_core u) l A talks up ((spoke_some Initiator l.transcript.client l.guest.session v is rings.guest_spoke).many asked) in
+    let there = many_open shape (lane_core u) l A two_ends up ((spoke_some Initiator l.transcript.client l.guest.session v is rings.guest_spoke).many asked) in
     true_false (sym there.opened ∙ some_session u.hub.session none))
 
 -- AN END REACHES ITS PEER'S RING where both are in session
@@ -196,13 +196,13 @@ pub record InOne (shape : NetShape) (u : NetLaneState) : Type 0 where
   pub guest_cookies : slots_cookies u.guest ≡ ring_cookie shape.slots ∷ []
   pub hub_cookies : slots_cookies u.hub ≡ ring_cookie shape.slots ∷ []
 
-in_one : (shape : NetShape) (u : NetLaneState) (l : PortLog) (queue : List (List ℕ)) → PortTalks shape (lane_core u) l → EndCounts Initiator shape.slots [] u.guest l.guest
+in_one : (shape : NetShape) (u : NetLaneState) (l : PortLog) (queue : List (List ℕ)) → PortTwoEnds shape (lane_core u) l → EndCounts Initiator shape.slots [] u.guest l.guest
     → EndCounts Responder shape.slots queue u.hub l.hub → is_some u.guest.session ≡ true → is_some u.hub.session ≡ true → InOne shape u
-in_one shape u l queue talks guest hub guest_open hub_open =
-    let one = talks.one guest_open hub_open in
-    let guest_talks = talks.talks A in
-    let guest_offer = guest_talks.mine.handshake.offer_is in
-    let hub_offer = guest_talks.theirs.handshake.offer_is in
+in_one shape u l queue two_ends guest hub guest_open hub_open =
+    let one = two_ends.one guest_open hub_open in
+    let guest_two_ends = two_ends.two_ends A in
+    let guest_offer = guest_two_ends.mine.handshake.offer_is in
+    let hub_offer = guest_two_ends.theirs.handshake.offer_is in
     let both : u.guest.handshake.offer.both_rings ≡ true = ap (λ (o : Offer). o.both_rings) guest_offer in
     let ring : KnowsRing u.hub.handshake.draft u.guest.handshake.draft u.guest.handshake.offer = one.ring in
     let peer_ring : KnowsRing u.guest.handshake.draft u.hub.handshake.draft u.hub.handshake.offer =
@@ -220,7 +220,7 @@ pub record Finds (shape : NetShape) (u : PortState) (l : PortLog) : Type 0 where
   pub room : MemoryHasRoom shape.slots u.lane
   pub logs : LogsStand l
   pub tables : TablesStand shape u.lane
-  pub talks : PortTalks shape (lane_core u.lane) l
+  pub two_ends : PortTwoEnds shape (lane_core u.lane) l
   pub rings : Rings u.lane l
 
 pub left_taken : (left : Option (List ℕ)) (v : SessionLog) → (said_in left v).taken ≡ v.taken
@@ -266,7 +266,7 @@ pub record Acts (shape : NetShape) (e : End) (u t : PortState) (l : PortLog) (an
   pub step : NetEndStep (role_at e) (net_end e u.lane) (seen_at e u.lane) (memory_of e u.lane) (reach_of e u.lane) answer left
   pub now : StepNow e u.lane t.lane answer left
   pub counts : PortCounts shape t (after l (OnLane (Steps e answer)))
-  pub talks : PortTalks shape (lane_core t.lane) (after l (OnLane (Steps e answer)))
+  pub two_ends : PortTwoEnds shape (lane_core t.lane) (after l (OnLane (Steps e answer)))
 
 pub counted_now : (shape : NetShape) (e : End) (s : PortState) (l : PortLog) → PortCounts shape s l → EndCounts (role_at e) shape.slots (queue_of e s) (net_end e s.lane) (log_of_end e l)
 counted_now shape e s l counts = grind arith
@@ -323,10 +323,10 @@ turned_at shape e u t l answer left acts goes =
     ap (λ (w : WireLog). state_of e w.wire) acts.now.wire ∙ (wire_now e u.lane answer).mine ∙ goes_same answer (state_of e u.lane.wire.wire) goes ∙ up in
     let turns : transcript_of e then_.transcript ≡ turns_now answer (transcript_of e l.transcript) = (turns_at e l.transcript answer).mine in
     record {
-      few = λ none. shut_turns shape (lane_core u.lane) l e acts.finds.talks (core_up e u.lane up) (core_open e u.lane false (before.shut none));
-      six = λ some. (open_turns shape (lane_core u.lane) l e acts.finds.talks (core_up e u.lane up) (core_open e u.lane true (before.opened some))).heard_long;
+      few = λ none. shut_turns shape (lane_core u.lane) l e acts.finds.two_ends (core_up e u.lane up) (core_open e u.lane false (before.shut none));
+      six = λ some. (open_turns shape (lane_core u.lane) l e acts.finds.two_ends (core_up e u.lane up) (core_open e u.lane true (before.opened some))).heard_long;
       many = λ some. subst (λ (x : List Turn). 6 ≤ length (row (role_at e) x)) turns
-          (open_turns shape (lane_core t.lane) then_ e acts.talks (core_up e t.lane up_now)
+          (open_turns shape (lane_core t.lane) then_ e acts.two_ends (core_up e t.lane up_now)
           (core_open e t.lane true (behind.opened (λ none. some (ap (λ (x : EndLog). x.session) (sym (log_now e l answer).mine) ∙ none))))).row_long;
     }
   where
@@ -365,7 +365,7 @@ acts_ring shape e u t l answer left acts up =
     let there : RingIn l.shape.slots (taken_by (theirs_now answer x y) log) left.end.session left.end.frames left.own =
     own_stands (role_at e) l.shape.slots x y log (net_end e u.lane) (transcript_of e l.transcript) (seen_at e u.lane) (memory_of e u.lane) (reach_of e u.lane) answer left
     (owns_at shape e u l acts.finds) slots
-    (λ opened here. shut_peer shape e u.lane l acts.finds.talks acts.finds.rings (acts_shut shape e u t l answer left acts opened)) acts.step
+    (λ opened here. shut_peer shape e u.lane l acts.finds.two_ends acts.finds.rings (acts_shut shape e u t l answer left acts opened)) acts.step
     (ring_of_end e u.lane l acts.finds.rings) mine in
     subst (λ (n : ChannelState). RingIn l.shape.slots (taken_by n (log_of_end (peer_of e) (after l (OnLane (Steps e answer)))).session) (net_end e t.lane).session (net_end e t.lane).frames
     (memory_of e t.lane)) (sym theirs)
@@ -407,8 +407,8 @@ acts_peer_ring shape e u t l answer left acts up =
     (subst (RingIn l.shape.slots (taken_by (mine_now answer x) (after_answer l.shape.slots turns answer log).session) session frames) (sym acts.now.peer_memory) there)))
 
 pub steps_rings : (shape : NetShape) (e : End) (u t : PortState) (l : PortLog) (answer : NetAnswer) → Finds shape u l → EndSteps e u.lane answer t.lane
-    → PortCounts shape t (after l (OnLane (Steps e answer))) → PortTalks shape (lane_core t.lane) (after l (OnLane (Steps e answer))) → Rings t.lane (after l (OnLane (Steps e answer)))
-steps_rings shape e u t l answer finds step counts talks =
-    let acts : Acts shape e u t l answer step.left = record { finds = finds; step = step.step; now = step_now e u.lane t.lane answer step; counts = counts; talks = talks } in
+    → PortCounts shape t (after l (OnLane (Steps e answer))) → PortTwoEnds shape (lane_core t.lane) (after l (OnLane (Steps e answer))) → Rings t.lane (after l (OnLane (Steps e answer)))
+steps_rings shape e u t l answer finds step counts two_ends =
+    let acts : Acts shape e u t l answer step.left = record { finds = finds; step = step.step; now = step_now e u.lane t.lane answer step; counts = counts; two_ends = two_ends } in
     together e t.lane (after l (OnLane (Steps e answer))) (acts_spoke shape e u t l answer step.left acts) (peer_spoke shape e u t l answer step.left acts)
     (acts_ring shape e u t l answer step.left acts) (acts_peer_ring shape e u t l answer step.left acts)

@@ -28,7 +28,7 @@ use Rattle.port_laws.proofs.MemoryLong.{room_behind}
 use Rattle.port_laws.proofs.MemoryRoom.{before_room}
 use Rattle.port_laws.proofs.PortCounts.{PortCounts, before_queue, counts_step, port_counts, ready_before}
 use Rattle.port_laws.proofs.PortRuns.{before_core}
-use Rattle.port_laws.proofs.PortTalks.{PortTalks, port_talks}
+use Rattle.port_laws.proofs.PortTwoEnds.{PortTwoEnds, port_two_ends}
 use Rattle.port_laws.proofs.RingActs.{Finds, Rings, steps_rings}
 use Rattle.port_laws.proofs.RingEvents.{none_down, peer_up}
 use Rattle.port_laws.proofs.RingMoves.{ring_given}
@@ -72,11 +72,11 @@ joined_ring slots taken memory s joining t joins ring = grind (arith, untold_rin
 
 -- AN EVENT, where nobody forged
 lane_rings : (shape : NetShape) (u t : PortState) (l : PortLog) (event : NetEvent) → OfQueue u event → Finds shape u l → NetLaneStep u.lane event t.lane → (moved_on l.wire (on_wire event)).forged ≡ false
-    → PortCounts shape t (after l (OnLane event)) → PortTalks shape (lane_core t.lane) (after l (OnLane event)) → Rings t.lane (after l (OnLane event))
-lane_rings shape u t l (Steps e answer) of_queue finds step clean counts talks = steps_rings shape e u t l answer finds step counts talks
-lane_rings shape u t l (Asked e lost) of_queue finds step clean counts talks = asked_rings e u.lane l lost t.lane step finds.rings
-lane_rings shape u t l (Ticked queued lost) of_queue finds step clean counts talks = asked_rings A u.lane l lost t.lane step.1 finds.rings
-lane_rings shape u t l (Gives A given) of_queue finds step clean counts talks =
+    → PortCounts shape t (after l (OnLane event)) → PortTwoEnds shape (lane_core t.lane) (after l (OnLane event)) → Rings t.lane (after l (OnLane event))
+lane_rings shape u t l (Steps e answer) of_queue finds step clean counts two_ends = steps_rings shape e u t l answer finds step counts two_ends
+lane_rings shape u t l (Asked e lost) of_queue finds step clean counts two_ends = asked_rings e u.lane l lost t.lane step finds.rings
+lane_rings shape u t l (Ticked queued lost) of_queue finds step clean counts two_ends = asked_rings A u.lane l lost t.lane step.1 finds.rings
+lane_rings shape u t l (Gives A given) of_queue finds step clean counts two_ends =
     subst (λ (x : NetLaneState). Rings x (after l (OnLane (Gives A given)))) (sym step.1)
     (record {
       guest_spoke = given_spoke given;
@@ -93,8 +93,8 @@ lane_rings shape u t l (Gives A given) of_queue finds step clean counts talks =
         → RingIn l.shape.slots (taken_by u.lane.wire.wire.end_a (after_given given l.guest).session) u.lane.hub.session u.lane.hub.frames u.lane.hub_memory
     given_other (Queued id frame) up = finds.rings.hub_ring up
     given_other _ up = finds.rings.hub_ring up
-lane_rings shape u t l (Gives B given) of_queue finds step clean counts talks = absurd of_queue
-lane_rings shape u t l (Joins joining) of_queue finds step clean counts talks =
+lane_rings shape u t l (Gives B given) of_queue finds step clean counts two_ends = absurd of_queue
+lane_rings shape u t l (Joins joining) of_queue finds step clean counts two_ends =
     subst (λ (x : NetLaneState). Rings x (after l (OnLane (Joins joining)))) (sym step.1)
     (record {
       guest_spoke = finds.rings.guest_spoke;
@@ -102,12 +102,12 @@ lane_rings shape u t l (Joins joining) of_queue finds step clean counts talks =
       guest_ring = λ up. joined_ring l.shape.slots (taken_by u.lane.wire.wire.end_b l.hub.session) u.lane.guest_memory u.lane.guest joining t.lane.guest step.0 (finds.rings.guest_ring up);
       hub_ring = finds.rings.hub_ring;
     })
-lane_rings shape u t l (Injects e packet) of_queue finds step clean counts talks = true_false clean
-lane_rings shape u t l (Pokes e at bytes) of_queue finds step clean counts talks = true_false clean
-lane_rings shape u t l (Loses A packet) of_queue finds step clean counts talks =
+lane_rings shape u t l (Injects e packet) of_queue finds step clean counts two_ends = true_false clean
+lane_rings shape u t l (Pokes e at bytes) of_queue finds step clean counts two_ends = true_false clean
+lane_rings shape u t l (Loses A packet) of_queue finds step clean counts two_ends =
     subst (λ (x : NetLaneState). Rings x (after l (OnLane (Loses A packet)))) (sym step.1)
     (record { guest_spoke = finds.rings.guest_spoke; hub_spoke = finds.rings.hub_spoke; guest_ring = finds.rings.guest_ring; hub_ring = finds.rings.hub_ring })
-lane_rings shape u t l event of_queue finds step clean counts talks =
+lane_rings shape u t l event of_queue finds step clean counts two_ends =
     subst (λ (x : NetLaneState). Rings x (after l (OnLane event))) (sym step.1)
     (record { guest_spoke = finds.rings.guest_spoke; hub_spoke = finds.rings.hub_spoke; guest_ring = finds.rings.guest_ring; hub_ring = finds.rings.hub_ring })
 
@@ -131,7 +131,7 @@ finds_before shape s l event is kept clean =
       room = before_room shape.slots event s (room_behind shape kept.counts.events s is kept.counts.run);
       logs = kept.logs;
       tables = before_tables event shape s kept.tables;
-      talks = subst (λ (c : LaneCore). PortTalks shape c l) (sym (before_core event s)) (port_talks shape s l is kept.counts wire);
+      two_ends = subst (λ (c : LaneCore). PortTwoEnds shape c l) (sym (before_core event s)) (port_two_ends shape s l is kept.counts wire);
       rings = before_rings event s l (kept.rings clean);
     }
 
@@ -145,7 +145,7 @@ kept_step shape is s l (OnLane event) t kept step =
       rings = λ clean.
           let wire : t.lane.wire.forged ≡ false = ap (λ (w : WireLog). w.forged) counts.wire ∙ clean in
           lane_rings shape (before event s) t l event (before_queue event s step.0) (finds_before shape s l event is kept (was_clean l.wire event clean)) step.1 clean counts
-          (port_talks shape t (after l (OnLane event)) is counts wire);
+          (port_two_ends shape t (after l (OnLane event)) is counts wire);
     }
 kept_step shape is s l (Receives frame) t kept step =
     let lane : t.lane ≡ s.lane = ap (λ (x : PortState). x.lane) step.2 in

@@ -41,9 +41,9 @@ use Rattle.port_laws.proofs.RuleNoneLeft.{heard_all, moved_guest, before_entries
 use Rattle.port_laws.proofs.RuleRest.{up_state}
 use Rattle.port_laws.proofs.RuleTwoIdle.{IdlesKept, idles_kept, two_idle_event}
 use Rattle.port_laws.proofs.RuleGroups.{hub_told}
-use Rattle.port_laws.proofs.Talking.{AllTold, owed_replies, reply_in}
-use Rattle.port_laws.proofs.TalkGuest.{TalkStands}
-use Rattle.port_laws.proofs.TalkRuns.{KeptTalk, before_talk, port_talk}
+use Rattle.port_laws.proofs.GroupsExchanged.{AllTold, owed_replies, reply_in}
+use Rattle.port_laws.proofs.ExchangeGuest.{ExchangeStands}
+use Rattle.port_laws.proofs.ExchangeRuns.{KeptExchange, before_exchange, port_exchange}
 use Rattle.port_laws.proofs.TookCounts.{free_empty}
 
 none_out : (s : NetEndState) (mine theirs : List Turn) → said mine ≡ heard theirs → s.link.to_send ≡ [] → outbox s mine theirs ≡ []
@@ -55,16 +55,16 @@ none_telling b is = grind arith
 told_by : (untold telling : Bool) → (untold && not telling) ≡ false → telling ≡ false → untold ≡ false
 told_by untold telling idle none = grind (arith, true_false)
 
-both_told : (shape : NetShape) (u : PortState) (l : PortLog) → Finds shape u l → TalkStands u.lane l → port_rule Initiator u.lane.guest (seen_at A u.lane) ≡ Idles
+both_told : (shape : NetShape) (u : PortState) (l : PortLog) → Finds shape u l → ExchangeStands u.lane l → port_rule Initiator u.lane.guest (seen_at A u.lane) ≡ Idles
     → port_rule Responder u.lane.hub (seen_at B u.lane) ≡ Idles → l.wire.lossy ≡ false → (l.guest.session ≢ None) × (l.hub.session ≢ None)
     → InSession l.guest.session (ToldAll l) × InSession l.hub.session (KnowsAll l)
-both_told shape u l finds talk guest_idles hub_idles lossless opened =
+both_told shape u l finds exchange guest_idles hub_idles lossless opened =
     let guest_says = says_of Initiator u.lane.guest (seen_at A u.lane) Idles guest_idles in
     let hub_says = says_of Responder u.lane.hub (seen_at B u.lane) Idles hub_idles in
     let up : u.lane.wire.wire.end_a ≡ Up = up_state u.lane.wire.wire.end_a guest_says.0.up in
     let other : u.lane.wire.wire.end_b ≡ Up = up_state u.lane.wire.wire.end_b hub_says.0.up in
     let whole : u.lane.wire.lossy ≡ false = ap (λ (w : WireLog). w.lossy) finds.ready.wire ∙ lossless in
-    let all = heard_all (sides_of (lane_core u.lane) l.transcript) (finds.talks.talks A).meets.converse whole up other (no_first u.lane.wire.wire.to_a guest_says.1) (no_first u.lane.wire.wire.to_b hub_says.1) in
+    let all = heard_all (sides_of (lane_core u.lane) l.transcript) (finds.two_ends.two_ends A).meets.converse whole up other (no_first u.lane.wire.wire.to_a guest_says.1) (no_first u.lane.wire.wire.to_b hub_says.1) in
     let guest = some_log l.guest.session opened.0 in
     let hub = some_log l.hub.session opened.1 in
     let both = both_open Initiator shape.slots [] u.lane.guest l.guest guest.0 finds.ready.guest guest.1 in
@@ -73,12 +73,12 @@ both_told shape u l finds talk guest_idles hub_idles lossless opened =
     let hub_listens : MayListen hub_both.p = subst (λ (x : Option NetSession). IfOpen x MayListen) hub_both.is hub_says.2 in
     let empty = free_empty Initiator u.lane.guest l.transcript.client (end_acts shape A u l finds.ready guest_says.0.up).ends guest_says.0.quiet in
     let hub_empty = free_empty Responder u.lane.hub l.transcript.server (end_acts shape B u l finds.ready hub_says.0.up).ends hub_says.0.quiet in
-    let talking = talk both.p up other both.is in
+    let exchanging = exchange both.p up other both.is in
     let sent = none_out u.lane.guest l.transcript.client l.transcript.server all.mine empty in
     let asks = ap count_groups sent in
     let answers = ap count_groups (none_out u.lane.hub l.transcript.server l.transcript.client all.theirs hub_empty) in
     let owed : owed_replies u.lane.hub.session ≡ 0 = ap (λ (o : Option GroupsReply). one_if (is_some o)) (ap reply_in hub_both.is ∙ hub_listens.0) in
-    let counted = talking.counted in
+    let counted = exchanging.counted in
     let telling : both.p.telling ≡ false = none_telling both.p.telling (omega (arith, counted, asks, answers, owed)) in
     let left = rule_left Initiator u.lane.guest (seen_at A u.lane) both.p guest_says.0 guest_says.1 both.is listens guest_idles in
     let untold : both.p.untold ≡ false = told_by both.p.untold both.p.telling (left.told refl) telling in
@@ -86,7 +86,7 @@ both_told shape u l finds talk guest_idles hub_idles lossless opened =
     subst (λ (x : Option (List ℕ)). OpenCounts Initiator shape.slots u.lane.guest.groups l.guest.published l.guest.gone x u.lane.guest.link.begun both.p l.guest.session)
     (empty_unsaid u.lane.guest empty) both.open_is in
     let groups : GroupCounts both.p u.lane.guest.groups here.of_log = here.counts.guest in
-    let known : u.lane.hub.groups ≡ u.lane.guest.groups = subst (AllTold u.lane.guest.groups u.lane.hub.groups) sent (talking.latest untold) in (
+    let known : u.lane.hub.groups ≡ u.lane.guest.groups = subst (AllTold u.lane.guest.groups u.lane.hub.groups) sent (exchanging.latest untold) in (
       subst (λ (o : Option SessionLog). InSession o (ToldAll l)) (sym here.is)
           (groups.named untold ∙ ap (λ (xs : List (List ℕ)). Some xs) finds.ready.members, groups.answered telling untold),
       subst (λ (o : Option SessionLog). InSession o (KnowsAll l)) (sym hub.1)
@@ -94,13 +94,13 @@ both_told shape u l finds talk guest_idles hub_idles lossless opened =
     )
 
 -- AN EVENT
-told_event : (shape : NetShape) (s : PortState) (l : PortLog) (event : NetEvent) (t : PortState) → IsNetShape shape → KeptTalk shape s l → IdlesKept s l → TwoIdleAt l (OnLane event)
+told_event : (shape : NetShape) (s : PortState) (l : PortLog) (event : NetEvent) (t : PortState) → IsNetShape shape → KeptExchange shape s l → IdlesKept s l → TwoIdleAt l (OnLane event)
     → NetLaneStep (before event s).lane event t.lane → NoneUntoldAt l (OnLane event)
 told_event shape s l (Steps A Idle) t is had kept opened step = λ last clean whole.
-    both_told shape s l (finds_before shape s l (Steps A Idle) is had.ways.kept clean) (had.talk clean) step.step.0 (kept.idles B last) whole (opened last clean whole)
+    both_told shape s l (finds_before shape s l (Steps A Idle) is had.ways.kept clean) (had.exchange clean) step.step.0 (kept.idles B last) whole (opened last clean whole)
 told_event shape s l (Steps B Idle) t is had kept opened step = λ last clean whole.
     let u : PortState = before (Steps B Idle) s in
-    both_told shape u l (finds_before shape s l (Steps B Idle) is had.ways.kept clean) (before_talk (Steps B Idle) s l (had.talk clean))
+    both_told shape u l (finds_before shape s l (Steps B Idle) is had.ways.kept clean) (before_exchange (Steps B Idle) s l (had.exchange clean))
     (moved_guest s u (before_guest (Steps B Idle) s) (before_wire (Steps B Idle) s) (before_entries (Steps B Idle) s) (kept.idles A last)) step.step.0 whole (opened last clean whole)
 told_event shape s l _ t is had kept opened step = tt
 
@@ -111,7 +111,7 @@ port_none_untold shape events s is run = lawful_along shape NoneUntoldAt here ev
         → NoneUntoldAt (log_of after (no_events shape) events) event
     here events s (OnLane event) t run step =
         let l : PortLog = log_of after (no_events shape) events in
-        let had = port_talk shape events s is run in
+        let had = port_exchange shape events s is run in
         told_event shape s l event t is had (idles_kept shape events s run)
         (two_idle_event shape s l event t had.ways.kept.counts (ready_before shape s l (CalmTick 0) is had.ways.kept.counts) step.1) step.1
     here events s (Receives frame) t run step = tt

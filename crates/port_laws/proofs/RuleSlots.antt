@@ -35,7 +35,7 @@ use Rattle.port_laws.proofs.EndCounting.{OpenCounts, left_seen, open_counts, ope
 use Rattle.port_laws.proofs.MemoryRoom.{power_room}
 use Rattle.port_laws.proofs.PortCounts.{queue_of}
 use Rattle.port_laws.proofs.PortRuns.{lawful_along}
-use Rattle.port_laws.proofs.PortTalks.{PeerOpen, many_open}
+use Rattle.port_laws.proofs.PortTwoEnds.{PeerOpen, many_open}
 use Rattle.port_laws.proofs.RingActs.{Finds, core_open, end_reaches, peer_ring_of, place_is, spoke_of}
 use Rattle.port_laws.proofs.RingFinds.{Finding, no_fail, ring_finds}
 use Rattle.port_laws.proofs.RingRuns.{finds_before}
@@ -138,7 +138,7 @@ slot_reset shape e u l cause lost left finds ways step = by_rule (port_rule (rol
         let busy : ActiveCounts shape.slots here.of_log (Some activity) = subst (ActiveCounts shape.slots here.of_log) says.1 here.counts.peer.active in
         let asked : here.of_log.asked ≡ here.of_log.acks + 1 = busy.0 in
         let spoke = spoke_some (role_at e) (transcript_of e l.transcript) (log_of_end e l).session here.of_log here.is (spoke_of e u.lane l finds.rings) in
-        let there : PeerOpen e (lane_core u.lane) = many_open shape (lane_core u.lane) l e finds.talks up (spoke.many (omega (arith, asked))) in
+        let there : PeerOpen e (lane_core u.lane) = many_open shape (lane_core u.lane) l e finds.two_ends up (spoke.many (omega (arith, asked))) in
         by_peer p activity rule fails up there peer.session refl
       where
         by_peer : (p : NetSession) (activity : Activity) → port_rule (role_at e) s (seen_at e u.lane) ≡ Fetches p activity

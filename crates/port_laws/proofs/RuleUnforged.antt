@@ -35,7 +35,7 @@ use Rattle.port_laws.proofs.EndCounting.{left_published, open_counts}
 use Rattle.port_laws.proofs.LogsStand.{EndLogStands, HeadIn, held_given}
 use Rattle.port_laws.proofs.PortCounts.{queue_of}
 use Rattle.port_laws.proofs.PortRuns.{lawful_along}
-use Rattle.port_laws.proofs.PortTalks.{PeerOpen, many_open}
+use Rattle.port_laws.proofs.PortTwoEnds.{PeerOpen, many_open}
 use Rattle.port_laws.proofs.RingActs.{Finds, end_reaches, peer_ring_of, place_is, seen_state, spoke_of}
 use Rattle.port_laws.proofs.RingEvents.{acts_up}
 use Rattle.port_laws.proofs.RingFetches.{Fetches as FetchesFrame, ring_fetched}
@@ -128,7 +128,7 @@ takes_published shape e u l frame t finds step =
     let mine : log.session ≡ Some v = active.1 in
     let busy : v.asked ≡ v.acks + 1 = active.2 in
     let spoke = spoke_some (role_at e) (transcript_of e l.transcript) log.session v mine (spoke_of e u.lane l finds.rings) in
-    let there : PeerOpen e (lane_core u.lane) = many_open shape (lane_core u.lane) l e finds.talks (core_up e u.lane up) (spoke.many (omega (arith, busy))) in
+    let there : PeerOpen e (lane_core u.lane) = many_open shape (lane_core u.lane) l e finds.two_ends (core_up e u.lane up) (spoke.many (omega (arith, busy))) in
     let peer_up : state_of (peer_of e) u.lane.wire.wire ≡ Up = peer_is_up e u.lane there in
     let peer = some_session (net_end (peer_of e) u.lane).session (core_peer e u.lane there) in
     let p : NetSession = peer.0 in

@@ -30,24 +30,24 @@ use Rattle.port_model.specs.Spoken.{addresses_of, count_of, set_of, seven_of}
 use Rattle.port_laws.proofs.HearsIn.{HearsOne, OwnRead, decodes_as, own_read}
 use Rattle.port_laws.proofs.MessageDoes.{Acks, Asks, Declines, MessageDoes, Names, Told}
 use Rattle.port_laws.proofs.Outbox.{MessageFits, is_groups}
-use Rattle.port_laws.proofs.PeerOpens.{Talks}
-use Rattle.port_laws.proofs.Talking.{ReplyAgrees}
+use Rattle.port_laws.proofs.PeerOpens.{TwoEnds}
+use Rattle.port_laws.proofs.GroupsExchanged.{ReplyAgrees}
 
 -- THE NEXT MESSAGE is one of the session, and is read as that
-pub next_is_own : (asks answers : Offer) (role : Role) (s : Sides) (bytes : List ℕ) → (talks : Talks asks answers role s) → s.mine.state ≡ Up → s.mine.core.is_open ≡ true → s.theirs.state ≡ Up
-    → IsFront (heard s.mine.turns ++ bytes ∷ []) (said s.theirs.turns) → IsOwn (deal asks answers talks.meets.handshakes.sid) bytes
-next_is_own asks answers role s bytes talks up opened other_up front =
-    next_own asks answers role s bytes (record { mine = talks.mine; theirs = talks.theirs }) talks.meets.handshakes up opened other_up front
+pub next_is_own : (asks answers : Offer) (role : Role) (s : Sides) (bytes : List ℕ) → (two_ends : TwoEnds asks answers role s) → s.mine.state ≡ Up → s.mine.core.is_open ≡ true → s.theirs.state ≡ Up
+    → IsFront (heard s.mine.turns ++ bytes ∷ []) (said s.theirs.turns) → IsOwn (deal asks answers two_ends.meets.handshakes.sid) bytes
+next_is_own asks answers role s bytes two_ends up opened other_up front =
+    next_own asks answers role s bytes (record { mine = two_ends.mine; theirs = two_ends.theirs }) two_ends.meets.handshakes up opened other_up front
 
 fitting_long : (role : Role) (sid : ℕ) (bytes : List ℕ) → MessageFits role sid bytes → (envelope_at bytes ≡ 0x0042) ⊎ (envelope_at bytes ≡ 0x0101) → length bytes ≡ 56
 fitting_long role sid bytes given given_2 = grind arith
 
-pub next_read : (asks answers : Offer) (role r : Role) (s : Sides) (bytes : List ℕ) (sid : ℕ) → (talks : Talks asks answers role s) → s.mine.state ≡ Up → s.mine.core.is_open ≡ true → s.theirs.state ≡ Up
-    → IsFront (heard s.mine.turns ++ bytes ∷ []) (said s.theirs.turns) → MessageFits r sid bytes → OwnRead bytes talks.meets.handshakes.sid
-next_read asks answers role r s bytes sid talks up opened other_up front fits =
-    let own = next_is_own asks answers role s bytes talks up opened other_up front in
+pub next_read : (asks answers : Offer) (role r : Role) (s : Sides) (bytes : List ℕ) (sid : ℕ) → (two_ends : TwoEnds asks answers role s) → s.mine.state ≡ Up → s.mine.core.is_open ≡ true → s.theirs.state ≡ Up
+    → IsFront (heard s.mine.turns ++ bytes ∷ []) (said s.theirs.turns) → MessageFits r sid bytes → OwnRead bytes two_ends.meets.handshakes.sid
+next_read asks answers role r s bytes sid two_ends up opened other_up front fits =
+    let own = next_is_own asks answers role s bytes two_ends up opened other_up front in
     let envelope : envelope_at bytes ≡ envelope_code own.message.body = ap envelope_at own.is ∙ envelope_reads own.message own.body in
-    own_read (deal asks answers talks.meets.handshakes.sid) bytes own talks.meets.handshakes.small
+    own_read (deal asks answers two_ends.meets.handshakes.sid) bytes own two_ends.meets.handshakes.small
     (fitting_long r sid bytes fits (by_code (envelope_code own.message.body) envelope (own_code own.message.body own.body)))
   where
     by_code : (code : ℕ) → envelope_at bytes ≡ code → (code ≡ 0x0042) ⊎ (code ≡ 0x0101) → (envelope_at bytes ≡ 0x0042) ⊎ (envelope_at bytes ≡ 0x0101)

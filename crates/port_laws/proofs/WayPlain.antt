@@ -15,7 +15,7 @@ use Rattle.channel_laws.proofs.Script.{before, bytes_at, is_role, last_or, one_i
 use Rattle.channel_laws.specs.Sides.{Sides, other}
 use Rattle.port_model.proofs.Refuting.{true_false}
 use Rattle.port_model.specs.Spoken.{Other, spoken}
-use Rattle.port_laws.proofs.PeerOpens.{Talks, mine_at, six_said}
+use Rattle.port_laws.proofs.PeerOpens.{TwoEnds, mine_at, six_said}
 use Rattle.port_laws.proofs.WayMoves.{Plain}
 
 -- THE HANDSHAKE'S MESSAGES
@@ -48,18 +48,18 @@ pub record BothPlain (said_messages heard_messages : List (List ℕ)) : Type 0 w
   pub said_plain : Plain said_messages
   pub heard_plain : Plain heard_messages
 
-pub closed_plain : (asks answers : Offer) (role : Role) (s : Sides) → Talks asks answers role s → s.mine.state ≡ Up → s.mine.core.is_open ≡ false → BothPlain (said s.mine.turns) (heard s.mine.turns)
-closed_plain asks answers role s talks up shut = by_link (is_up s.mine.core.link) refl
+pub closed_plain : (asks answers : Offer) (role : Role) (s : Sides) → TwoEnds asks answers role s → s.mine.state ≡ Up → s.mine.core.is_open ≡ false → BothPlain (said s.mine.turns) (heard s.mine.turns)
+closed_plain asks answers role s two_ends up shut = by_link (is_up s.mine.core.link) refl
   where
     by_link : (b : Bool) → is_up s.mine.core.link ≡ b → BothPlain (said s.mine.turns) (heard s.mine.turns)
     by_link false down =
-        let below = talks.mine.below down in
+        let below = two_ends.mine.below down in
         record { said_plain = subst Plain (sym below.said_none) (record { infos = refl; acks = refl; low = tt }); heard_plain = subst Plain (sym below.heard_none) (record { infos = refl; acks = refl; low = tt }) }
     by_link true link =
-        let d = deal asks answers talks.meets.handshakes.sid in
-        let at = mine_at asks answers role s talks up link in
+        let d = deal asks answers two_ends.meets.handshakes.sid in
+        let at = mine_at asks answers role s two_ends up link in
         elim (last_or at.place) [
-          | inl last ↦ true_false (sym (place_open true d role s.mine.core s.mine.turns talks.mine at last) ∙ shut)
+          | inl last ↦ true_false (sym (place_open true d role s.mine.core s.mine.turns two_ends.mine at last) ∙ shut)
           | inr far ↦ record {
             said_plain = all_plain d role at.place at.mine (said s.mine.turns) at.said_is (at.only far).0;
             heard_plain = all_plain d (other role) at.place at.theirs (heard s.mine.turns) at.heard_is (at.only far).1;
@@ -67,17 +67,17 @@ closed_plain asks answers role s talks up shut = by_link (is_up s.mine.core.link
         ]
 
 -- AS IT OPENS, with six messages
-pub open_said : (asks answers : Offer) (role : Role) (s : Sides) → Talks asks answers role s → s.mine.state ≡ Up → s.mine.core.is_open ≡ true → length (said s.mine.turns) ≤ 6 → Plain (said s.mine.turns)
-open_said asks answers role s talks up opened few =
-    let d = deal asks answers talks.meets.handshakes.sid in
-    let at = mine_at asks answers role s talks up (open_up role s.mine.core s.mine.turns talks.mine opened) in
-    let last : at.place ≡ AllSaid = open_place true d role s.mine.core s.mine.turns talks.mine at opened in
+pub open_said : (asks answers : Offer) (role : Role) (s : Sides) → TwoEnds asks answers role s → s.mine.state ≡ Up → s.mine.core.is_open ≡ true → length (said s.mine.turns) ≤ 6 → Plain (said s.mine.turns)
+open_said asks answers role s two_ends up opened few =
+    let d = deal asks answers two_ends.meets.handshakes.sid in
+    let at = mine_at asks answers role s two_ends up (open_up role s.mine.core s.mine.turns two_ends.mine opened) in
+    let last : at.place ≡ AllSaid = open_place true d role s.mine.core s.mine.turns two_ends.mine at opened in
     all_plain d role at.place at.mine (said s.mine.turns) at.said_is (none_behind (said_at true d role at.place) at.mine (said s.mine.turns) at.said_is (six_said d role at.place last) few)
 
-pub open_heard : (asks answers : Offer) (role : Role) (s : Sides) → Talks asks answers role s → s.mine.state ≡ Up → s.mine.core.is_open ≡ true → length (heard s.mine.turns) ≤ 6 → Plain (heard s.mine.turns)
-open_heard asks answers role s talks up opened few =
-    let d = deal asks answers talks.meets.handshakes.sid in
-    let at = mine_at asks answers role s talks up (open_up role s.mine.core s.mine.turns talks.mine opened) in
-    let last : at.place ≡ AllSaid = open_place true d role s.mine.core s.mine.turns talks.mine at opened in
+pub open_heard : (asks answers : Offer) (role : Role) (s : Sides) → TwoEnds asks answers role s → s.mine.state ≡ Up → s.mine.core.is_open ≡ true → length (heard s.mine.turns) ≤ 6 → Plain (heard s.mine.turns)
+open_heard asks answers role s two_ends up opened few =
+    let d = deal asks answers two_ends.meets.handshakes.sid in
+    let at = mine_at asks answers role s two_ends up (open_up role s.mine.core s.mine.turns two_ends.mine opened) in
+    let last : at.place ≡ AllSaid = open_place true d role s.mine.core s.mine.turns two_ends.mine at opened in
     all_plain d (other role) at.place at.theirs (heard s.mine.turns) at.heard_is
     (none_behind (said_at true d (other role) at.place) at.theirs (heard s.mine.turns) at.heard_is (six_said d (other role) at.place last) few)

@@ -31,7 +31,7 @@ use Rattle.port_laws.specs.RingStands.{RingIn, taken_in}
 use Rattle.port_laws.specs.WaysStand.{Ways, WaysStand, or_new}
 use Rattle.port_laws.proofs.EndCounting.{left_seen}
 use Rattle.port_laws.proofs.PortCounts.{PortCounts, before_queue, before_wire, queue_of}
-use Rattle.port_laws.proofs.PortTalks.{PortTalks, answers_of, asks_of, port_talks, six_open, up_open}
+use Rattle.port_laws.proofs.PortTwoEnds.{PortTwoEnds, answers_of, asks_of, port_two_ends, six_open, up_open}
 use Rattle.port_laws.proofs.PutCounts.{SaidRight}
 use Rattle.port_laws.proofs.RingActs.{Acts, Finds, OpenBoth, acting_at, acts_shut, acts_up_at, open_both, ring_of_end, step_busy, step_now, turned_at}
 use Rattle.port_laws.proofs.RingEvents.{Active, Goes, peer_up, theirs_now, turns_at, turns_now, wire_now}
@@ -155,11 +155,11 @@ guest_first shape u t l packet left acts up other none =
     let opened : is_some t.lane.guest.session ≡ true = guest.opened (λ gone. none_some _ (sym gone)) in
     let short : length (said (Said packet ∷ l.transcript.client)) ≤ 6 = omega (arith, few, grown_most _ (said l.transcript.client) (said (Said packet ∷ l.transcript.client)) (said_grown l.transcript.client packet)) in
     let mine : Plain (said (Said packet ∷ l.transcript.client)) =
-    open_said (asks_of shape) (answers_of shape) Initiator (sides_of (lane_core t.lane) then_.transcript) (acts.talks.talks A) up opened short in
-    let theirs = closed_plain (asks_of shape) (answers_of shape) Responder (swapped (sides_of (lane_core u.lane) l.transcript)) (acts.finds.talks.talks B) other_before (hub.shut hub_shut) in
+    open_said (asks_of shape) (answers_of shape) Initiator (sides_of (lane_core t.lane) then_.transcript) (acts.two_ends.two_ends A) up opened short in
+    let theirs = closed_plain (asks_of shape) (answers_of shape) Responder (swapped (sides_of (lane_core u.lane) l.transcript)) (acts.finds.two_ends.two_ends B) other_before (hub.shut hub_shut) in
     subst (λ (o : Option SessionLog). Ways l.shape.slots (said (Said packet ∷ l.transcript.client)) (heard l.transcript.client) (said l.transcript.server) (heard l.transcript.server)
     (opened_log (opening_sid (half_said l.transcript.client) packet)) (or_new o)) (sym hub_shut)
-    (first_ways l.shape.slots (opening_sid (half_said l.transcript.client) packet) (Said packet ∷ l.transcript.client) l.transcript.server (acts.talks.front_a up) (acts.talks.front other) mine theirs.said_plain)
+    (first_ways l.shape.slots (opening_sid (half_said l.transcript.client) packet) (Said packet ∷ l.transcript.client) l.transcript.server (acts.two_ends.front_a up) (acts.two_ends.front other) mine theirs.said_plain)
 
 guest_ways : (shape : NetShape) (u t : PortState) (l : PortLog) (answer : NetAnswer) (left : NetLeft) → Acts shape A u t l answer left → WaysStand u.lane l
     → WaysStand t.lane (after l (OnLane (Steps A answer)))
@@ -183,7 +183,7 @@ guest_ways shape u t l answer left acts ways up other some =
     front : IsFront (heard (turns_now answer l.transcript.client)) (said l.transcript.server)
     front =
         let turns = turns_at A l.transcript answer in
-        subst (λ (xs : List Turn). IsFront (heard xs) (said l.transcript.server)) turns.mine (subst (λ (xs : List Turn). IsFront (heard then_.transcript.client) (said xs)) turns.theirs (acts.talks.front_a up))
+        subst (λ (xs : List Turn). IsFront (heard xs) (said l.transcript.server)) turns.mine (subst (λ (xs : List Turn). IsFront (heard then_.transcript.client) (said xs)) turns.theirs (acts.two_ends.front_a up))
 
     by_log : (log : Option SessionLog) → l.guest.session ≡ log → Goes answer
         → Ways l.shape.slots (said then_.transcript.client) (heard then_.transcript.client) (said then_.transcript.server) (heard then_.transcript.server) (or_new then_.guest.session) (or_new then_.hub.session)
@@ -214,7 +214,7 @@ hub_plain shape u t l answer left acts goes up none = by_log then_.hub.session r
     theirs = (turns_at B l.transcript answer).theirs
 
     front : IsFront (heard (turns_now answer l.transcript.server)) (said l.transcript.client)
-    front = subst (λ (xs : List Turn). IsFront (heard xs) (said l.transcript.client)) now (subst (λ (xs : List Turn). IsFront (heard then_.transcript.server) (said xs)) theirs (acts.talks.front up))
+    front = subst (λ (xs : List Turn). IsFront (heard xs) (said l.transcript.client)) now (subst (λ (xs : List Turn). IsFront (heard then_.transcript.server) (said xs)) theirs (acts.two_ends.front up))
 
     hub : OpenBoth t.lane.hub then_.hub
     hub = open_both Responder shape.slots t.queue t.lane.hub then_.hub acts.counts.hub
@@ -226,7 +226,7 @@ hub_plain shape u t l answer left acts goes up none = by_log then_.hub.session r
     up_before = acts_up_at shape B u t l answer left acts goes
 
     was : BothPlain (said l.transcript.server) (heard l.transcript.server)
-    was = closed_plain (asks_of shape) (answers_of shape) Responder (swapped (sides_of (lane_core u.lane) l.transcript)) (acts.finds.talks.talks B) up_before (hub_before.shut none)
+    was = closed_plain (asks_of shape) (answers_of shape) Responder (swapped (sides_of (lane_core u.lane) l.transcript)) (acts.finds.two_ends.two_ends B) up_before (hub_before.shut none)
 
     heard_short : (given : NetAnswer) → length (heard l.transcript.server) ≤ 5 → length (heard (turns_now given l.transcript.server)) ≤ 6
     heard_short (Took packet opens) few = omega (arith, few, grown_most _ (heard l.transcript.server) (heard (Heard packet ∷ l.transcript.server)) (heard_grown l.transcript.server packet))
@@ -242,7 +242,7 @@ hub_plain shape u t l answer left acts goes up none = by_log then_.hub.session r
 
     by_log : (log : Option SessionLog) → then_.hub.session ≡ log → ClosedFits l.transcript.server l.transcript.client answer
     by_log None is =
-        let plain = closed_plain (asks_of shape) (answers_of shape) Responder (swapped (sides_of (lane_core t.lane) then_.transcript)) (acts.talks.talks B) up (hub.shut is) in
+        let plain = closed_plain (asks_of shape) (answers_of shape) Responder (swapped (sides_of (lane_core t.lane) then_.transcript)) (acts.two_ends.two_ends B) up (hub.shut is) in
         record {
           said_plain = subst (λ (xs : List Turn). Plain (said xs)) now plain.said_plain;
           heard_plain = subst (λ (xs : List Turn). Plain (heard xs)) now plain.heard_plain;
@@ -254,7 +254,7 @@ hub_plain shape u t l answer left acts goes up none = by_log then_.hub.session r
         let few = turned.few none in
         let many = turned.many some in
         let short : length (heard then_.transcript.server) ≤ 6 = subst (λ (xs : List Turn). length (heard xs) ≤ 6) (sym now) (heard_short answer few) in
-        let plain = open_heard (asks_of shape) (answers_of shape) Responder (swapped (sides_of (lane_core t.lane) then_.transcript)) (acts.talks.talks B) up (hub.opened some) short in
+        let plain = open_heard (asks_of shape) (answers_of shape) Responder (swapped (sides_of (lane_core t.lane) then_.transcript)) (acts.two_ends.two_ends B) up (hub.opened some) short in
         record { said_plain = said_same answer few many; heard_plain = subst (λ (xs : List Turn). Plain (heard xs)) now plain; front = front }
 
 -- an end in session has a peer that is up
@@ -290,7 +290,7 @@ hub_ways shape u t l answer left acts ways other up some = by_log l.hub.session 
     same = (turns_at B l.transcript answer).theirs
 
     front : IsFront (heard (turns_now answer l.transcript.server)) (said l.transcript.client)
-    front = subst (λ (xs : List Turn). IsFront (heard xs) (said l.transcript.client)) now (subst (λ (xs : List Turn). IsFront (heard then_.transcript.server) (said xs)) same (acts.talks.front up))
+    front = subst (λ (xs : List Turn). IsFront (heard xs) (said l.transcript.client)) now (subst (λ (xs : List Turn). IsFront (heard then_.transcript.server) (said xs)) same (acts.two_ends.front up))
 
     v : SessionLog
     v = or_new l.guest.session
@@ -323,28 +323,28 @@ given_same : (given : Given) (l : EndLog) → (after_given given l).session ≡ 
 given_same given l = grind arith
 
 pub acts_of : (shape : NetShape) (e : End) (u t : PortState) (l : PortLog) (answer : NetAnswer) → Finds shape u l → (step : EndSteps e u.lane answer t.lane)
-    → PortCounts shape t (after l (OnLane (Steps e answer))) → PortTalks shape (lane_core t.lane) (after l (OnLane (Steps e answer))) → Acts shape e u t l answer step.left
-acts_of shape e u t l answer finds step counts talks = record { finds = finds; step = step.step; now = step_now e u.lane t.lane answer step; counts = counts; talks = talks }
+    → PortCounts shape t (after l (OnLane (Steps e answer))) → PortTwoEnds shape (lane_core t.lane) (after l (OnLane (Steps e answer))) → Acts shape e u t l answer step.left
+acts_of shape e u t l answer finds step counts two_ends = record { finds = finds; step = step.step; now = step_now e u.lane t.lane answer step; counts = counts; two_ends = two_ends }
 
 lane_ways : (shape : NetShape) (u t : PortState) (l : PortLog) (event : NetEvent) → OfQueue u event → Finds shape u l → NetLaneStep u.lane event t.lane → (moved_on l.wire (on_wire event)).forged ≡ false
-    → PortCounts shape t (after l (OnLane event)) → PortTalks shape (lane_core t.lane) (after l (OnLane event)) → WaysStand u.lane l → WaysStand t.lane (after l (OnLane event))
-lane_ways shape u t l (Steps A answer) of_queue finds step clean counts talks ways = guest_ways shape u t l answer step.left (acts_of shape A u t l answer finds step counts talks) ways
-lane_ways shape u t l (Steps B answer) of_queue finds step clean counts talks ways = hub_ways shape u t l answer step.left (acts_of shape B u t l answer finds step counts talks) ways
-lane_ways shape u t l (Asked A lost) of_queue finds step clean counts talks ways = λ up other some. absurd (some refl)
-lane_ways shape u t l (Asked B lost) of_queue finds step clean counts talks ways =
+    → PortCounts shape t (after l (OnLane event)) → PortTwoEnds shape (lane_core t.lane) (after l (OnLane event)) → WaysStand u.lane l → WaysStand t.lane (after l (OnLane event))
+lane_ways shape u t l (Steps A answer) of_queue finds step clean counts two_ends ways = guest_ways shape u t l answer step.left (acts_of shape A u t l answer finds step counts two_ends) ways
+lane_ways shape u t l (Steps B answer) of_queue finds step clean counts two_ends ways = hub_ways shape u t l answer step.left (acts_of shape B u t l answer finds step counts two_ends) ways
+lane_ways shape u t l (Asked A lost) of_queue finds step clean counts two_ends ways = λ up other some. absurd (some refl)
+lane_ways shape u t l (Asked B lost) of_queue finds step clean counts two_ends ways =
     λ up other some. never_alone shape u l _ finds some (sym (ap (λ (x : NetLaneState). x.wire.wire.end_a) step.1) ∙ up)
-lane_ways shape u t l (Ticked queued lost) of_queue finds step clean counts talks ways = λ up other some. absurd (some refl)
-lane_ways shape u t l (Gives A given) of_queue finds step clean counts talks ways =
+lane_ways shape u t l (Ticked queued lost) of_queue finds step clean counts two_ends ways = λ up other some. absurd (some refl)
+lane_ways shape u t l (Gives A given) of_queue finds step clean counts two_ends ways =
     λ up other some.
     subst (λ (o : Option SessionLog). Ways l.shape.slots (said l.transcript.client) (heard l.transcript.client) (said l.transcript.server) (heard l.transcript.server) (or_new o) (or_new l.hub.session))
     (sym (given_same given l.guest))
     (ways (sym (ap (λ (x : NetLaneState). x.wire.wire.end_a) step.1) ∙ up) (sym (ap (λ (x : NetLaneState). x.wire.wire.end_b) step.1) ∙ other) (λ none. some (given_same given l.guest ∙ none)))
-lane_ways shape u t l (Gives B given) of_queue finds step clean counts talks ways = absurd of_queue
-lane_ways shape u t l (Loses A packet) of_queue finds step clean counts talks ways =
+lane_ways shape u t l (Gives B given) of_queue finds step clean counts two_ends ways = absurd of_queue
+lane_ways shape u t l (Loses A packet) of_queue finds step clean counts two_ends ways =
     λ up other some. ways (sym (ap (λ (x : NetLaneState). x.wire.wire.end_a) step.1) ∙ up) (sym (ap (λ (x : NetLaneState). x.wire.wire.end_b) step.1) ∙ other) some
-lane_ways shape u t l (Injects e packet) of_queue finds step clean counts talks ways = true_false clean
-lane_ways shape u t l (Pokes e at bytes) of_queue finds step clean counts talks ways = true_false clean
-lane_ways shape u t l _ of_queue finds step clean counts talks ways =
+lane_ways shape u t l (Injects e packet) of_queue finds step clean counts two_ends ways = true_false clean
+lane_ways shape u t l (Pokes e at bytes) of_queue finds step clean counts two_ends ways = true_false clean
+lane_ways shape u t l _ of_queue finds step clean counts two_ends ways =
     λ up other some. ways (sym (ap (λ (x : NetLaneState). x.wire.wire.end_a) step.1) ∙ up) (sym (ap (λ (x : NetLaneState). x.wire.wire.end_b) step.1) ∙ other) some
 
 -- ALONG EVERY RUN
@@ -364,7 +364,7 @@ ways_step shape is s l (OnLane event) t had step =
           let wire : t.lane.wire.forged ≡ false = ap (λ (w : WireLog). w.forged) kept.counts.wire ∙ clean in
           let was : l.wire.forged ≡ false = was_clean l.wire event clean in
           lane_ways shape (before event s) t l event (before_queue event s step.0) (finds_before shape s l event is had.kept was) step.1 clean kept.counts
-          (port_talks shape t (after l (OnLane event)) is kept.counts wire) (ways_before event s l (had.ways was));
+          (port_two_ends shape t (after l (OnLane event)) is kept.counts wire) (ways_before event s l (had.ways was));
     }
 ways_step shape is s l (Receives frame) t had step =
     let lane : t.lane ≡ s.lane = ap (λ (x : PortState). x.lane) step.2 in

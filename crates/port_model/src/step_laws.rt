@@ -6,6 +6,7 @@ ghost use Rattle.vio_tag.specs.declared.cause.Cause.{Cause};
 ghost use Rattle.channel_model.specs.Seeing.{Seen};
 ghost use Rattle.cookie_copy.specs.Reach.{Reach};
 ghost use Rattle.channel_model.specs.WireEvent.{ByStep, giver};
+ghost use Rattle.dring.specs.Slots.{done_state};
 ghost use Rattle.port_model.specs.Groups.{groups_after, is_in, with_groups, without_groups};
 ghost use Rattle.port_model.specs.GroupSets.{ComesOf, IsRefused, Once};
 ghost use Rattle.port_model.specs.NetEndRule.{NetRule};
@@ -53,7 +54,7 @@ pub fn lists_of_groups_are_sets()
 /// Either each is DONE. Or it finds one that isn't, with its state, and each before it is DONE.
 pub fn slots_are_looked_at_in_ring_order()
     ensures none { (slots : ℕ) (memory : List ℕ) (number count i : ℕ) → first_undone slots memory number count ≡ None → i < count
-        → slot_state ((number + i) % slots) memory ≡ 4 }
+        → slot_state ((number + i) % slots) memory ≡ done_state }
     ensures first { (slots : ℕ) (memory : List ℕ) (number count : ℕ) (cause : Cause) → first_undone slots memory number count ≡ Some cause
         → FirstUndone slots memory number count cause }
 {}

@@ -12,7 +12,7 @@ use Rattle.lane_kinds.specs.Settles.{GoesOn, RunsOut, TicksBehind, begin, entrie
 use Rattle.world_parts.specs.disk_model.DiskEvent.{DiskEvent}
 use Rattle.world_parts.specs.disk_model.LaneState.{LaneState}
 use Rattle.world_parts.specs.port_model.PortState.{PortState}
-use Rattle.world_parts.proofs.switch_laws.Turns.{silent_calm}
+use Rattle.world_parts.proofs.switch_laws.PortTurns.{silent_calm}
 use Rattle.world_parts.specs.switch_laws.Events.{SwitchEvent}
 use Rattle.world_parts.specs.switch_laws.Ports.{ports, waits_on as port_waits}
 use Rattle.world_parts.proofs.world_laws.DiskLaws.{disk_moves}

@@ -22,7 +22,7 @@ use Rattle.lane_kinds.specs.Laws.{Ends, FrontsLead, FrontsLeadWhere, Keeps, Lead
 use Rattle.lane_kinds.specs.Settles.{GoesOn, SettlePart, Settles, begin, entries_of_rounds}
 use Rattle.world_parts.specs.port_model.NetEvent.{Ticked}
 use Rattle.world_parts.specs.port_model.PortState.{OnLane, PortState}
-use Rattle.world_parts.proofs.switch_laws.Turns.{calm_gives, silence}
+use Rattle.world_parts.proofs.switch_laws.PortTurns.{calm_gives, silence}
 use Rattle.world_parts.specs.switch_laws.Events.{OnPort, SwitchEvent, SwitchStep}
 use Rattle.world_parts.specs.switch_laws.Ports.{IsStepOf, ports}
 use Rattle.world_parts.proofs.world_laws.DiskLaws as disk_laws

@@ -26,7 +26,7 @@ use Rattle.world_parts.specs.port_model.PortMay.{PortMay}
 use Rattle.world_parts.specs.port_model.PortState.{OnLane, PortEvent, PortState, PortStep, fresh_port}
 use Rattle.world_parts.proofs.switch_laws.Resting.{TwoCalm, finishes, two_calm}
 use Rattle.world_parts.proofs.switch_laws.Steps.{run_on_port}
-use Rattle.world_parts.proofs.switch_laws.Turns.{calm_gives}
+use Rattle.world_parts.proofs.switch_laws.PortTurns.{calm_gives}
 use Rattle.world_parts.specs.switch_laws.Events.{OnPort, SwitchEvent, SwitchStep, at_port}
 use Rattle.world_parts.specs.switch_laws.Ports.{is_calm, ports}
 use Rattle.world_parts.specs.world_laws.Settle.{OfPort, SettleEntry}

@@ -25,7 +25,7 @@ use Rattle.world_parts.specs.port_model.NetLaneStep.{is_finished}
 use Rattle.world_parts.specs.port_model.PortLog.{PortLog, after, no_events}
 use Rattle.world_parts.specs.port_model.PortState.{OnLane, PortEvent, PortState, PortStep, Receives, fresh_port}
 use Rattle.world_parts.proofs.switch_laws.Steps.{run_on_port}
-use Rattle.world_parts.proofs.switch_laws.Turns.{silent_calm}
+use Rattle.world_parts.proofs.switch_laws.PortTurns.{silent_calm}
 use Rattle.world_parts.specs.switch_laws.Events.{OnPort, SwitchEvent, SwitchStep, Switched, at_port}
 use Rattle.world_parts.specs.switch_laws.Ports.{is_calm, ports, waits_on}
 use Rattle.world_parts.specs.disk_model.LaneState.{LaneState}

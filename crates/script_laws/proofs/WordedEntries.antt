@@ -41,10 +41,10 @@ Any event = ⊤
 lane_named : (all : Declared) (x : Meaning) → AllOf Any x → Holds (Names all (about x)) x
 lane_named all x any = grind (arith, by_events)
 
-abbrev Says : Declared → Meaning → SettleEntry → Type 0
-Says all x m = IsOfDeclared (length all.disks) (length all.ports) m → IsNamed all x
+abbrev IsNamedThere : Declared → Meaning → SettleEntry → Type 0
+IsNamedThere all x m = IsOfDeclared (length all.disks) (length all.ports) m → IsNamed all x
 
-named : (all : Declared) (x : Meaning) → Holds (Says all x) x
+named : (all : Declared) (x : Meaning) → Holds (IsNamedThere all x) x
 named all (AtWire e event) = lane_named all (AtWire e event) tt
 named all (AtServer e event) = lane_named all (AtServer e event) tt
 named all (AtLane k event) = lane_named all (AtLane k event) tt
@@ -103,7 +103,7 @@ module _ (disks ports : ℕ) where
 entry_words : (all : Declared) (asked : Line) (e : Entry) (m : SettleEntry) → world_event asked e ≡ Some m
     → IsOfDeclared (length all.disks) (length all.ports) m → HasWords all e
 entry_words all asked e m is told = (
-  entry_has (Says all (meaning e)) asked e m (named all (meaning e)) is told,
+  entry_has (IsNamedThere all (meaning e)) asked e m (named all (meaning e)) is told,
   values (length all.disks) (length all.ports) asked e m is told,
 )
 

@@ -11,8 +11,8 @@ ghost use Rattle.script_laws.specs.Headline.{Headline};
 ghost use Rattle.world_parts.specs.Declared.{bytes_needed, world_of};
 ghost use Rattle.world_parts.specs.Script.{FitsScript, ScriptParts};
 
-/// For every script over at most eight disks, beside at most eight ports, whatever it resets, stops, restarts, loses
-/// and forges, and wherever its run ended: each disk's lane is lawful. At the end and behind each front of the entries
+/// For every script over at most eight disks and eight ports, whatever it resets, stops, restarts, loses and forges,
+/// and wherever its run ended: each disk's lane is lawful. At the end and behind each front of the entries
 /// it stands as its log says. Where nobody forged it until then, an end that is up heard in order what the other said.
 /// Sessions that are open are one, whose counts and slots stand in their order. After each settle that ends settled
 /// both its ends are still. Where its server runs and nobody forged it, it is finished: its client's session is open,

@@ -17,7 +17,7 @@ use Rattle.port_laws.specs.PortState.{OnLane, PortState}
 use Rattle.switch_laws.specs.Events.{OnPort, SwitchEvent, Switched}
 use Rattle.switch_laws.specs.PortCounts.{is_end, moves, port_blocked, port_stuck, port_ticks, stuck_on}
 use Rattle.switch_laws.specs.Ports.{IsStepOf, IsTurn, OfPort, SwitchEntry, is_calm, of_ports, ports, switch}
-use Rattle.switch_laws.proofs.Turns.{silent_calm, turn_steps}
+use Rattle.switch_laws.proofs.PortTurns.{silent_calm, turn_steps}
 
 -- WHAT MOVES
 loud_moves : (k : ℕ) (event : SwitchEvent) → is_calm event ≡ false → 1 ≤ moves (OfPort k event)

@@ -10,7 +10,7 @@ use Rattle.port_laws.specs.PortState.{PortState}
 use Rattle.switch_laws.specs.Events.{SwitchEvent}
 use Rattle.switch_laws.specs.Ports.{OfPort, SwitchEntry, of_ports, ports, switch}
 use Rattle.switch_laws.specs.Run.{SwitchMoves}
-use Rattle.switch_laws.proofs.Turns.{silence}
+use Rattle.switch_laws.proofs.PortTurns.{silence}
 
 one_entry : (k : ℕ) (lanes : List PortState) (event : SwitchEvent) (behind : List PortState) → EntryOf ports k lanes event behind → SwitchMoves lanes (OfPort k event) behind
 one_entry k lanes event behind at = at.step

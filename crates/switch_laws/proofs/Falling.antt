@@ -22,7 +22,7 @@ use Rattle.switch_laws.specs.Reached.{IsClean}
 use Rattle.switch_laws.specs.Remaining.{port_raises, port_remaining}
 use Rattle.switch_laws.proofs.Resting.{finishes, turn_wire, two_calm}
 use Rattle.switch_laws.proofs.Steps.{Given, Nothing, One, clean_step, given, given_clean, reached_step}
-use Rattle.switch_laws.proofs.Turns.{calm_gives, turn_steps}
+use Rattle.switch_laws.proofs.PortTurns.{calm_gives, turn_steps}
 
 -- A STEP OF AN END
 not_calm : (e : End) (answer : NetAnswer) → is_calm (OnPort (OnLane (Steps e answer))) ≡ false → IsCalm answer → ⊥

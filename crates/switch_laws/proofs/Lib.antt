@@ -1,4 +1,4 @@
-pub mod Turns
+pub mod PortTurns
 pub mod Counting
 pub mod Moving
 pub mod Steps

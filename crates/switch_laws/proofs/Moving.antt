@@ -7,7 +7,7 @@ use Rattle.lane_kinds.specs.Settles.{SettlePart}
 use Rattle.port_laws.specs.PortState.{PortState}
 use Rattle.switch_laws.specs.Events.{SwitchStep}
 use Rattle.switch_laws.specs.Ports.{SwitchEntry, of_ports, ports, said_port, switch}
-use Rattle.switch_laws.proofs.Turns.{silence}
+use Rattle.switch_laws.proofs.PortTurns.{silence}
 
 pub reads : Reads ports of_ports said_port
 reads = record { of_lane = λ j k event. refl; of_left = λ j k. refl; of_answer = λ j. refl }

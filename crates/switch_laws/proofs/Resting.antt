@@ -21,7 +21,7 @@ use Rattle.switch_laws.specs.Events.{OnPort, SwitchEvent, SwitchStep}
 use Rattle.switch_laws.specs.Ports.{IsStepOf, is_calm, ports, tick, waits_on}
 use Rattle.switch_laws.specs.Reached.{IsLossless, IsReached, IsUnforged}
 use Rattle.switch_laws.proofs.Steps.{given_lossless, lossless_step, reached_step, was_unforged}
-use Rattle.switch_laws.proofs.Turns.{calm_gives, turn_steps}
+use Rattle.switch_laws.proofs.PortTurns.{calm_gives, turn_steps}
 
 -- A CALM STEP of an end
 record Calmly (e : End) (s : PortState) (event : SwitchEvent) (t : PortState) : Type 0 where

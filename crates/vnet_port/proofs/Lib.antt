@@ -1,6 +1,6 @@
 pub mod Standing
-pub mod Puts
-pub mod Says
+pub mod SentSteps
+pub mod SaidSteps
 pub mod FetchEnds
 pub mod LinkTakes
 pub mod Heard

@@ -17,7 +17,7 @@ use Rattle.disk_model.specs.ClientState.{ClientSession, ClientState}
 use Rattle.disk_model.specs.ClientTaking as taking
 use Rattle.disk_model.specs.DiskEvent.{Accepted, Admitted, Asks, Calm, DiskEvent, Full, Off, OnWire, Refused, Calms, Started, Stopped, Switched, Switches, Worked, Works}
 use Rattle.disk_model.specs.LaneState.{LaneState}
-use Rattle.disk_model.specs.LaneStep.{EndOnWire, LaneStep, ResetBy, RestStep, TurnStep, WireStep, WorkStep}
+use Rattle.disk_model.specs.LaneStep.{EndOnWire, LaneStep, ResetBy, CalmStep, TurnStep, WireStep, WorkStep}
 use Rattle.channel_model.specs.Seeing.{seen}
 use Rattle.lane_laws.proofs.Requesting.{held_kept, sent_kept}
 use Rattle.lane_laws.proofs.RingPages.{same_pages}
@@ -111,7 +111,7 @@ next_turns s Stopped t step = ap (λ (x : LaneState). x.client.next_id) step.1
 next_turns s Started t step = ap (λ (x : LaneState). x.client.next_id) step.1
 next_turns s Off t step = ap (λ (x : LaneState). x.client.next_id) step.1
 
-next_rests : (s : LaneState) (event : Calm) (t : LaneState) → RestStep s event t → t.client.next_id ≡ s.client.next_id
+next_rests : (s : LaneState) (event : Calm) (t : LaneState) → CalmStep s event t → t.client.next_id ≡ s.client.next_id
 next_rests s event t step = grind arith
 
 next_asks : (s : LaneState) (event : Admitted) (t : LaneState) → LaneStep s (Asks event) t → t.client.next_id ≡ next_behind (Asks event) s.client.next_id

@@ -8,7 +8,6 @@ pub mod Moves
 pub mod Along
 pub mod Begun
 pub mod World
-pub mod Lines
 pub mod WorldAlong
 pub mod Requests
 pub mod Accepted

@@ -7,7 +7,7 @@ use Rattle.port_model.specs.NetEndState.{Activity, NetEndState, NetSession}
 use Rattle.std.specs.Prelude.{is_none}
 use Rattle.vio_tag.specs.declared.message.Message.{Message}
 use Rattle.vnet_port.specs.Putting.{put_of}
-use Rattle.vnet_port.proofs.Says.{answer_steps}
+use Rattle.vnet_port.proofs.SaidSteps.{answer_steps}
 use Rattle.vnet_port.specs.contracts.port_end.PortEnd.{the_view}
 use Rattle.port_frames.specs.Memories.{reach_over}
 use Rattle.vnet_port.specs.Stepping.{Steps, rule_of}

@@ -4,7 +4,7 @@ use Rattle.ldc_link.specs.declared.answers.SendOut.TheVariants as send
 use Rattle.ldc_queue.specs.declared.end.End.{End}
 use Rattle.port_model.specs.NetEndState.{NetEndState}
 use Rattle.channel_model.specs.EndPuts.{put_opens}
-use Rattle.vnet_port.proofs.Puts.{handshake_owes, put_sent}
+use Rattle.vnet_port.proofs.SentSteps.{handshake_owes, put_sent}
 use Rattle.vnet_port.specs.declared.putting.PutOf.{PutOf}
 use Rattle.vnet_port.specs.Putting.{MayOpen, PutsHeld, kind_of, next_put, noted}
 use Rattle.vnet_port.specs.declared.net_out.NetOut.TheVariants as out

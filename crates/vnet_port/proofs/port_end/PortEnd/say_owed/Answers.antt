@@ -2,7 +2,7 @@ use Rattle.std.proofs.Common.{true, Option, ap, sym}
 use Rattle.std.specs.Prelude.{is_none}
 use Rattle.vio_tag.specs.declared.message.Message.{Message}
 use Rattle.vnet_port.specs.Putting.{put_of}
-use Rattle.vnet_port.proofs.Says.{owed_steps}
+use Rattle.vnet_port.proofs.SaidSteps.{owed_steps}
 use Rattle.vnet_port.proofs.port_end.PortEnd.say_owed.Goals as goal
 
 pub say-requires-clause-whose : goal.say-requires-clause-whose

@@ -6,7 +6,7 @@ use Rattle.port_model.specs.NetEndPutting.{groups_answer}
 use Rattle.std.specs.Prelude.{is_none}
 use Rattle.vio_tag.specs.declared.message.Message.{Message}
 use Rattle.vnet_port.specs.Putting.{put_of}
-use Rattle.vnet_port.proofs.Says.{own_steps}
+use Rattle.vnet_port.proofs.SaidSteps.{own_steps}
 use Rattle.vnet_port.specs.contracts.port_end.PortEnd.{the_view}
 use Rattle.vnet_port.specs.Stepping.{StepsAlone, rule_of}
 use Rattle.vnet_port.proofs.port_end.PortEnd.say_reply.Goals as goal

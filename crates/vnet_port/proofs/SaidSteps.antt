@@ -9,7 +9,7 @@ use Rattle.port_model.specs.NetEndPutting.{answer, answers, holding, holding_own
 use Rattle.port_model.specs.NetEndRule.{Fetches, NetRule, Puts, Says}
 use Rattle.port_model.specs.NetEndState.{Activity, NetEndState, NetSession, with_session}
 use Rattle.vnet_port.specs.declared.net_out.NetOut.{NetOut}
-use Rattle.vnet_port.proofs.Puts.{puts_steps}
+use Rattle.vnet_port.proofs.SentSteps.{puts_steps}
 use Rattle.vnet_port.specs.Putting.{PutsHeld}
 use Rattle.port_frames.specs.Memories.{reach_over}
 use Rattle.vnet_port.specs.Stepping.{Steps, StepsAlone, rule_of}

@@ -44,15 +44,15 @@ use Rattle.port_laws.proofs.GroupsLearnt.{Fresh, learnt}
 use Rattle.port_laws.proofs.HearsIn.{Hears, OwnRead, hears_in, mine_agreed}
 use Rattle.port_laws.proofs.MessageDoes.{Does, TakeDoes, message_does}
 use Rattle.port_laws.proofs.Outbox.{is_groups, listed, low_fits, low_none, outbox, unheard}
-use Rattle.port_laws.proofs.PortTalks.{PortTalks, answers_of, asks_of}
+use Rattle.port_laws.proofs.PortTwoEnds.{PortTwoEnds, answers_of, asks_of}
 use Rattle.port_laws.proofs.RingActs.{Acts, acting_at, acts_up_at, open_both}
 use Rattle.port_laws.proofs.RingEvents.{Goes, theirs_now, turns_at, turns_now, wire_now}
 use Rattle.port_laws.proofs.SessionsHeard.{Grown, heard_grown}
 use Rattle.port_laws.proofs.StepCounts.{Acting}
 use Rattle.port_laws.proofs.TakesIn.{HubLearns, HubNotes, InSession, hub_notes, in_own_session, next_read}
-use Rattle.port_laws.proofs.Talking.{TalkIn, hub_hears, hub_learns, reply_in, same_talk}
-use Rattle.port_laws.proofs.TalkGuest.{Between, TalkStands, guest_sid, hub_agreed, low_outbox, one_session, same_outbox, shut_unsaid}
-use Rattle.port_laws.proofs.TalkSteps.{HubForms, hub_forms, outbox_heard, outbox_put}
+use Rattle.port_laws.proofs.GroupsExchanged.{ExchangeIn, hub_hears, hub_learns, reply_in, same_exchange}
+use Rattle.port_laws.proofs.ExchangeGuest.{Between, ExchangeStands, guest_sid, hub_agreed, low_outbox, one_session, same_outbox, shut_unsaid}
+use Rattle.port_laws.proofs.ExchangeSteps.{HubForms, hub_forms, outbox_heard, outbox_put}
 use Rattle.port_laws.proofs.TookCounts.{free_empty, heard_send, session_open, session_up}
 use Rattle.port_laws.proofs.WayActs.{ClosedFits}
 use Rattle.port_laws.proofs.WayMoves.{EachLow, low_rest}
@@ -73,7 +73,7 @@ module _ (shape : NetShape) (u t : PortState) (l : PortLog) (left : NetLeft) (p 
 
   quiet_now : (now_is : NetSession) → left.end.session ≡ Some now_is → left.end.groups ≡ u.lane.hub.groups → left.end.handshake ≡ u.lane.hub.handshake → left.end.link.to_send ≡ u.lane.hub.link.to_send
       → now_is.reply ≡ q.reply → Now l.transcript.server
-  quiet_now now_is is groups handshake sends reply = grind (arith, same_outbox, same_talk)
+  quiet_now now_is is groups handshake sends reply = grind (arith, same_outbox, same_exchange)
 
   forms_now : (held : NetEndState) → Acting Responder shape.slots u.queue u.lane.hub l.hub l.transcript.server → MayForm Responder sid u.lane.hub q
       → net_holds (port_rule Responder u.lane.hub (seen_at B u.lane)) u.lane.hub (reach_of B u.lane) ≡ Some held
@@ -82,10 +82,10 @@ module _ (shape : NetShape) (u t : PortState) (l : PortLog) (left : NetLeft) (p 
       hub_forms u.lane.hub held q sid u.lane.guest.groups p (outbox u.lane.guest l.transcript.client l.transcript.server) l.transcript.client l.transcript.server session
       (formed_by Responder sid u.lane.hub (seen_at B u.lane) (reach_of B u.lane) (port_rule Responder u.lane.hub (seen_at B u.lane)) held q may refl holds) was
 
-  took_now : (packet : List ℕ) (opens : Bool) → Acting Responder shape.slots u.queue u.lane.hub l.hub l.transcript.server → PortTalks shape (lane_core u.lane) l → IsUp A u.lane.wire.wire → IsUp B u.lane.wire.wire
+  took_now : (packet : List ℕ) (opens : Bool) → Acting Responder shape.slots u.queue u.lane.hub l.hub l.transcript.server → PortTwoEnds shape (lane_core u.lane) l → IsUp A u.lane.wire.wire → IsUp B u.lane.wire.wire
       → q.reply ≡ None → IsFront (heard (Heard packet ∷ l.transcript.server)) (said l.transcript.client) → NetTakes Responder u.lane.hub u.lane.hub_memory packet (GoesOn left.end opens left.own)
       → Now (Heard packet ∷ l.transcript.server)
-  took_now packet opens acting talks up other_up listens front takes =
+  took_now packet opens acting two_ends up other_up listens front takes =
       by_hears (hears_in Responder u.lane.hub l.transcript.server u.lane.hub_memory packet (GoesOn left.end opens left.own) acting.ends (session_up Responder u.lane.hub l.transcript.server q acting.ends session) takes)
     where
       opened : is_some u.lane.hub.session ≡ true
@@ -98,7 +98,7 @@ module _ (shape : NetShape) (u t : PortState) (l : PortLog) (left : NetLeft) (p 
           let here : Now l.transcript.server =
           quiet_now q (ap (λ (x : NetEndState). x.session) same ∙ session) (ap (λ (x : NetEndState). x.groups) same) (ap (λ (x : NetEndState). x.handshake) same)
           (ap (λ (x : NetEndState). x.link.to_send) same ∙ none.sends) refl in
-          subst (λ (xs : List (List ℕ)). TalkIn sid u.lane.guest.groups p (unheard (said l.transcript.client) xs ++ listed (unsaid u.lane.guest))
+          subst (λ (xs : List (List ℕ)). ExchangeIn sid u.lane.guest.groups p (unheard (said l.transcript.client) xs ++ listed (unsaid u.lane.guest))
           (outbox left.end l.transcript.server l.transcript.client) left.end.session left.end.groups) (sym none.messages) here
       by_hears (inr (inr refused)) = let never : GoesOn left.end opens left.own ≡ Resets refused.cause = refused.is in absurd (cc never)
       by_hears (inr (inl one)) = by_notes noted.1
@@ -112,16 +112,16 @@ module _ (shape : NetShape) (u t : PortState) (l : PortLog) (left : NetLeft) (p 
           first : outbox u.lane.guest l.transcript.client l.transcript.server ≡ one.bytes ∷ asks
           first = outbox_heard u.lane.guest l.transcript.client l.transcript.server packet one.bytes one.messages grown
 
-          before : TalkIn sid u.lane.guest.groups p (one.bytes ∷ asks) (outbox u.lane.hub l.transcript.server l.transcript.client) u.lane.hub.session u.lane.hub.groups
-          before = subst (λ (xs : List (List ℕ)). TalkIn sid u.lane.guest.groups p xs (outbox u.lane.hub l.transcript.server l.transcript.client) u.lane.hub.session u.lane.hub.groups) first was
+          before : ExchangeIn sid u.lane.guest.groups p (one.bytes ∷ asks) (outbox u.lane.hub l.transcript.server l.transcript.client) u.lane.hub.session u.lane.hub.groups
+          before = subst (λ (xs : List (List ℕ)). ExchangeIn sid u.lane.guest.groups p xs (outbox u.lane.hub l.transcript.server l.transcript.client) u.lane.hub.session u.lane.hub.groups) first was
 
-          own : OwnRead one.bytes (talks.talks B).meets.handshakes.sid
-          own = next_read (asks_of shape) (answers_of shape) Responder Initiator (swapped (sides_of (lane_core u.lane) l.transcript)) one.bytes sid (talks.talks B) other_up opened up grown before.asks_fit.0
+          own : OwnRead one.bytes (two_ends.two_ends B).meets.handshakes.sid
+          own = next_read (asks_of shape) (answers_of shape) Responder Initiator (swapped (sides_of (lane_core u.lane) l.transcript)) one.bytes sid (two_ends.two_ends B) other_up opened up grown before.asks_fit.0
 
           in_it : InSession Responder (record u.lane.hub { link = one.link }) q u.lane.hub_memory own.message (GoesOn left.end opens left.own)
           in_it =
-              in_own_session Responder u.lane.hub q u.lane.hub_memory packet l.transcript.server (GoesOn left.end opens left.own) (talks.talks B).meets.handshakes.sid one session
-              (mine_agreed (asks_of shape) (answers_of shape) Responder (swapped (sides_of (lane_core u.lane) l.transcript)) (talks.talks B) other_up opened).knows own
+              in_own_session Responder u.lane.hub q u.lane.hub_memory packet l.transcript.server (GoesOn left.end opens left.own) (two_ends.two_ends B).meets.handshakes.sid one session
+              (mine_agreed (asks_of shape) (answers_of shape) Responder (swapped (sides_of (lane_core u.lane) l.transcript)) (two_ends.two_ends B) other_up opened).knows own
 
           does : Does Responder (record u.lane.hub { link = one.link }) q u.lane.hub_memory own.message.subtype own.message.body left.end opens left.own
           does =
@@ -134,11 +134,11 @@ module _ (shape : NetShape) (u t : PortState) (l : PortLog) (left : NetLeft) (p 
               (λ named. learnt u.lane.guest.groups u.lane.hub.groups one.bytes fresh before.front (before.tells.0 named)) in_it.is does.does
 
           with_out : (known : List (List ℕ)) → left.end.groups ≡ known → left.end.handshake ≡ u.lane.hub.handshake → left.end.link.to_send ≡ u.lane.hub.link.to_send
-              → TalkIn sid u.lane.guest.groups p asks (outbox u.lane.hub l.transcript.server l.transcript.client) left.end.session known → Now (Heard packet ∷ l.transcript.server)
-          with_out known groups handshake sends talk =
-              subst (λ (xs : List (List ℕ)). TalkIn sid u.lane.guest.groups p asks (outbox left.end l.transcript.server l.transcript.client) left.end.session xs) (sym groups)
-              (subst (λ (xs : List (List ℕ)). TalkIn sid u.lane.guest.groups p asks xs left.end.session known)
-              (sym (same_outbox u.lane.hub left.end l.transcript.server l.transcript.client handshake sends)) talk)
+              → ExchangeIn sid u.lane.guest.groups p asks (outbox u.lane.hub l.transcript.server l.transcript.client) left.end.session known → Now (Heard packet ∷ l.transcript.server)
+          with_out known groups handshake sends exchange =
+              subst (λ (xs : List (List ℕ)). ExchangeIn sid u.lane.guest.groups p asks (outbox left.end l.transcript.server l.transcript.client) left.end.session xs) (sym groups)
+              (subst (λ (xs : List (List ℕ)). ExchangeIn sid u.lane.guest.groups p asks xs left.end.session known)
+              (sym (same_outbox u.lane.hub left.end l.transcript.server l.transcript.client handshake sends)) exchange)
 
           by_notes : HubNotes (record u.lane.hub { link = one.link }) left.end q noted.0 one.bytes ⊎ HubLearns (record u.lane.hub { link = one.link }) left.end noted.0 one.bytes
               → Now (Heard packet ∷ l.transcript.server)
@@ -174,31 +174,31 @@ hub_in shape u t l (Frame frame) left p q acts goes session guest fresh up other
     (ap (λ (x : NetEndState). x.handshake) same) (ap (λ (x : NetEndState). x.link.to_send) same) (ap (λ (x : NetSession). x.reply) here)
 hub_in shape u t l Blocked left p q acts goes session guest fresh up other front was =
     let acting = acting_at shape B u l acts.finds other in
-    let agreed = hub_agreed shape u.lane l acts.finds.talks up (ap is_some guest) other (ap is_some session) in
-    let small = (guest_sid shape u.lane l acts.finds.talks up (ap is_some guest)).small in
+    let agreed = hub_agreed shape u.lane l acts.finds.two_ends up (ap is_some guest) other (ap is_some session) in
+    let small = (guest_sid shape u.lane l acts.finds.two_ends up (ap is_some guest)).small in
     let forms = forms_now shape u t l left p q session fresh was left.end acting
     (record { session = session; agreed = agreed; small = small; empty = λ quiet. free_empty Responder u.lane.hub l.transcript.server acting.ends quiet }) acts.step.0 in
-    subst (λ (xs : List (List ℕ)). TalkIn u.lane.guest.handshake.draft.sid u.lane.guest.groups p (outbox u.lane.guest l.transcript.client l.transcript.server)
-    (outbox left.end l.transcript.server l.transcript.client) left.end.session xs) (sym forms.groups_are) forms.talk
+    subst (λ (xs : List (List ℕ)). ExchangeIn u.lane.guest.handshake.draft.sid u.lane.guest.groups p (outbox u.lane.guest l.transcript.client l.transcript.server)
+    (outbox left.end l.transcript.server l.transcript.client) left.end.session xs) (sym forms.groups_are) forms.exchange
 hub_in shape u t l (Sent packet opens) left p q acts goes session guest fresh up other front was =
     let step = acts.step in
     let acting = acting_at shape B u l acts.finds other in
-    let agreed = hub_agreed shape u.lane l acts.finds.talks up (ap is_some guest) other (ap is_some session) in
-    let small = (guest_sid shape u.lane l acts.finds.talks up (ap is_some guest)).small in
+    let agreed = hub_agreed shape u.lane l acts.finds.two_ends up (ap is_some guest) other (ap is_some session) in
+    let small = (guest_sid shape u.lane l acts.finds.two_ends up (ap is_some guest)).small in
     let forms = forms_now shape u t l left p q session fresh was step.held acting
     (record { session = session; agreed = agreed; small = small; empty = λ quiet. free_empty Responder u.lane.hub l.transcript.server acting.ends quiet }) step.holds in
     let puts : PutsIt step.held left.end l.transcript.server packet =
     sends_own Responder shape.slots u.queue u.lane.hub l.hub l.transcript.server (seen_at B u.lane) u.lane.hub_memory (reach_of B u.lane) packet opens left forms.q acting step agreed.owed forms.session_is in
-    subst (λ (xs : List (List ℕ)). TalkIn u.lane.guest.handshake.draft.sid u.lane.guest.groups p (outbox u.lane.guest l.transcript.client l.transcript.server)
+    subst (λ (xs : List (List ℕ)). ExchangeIn u.lane.guest.handshake.draft.sid u.lane.guest.groups p (outbox u.lane.guest l.transcript.client l.transcript.server)
     (outbox left.end (Said packet ∷ l.transcript.server) l.transcript.client) left.end.session xs) (sym (puts.groups ∙ forms.groups_are))
-    (subst (λ (o : Option NetSession). TalkIn u.lane.guest.handshake.draft.sid u.lane.guest.groups p (outbox u.lane.guest l.transcript.client l.transcript.server)
+    (subst (λ (o : Option NetSession). ExchangeIn u.lane.guest.handshake.draft.sid u.lane.guest.groups p (outbox u.lane.guest l.transcript.client l.transcript.server)
     (outbox left.end (Said packet ∷ l.transcript.server) l.transcript.client) o u.lane.hub.groups) (sym puts.session)
-    (subst (λ (xs : List (List ℕ)). TalkIn u.lane.guest.handshake.draft.sid u.lane.guest.groups p (outbox u.lane.guest l.transcript.client l.transcript.server) xs step.held.session u.lane.hub.groups)
-    (sym (outbox_put step.held left.end l.transcript.server l.transcript.client packet puts (acts.finds.talks.front_a up))) forms.talk))
+    (subst (λ (xs : List (List ℕ)). ExchangeIn u.lane.guest.handshake.draft.sid u.lane.guest.groups p (outbox u.lane.guest l.transcript.client l.transcript.server) xs step.held.session u.lane.hub.groups)
+    (sym (outbox_put step.held left.end l.transcript.server l.transcript.client packet puts (acts.finds.two_ends.front_a up))) forms.exchange))
 hub_in shape u t l (Took packet opens) left p q acts goes session guest fresh up other front was =
     let says = says_of Responder u.lane.hub (seen_at B u.lane) (Takes packet) acts.step.0 in
     let listens : MayListen q = subst (λ (x : Option NetSession). IfOpen x MayListen) session says.2 in
-    took_now shape u t l left p q session fresh was packet opens (acting_at shape B u l acts.finds other) acts.finds.talks up other listens.0 front acts.step.1
+    took_now shape u t l left p q session fresh was packet opens (acting_at shape B u l acts.finds other) acts.finds.two_ends up other listens.0 front acts.step.1
 hub_in shape u t l _ left p q acts goes session guest fresh up other front was = absurd goes
 
 -- WITHOUT A SESSION
@@ -288,36 +288,36 @@ not_low : (m : List ℕ) → envelope_at m < 0x0042 → is_groups m ≡ false
 not_low m low = grind (arith, named_in)
 
 shut_same : (sid : ℕ) (groups : List (List ℕ)) (p : NetSession) (asks answers now : List (List ℕ)) (session after_session : Option NetSession) (known : List (List ℕ)) → EachLow answers → EachLow now
-    → reply_in session ≡ None → reply_in after_session ≡ None → TalkIn sid groups p asks answers session known → TalkIn sid groups p asks now after_session known
-shut_same sid groups p asks answers now session after_session known low low_now none none_now talk = grind (arith, low_fits, low_none)
+    → reply_in session ≡ None → reply_in after_session ≡ None → ExchangeIn sid groups p asks answers session known → ExchangeIn sid groups p asks now after_session known
+shut_same sid groups p asks answers now session after_session known low low_now none none_now exchange = grind (arith, low_fits, low_none)
 
 abbrev HeardAs : PortState → PortLog → NetSession → List (List ℕ) → Option NetSession → List (List ℕ) → Type 0
 HeardAs u l p now after_session messages =
-    TalkIn u.lane.guest.handshake.draft.sid u.lane.guest.groups p (unheard (said l.transcript.client) messages ++ listed (unsaid u.lane.guest)) now after_session u.lane.hub.groups
+    ExchangeIn u.lane.guest.handshake.draft.sid u.lane.guest.groups p (unheard (said l.transcript.client) messages ++ listed (unsaid u.lane.guest)) now after_session u.lane.hub.groups
 
 asks_now : (shape : NetShape) (u : PortState) (l : PortLog) (answer : NetAnswer) (p : NetSession) (now : List (List ℕ)) (after_session : Option NetSession) → Goes answer → reply_in after_session ≡ None
     → ClosedFits l.transcript.server l.transcript.client answer
-    → TalkIn u.lane.guest.handshake.draft.sid u.lane.guest.groups p (outbox u.lane.guest l.transcript.client l.transcript.server) now after_session u.lane.hub.groups
-    → TalkIn u.lane.guest.handshake.draft.sid u.lane.guest.groups p (outbox u.lane.guest l.transcript.client (turns_now answer l.transcript.server)) now after_session u.lane.hub.groups
-asks_now shape u l (Joined lost) p now after_session goes none fits talk = absurd goes
-asks_now shape u l (Reset cause packet lost) p now after_session goes none fits talk = absurd goes
-asks_now shape u l (Took packet opens) p now after_session goes none fits talk = by_ended (ended_by (half_heard l.transcript.server) packet) (heard_grown l.transcript.server packet)
+    → ExchangeIn u.lane.guest.handshake.draft.sid u.lane.guest.groups p (outbox u.lane.guest l.transcript.client l.transcript.server) now after_session u.lane.hub.groups
+    → ExchangeIn u.lane.guest.handshake.draft.sid u.lane.guest.groups p (outbox u.lane.guest l.transcript.client (turns_now answer l.transcript.server)) now after_session u.lane.hub.groups
+asks_now shape u l (Joined lost) p now after_session goes none fits exchange = absurd goes
+asks_now shape u l (Reset cause packet lost) p now after_session goes none fits exchange = absurd goes
+asks_now shape u l (Took packet opens) p now after_session goes none fits exchange = by_ended (ended_by (half_heard l.transcript.server) packet) (heard_grown l.transcript.server packet)
   where
     by_ended : (o : Option (List ℕ)) → Grown o (heard l.transcript.server) (heard (Heard packet ∷ l.transcript.server)) → HeardAs u l p now after_session (heard (Heard packet ∷ l.transcript.server))
-    by_ended None is = subst (HeardAs u l p now after_session) (sym is) talk
+    by_ended None is = subst (HeardAs u l p now after_session) (sym is) exchange
     by_ended (Some m) is =
         let front : IsFront (heard l.transcript.server ++ m ∷ []) (said l.transcript.client) = subst (λ (xs : List (List ℕ)). IsFront xs (said l.transcript.client)) is fits.front in
         let low : EachLow (m ∷ []) = low_rest (heard l.transcript.server) (m ∷ []) (subst EachLow is fits.heard_plain.low) in
         let first = outbox_heard u.lane.guest l.transcript.client l.transcript.server packet m is front in
         hub_hears u.lane.guest.handshake.draft.sid u.lane.guest.groups p (outbox u.lane.guest l.transcript.client (Heard packet ∷ l.transcript.server)) now after_session after_session u.lane.hub.groups m
         (not_low m low.0) refl
-        (subst (λ (xs : List (List ℕ)). TalkIn u.lane.guest.handshake.draft.sid u.lane.guest.groups p xs now after_session u.lane.hub.groups) first talk)
-asks_now shape u l _ p now after_session goes none fits talk = talk
+        (subst (λ (xs : List (List ℕ)). ExchangeIn u.lane.guest.handshake.draft.sid u.lane.guest.groups p xs now after_session u.lane.hub.groups) first exchange)
+asks_now shape u l _ p now after_session goes none fits exchange = exchange
 
 -- A STEP
-pub hub_talk : (shape : NetShape) (u t : PortState) (l : PortLog) (answer : NetAnswer) (left : NetLeft) → Acts shape B u t l answer left → Fresh [] u.lane.guest.groups → TalkStands u.lane l
-    → TalkStands t.lane (after l (OnLane (Steps B answer)))
-hub_talk shape u t l answer left acts fresh talk p up other some = as_now (by_session u.lane.hub.session refl)
+pub hub_exchange : (shape : NetShape) (u t : PortState) (l : PortLog) (answer : NetAnswer) (left : NetLeft) → Acts shape B u t l answer left → Fresh [] u.lane.guest.groups → ExchangeStands u.lane l
+    → ExchangeStands t.lane (after l (OnLane (Steps B answer)))
+hub_exchange shape u t l answer left acts fresh exchange p up other some = as_now (by_session u.lane.hub.session refl)
   where
     then_ : PortLog
     then_ = after l (OnLane (Steps B answer))
@@ -348,7 +348,7 @@ hub_talk shape u t l answer left acts fresh talk p up other some = as_now (by_se
     same = (turns_at B l.transcript answer).theirs
 
     front : IsFront (heard (turns_now answer l.transcript.server)) (said l.transcript.client)
-    front = subst (λ (xs : List Turn). IsFront (heard xs) (said l.transcript.client)) turns (subst (λ (xs : List Turn). IsFront (heard then_.transcript.server) (said xs)) same (acts.talks.front other))
+    front = subst (λ (xs : List Turn). IsFront (heard xs) (said l.transcript.client)) turns (subst (λ (xs : List Turn). IsFront (heard then_.transcript.server) (said xs)) same (acts.two_ends.front other))
 
     as_now : Between u.lane.guest left.end l.transcript.client (turns_now answer l.transcript.server) p → Between t.lane.guest t.lane.hub then_.transcript.client then_.transcript.server p
     as_now one =
@@ -358,10 +358,10 @@ hub_talk shape u t l answer left acts fresh talk p up other some = as_now (by_se
         (subst (λ (x : NetEndState). Between u.lane.guest x l.transcript.client (turns_now answer l.transcript.server) p) (sym acts.now.end) one)))
 
     was : Between u.lane.guest u.lane.hub l.transcript.client l.transcript.server p
-    was = talk p guest_before up_before guest_some
+    was = exchange p guest_before up_before guest_some
 
     stands_now : EndStands Responder (net_core Responder t.lane.hub) then_.transcript.server
-    stands_now = subst (λ (x : ChannelState). EndStands Responder (net_core_at Responder (is_begun x) t.lane.hub) then_.transcript.server) other (acts.talks.talks B).mine
+    stands_now = subst (λ (x : ChannelState). EndStands Responder (net_core_at Responder (is_begun x) t.lane.hub) then_.transcript.server) other (acts.two_ends.two_ends B).mine
 
     shut_now : left.end.session ≡ None → unsaid left.end ≡ None
     shut_now none =
@@ -383,12 +383,12 @@ hub_talk shape u t l answer left acts fresh talk p up other some = as_now (by_se
         let before = open_both Responder shape.slots u.queue u.lane.hub l.hub acts.finds.ready.hub in
         let none : l.hub.session ≡ None = before.none is in
         let fits = hub_plain shape u t l answer left acts goes other none in
-        let plain = closed_plain (asks_of shape) (answers_of shape) Responder (swapped (sides_of (lane_core u.lane) l.transcript)) (acts.finds.talks.talks B) up_before (before.shut none) in
+        let plain = closed_plain (asks_of shape) (answers_of shape) Responder (swapped (sides_of (lane_core u.lane) l.transcript)) (acts.finds.two_ends.two_ends B) up_before (before.shut none) in
         let low = low_outbox u.lane.hub l.transcript.server l.transcript.client plain.said_plain.low
         (shut_unsaid Responder u.lane.hub l.transcript.server (acting_at shape B u l acts.finds up_before).ends is) in
         let here = shut_after u.lane.hub (seen_at B u.lane) u.lane.hub_memory (reach_of B u.lane) answer left is goes acts.step in
         let low_now = low_outbox left.end (turns_now answer l.transcript.server) l.transcript.client fits.said_plain.low (none_left is answer refl here.stays) in
-        subst (λ (xs : List (List ℕ)). TalkIn u.lane.guest.handshake.draft.sid u.lane.guest.groups p (outbox u.lane.guest l.transcript.client (turns_now answer l.transcript.server))
+        subst (λ (xs : List (List ℕ)). ExchangeIn u.lane.guest.handshake.draft.sid u.lane.guest.groups p (outbox u.lane.guest l.transcript.client (turns_now answer l.transcript.server))
         (outbox left.end (turns_now answer l.transcript.server) l.transcript.client) left.end.session xs) (sym here.left.groups)
         (asks_now shape u l answer p (outbox left.end (turns_now answer l.transcript.server) l.transcript.client) left.end.session goes here.left.reply fits
         (shut_same u.lane.guest.handshake.draft.sid u.lane.guest.groups p (outbox u.lane.guest l.transcript.client l.transcript.server) (outbox u.lane.hub l.transcript.server l.transcript.client)

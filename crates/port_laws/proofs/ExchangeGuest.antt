@@ -30,15 +30,15 @@ use Rattle.port_laws.proofs.FormsOwn.{MayForm, PutsIt, formed_by, opens_unsaid, 
 use Rattle.port_laws.proofs.HearsIn.{AllAgreed, Hears, OwnRead, hears_in, mine_agreed, theirs_agreed}
 use Rattle.port_laws.proofs.MessageDoes.{Does, TakeDoes, message_does}
 use Rattle.port_laws.proofs.Outbox.{listed, low_fits, low_none, low_tells, outbox, unheard}
-use Rattle.port_laws.proofs.PortTalks.{PortTalks, answers_of, asks_of}
+use Rattle.port_laws.proofs.PortTwoEnds.{PortTwoEnds, answers_of, asks_of}
 use Rattle.port_laws.proofs.PutCounts.{not_some, own_session, owing_left, put_end}
 use Rattle.port_laws.proofs.RingActs.{Acts, acting_at, acts_up_at, open_both, turned_at}
 use Rattle.port_laws.proofs.RingEvents.{Goes, turns_at, turns_now}
 use Rattle.port_laws.proofs.SessionsHeard.{grown_most, said_grown}
 use Rattle.port_laws.proofs.StepCounts.{Acting}
 use Rattle.port_laws.proofs.TakesIn.{GuestNotes, InSession, guest_notes, in_own_session, next_read}
-use Rattle.port_laws.proofs.Talking.{TalkIn, guest_hears, same_talk}
-use Rattle.port_laws.proofs.TalkSteps.{GuestForms, guest_forms, outbox_heard, outbox_put}
+use Rattle.port_laws.proofs.GroupsExchanged.{ExchangeIn, guest_hears, same_exchange}
+use Rattle.port_laws.proofs.ExchangeSteps.{GuestForms, guest_forms, outbox_heard, outbox_put}
 use Rattle.port_laws.proofs.TookCounts.{free_empty, session_open, session_up}
 use Rattle.port_laws.proofs.WayMoves.{EachLow, Plain}
 use Rattle.port_laws.proofs.WayPlain.{closed_plain, open_said}
@@ -47,15 +47,15 @@ use Rattle.port_laws.proofs.WayRuns.{guest_goes, hub_none, opening_sent, peer_wa
 -- BOTH ENDS, and what they said and heard
 abbrev pub Between : NetEndState → NetEndState → List Turn → List Turn → NetSession → Type 0
 Between guest hub client server p =
-    TalkIn guest.handshake.draft.sid guest.groups p (outbox guest client server) (outbox hub server client) hub.session hub.groups
+    ExchangeIn guest.handshake.draft.sid guest.groups p (outbox guest client server) (outbox hub server client) hub.session hub.groups
 
-abbrev pub TalkStands : NetLaneState → PortLog → Type 0
-TalkStands u l = (p : NetSession) → IsUp A u.wire.wire → IsUp B u.wire.wire → u.guest.session ≡ Some p → Between u.guest u.hub l.transcript.client l.transcript.server p
+abbrev pub ExchangeStands : NetLaneState → PortLog → Type 0
+ExchangeStands u l = (p : NetSession) → IsUp A u.wire.wire → IsUp B u.wire.wire → u.guest.session ≡ Some p → Between u.guest u.hub l.transcript.client l.transcript.server p
 
 -- an end of a guest as it is now
 pub guest_as : (s t : NetEndState) (q : NetSession) (asks now answers : List (List ℕ)) (session : Option NetSession) (known : List (List ℕ)) → t.groups ≡ s.groups → t.handshake ≡ s.handshake → now ≡ asks
-    → TalkIn s.handshake.draft.sid s.groups q asks answers session known → TalkIn t.handshake.draft.sid t.groups q now answers session known
-guest_as s t q asks now answers session known groups handshake same talk = grind arith
+    → ExchangeIn s.handshake.draft.sid s.groups q asks answers session known → ExchangeIn t.handshake.draft.sid t.groups q now answers session known
+guest_as s t q asks now answers session known groups handshake same exchange = grind arith
 
 same_left : (s t : NetEndState) → t.handshake ≡ s.handshake → t.link.to_send ≡ s.link.to_send → unsaid t ≡ unsaid s
 same_left s t handshake sends = grind arith
@@ -68,19 +68,19 @@ pub record GuestSid (u : NetLaneState) : Type 0 where
   pub agreed : AllAgreed u.guest.handshake u.guest.handshake.draft.sid
   pub small : u.guest.handshake.draft.sid < 2 ^ 32
 
-pub guest_sid : (shape : NetShape) (u : NetLaneState) (l : PortLog) → PortTalks shape (lane_core u) l → IsUp A u.wire.wire → is_some u.guest.session ≡ true → GuestSid u
-guest_sid shape u l talks up opened =
-    let one = talks.talks A in
+pub guest_sid : (shape : NetShape) (u : NetLaneState) (l : PortLog) → PortTwoEnds shape (lane_core u) l → IsUp A u.wire.wire → is_some u.guest.session ≡ true → GuestSid u
+guest_sid shape u l two_ends up opened =
+    let one = two_ends.two_ends A in
     let agreed = mine_agreed (asks_of shape) (answers_of shape) Initiator (sides_of (lane_core u) l.transcript) one up opened in
     record {
       agreed = subst (AllAgreed u.guest.handshake) (sym agreed.draft) agreed;
       small = subst (λ (n : ℕ). n < 2 ^ 32) (sym agreed.draft) one.meets.handshakes.small;
     }
 
-pub hub_agreed : (shape : NetShape) (u : NetLaneState) (l : PortLog) → PortTalks shape (lane_core u) l → IsUp A u.wire.wire → is_some u.guest.session ≡ true → IsUp B u.wire.wire → is_some u.hub.session ≡ true
+pub hub_agreed : (shape : NetShape) (u : NetLaneState) (l : PortLog) → PortTwoEnds shape (lane_core u) l → IsUp A u.wire.wire → is_some u.guest.session ≡ true → IsUp B u.wire.wire → is_some u.hub.session ≡ true
     → AllAgreed u.hub.handshake u.guest.handshake.draft.sid
-hub_agreed shape u l talks up opened other_up other_opened =
-    let one = talks.talks A in
+hub_agreed shape u l two_ends up opened other_up other_opened =
+    let one = two_ends.two_ends A in
     let agreed = mine_agreed (asks_of shape) (answers_of shape) Initiator (sides_of (lane_core u) l.transcript) one up opened in
     subst (AllAgreed u.hub.handshake) (sym agreed.draft) (theirs_agreed (asks_of shape) (answers_of shape) Initiator (sides_of (lane_core u) l.transcript) one other_up other_opened)
 
@@ -109,9 +109,9 @@ shut_unsaid role s turns stands none = by_up (is_up s.link) refl
     by_up true up = by_send (is_none s.handshake.owed) refl up s.link.to_send refl
 
 -- WHAT NO SESSION SAID YET
-low_talk : (sid : ℕ) (groups : List (List ℕ)) (q : NetSession) (asks answers : List (List ℕ)) (session : Option NetSession) (known : List (List ℕ)) → EachLow asks → EachLow answers → session ≡ None
-    → known ≡ [] → q.telling ≡ false → q.reply ≡ None → q.untold ≡ true → TalkIn sid groups q asks answers session known
-low_talk sid groups q asks answers session known asks_low answers_low none nothing telling reply untold = grind (arith, low_fits, low_none, low_tells, true_false)
+low_exchange : (sid : ℕ) (groups : List (List ℕ)) (q : NetSession) (asks answers : List (List ℕ)) (session : Option NetSession) (known : List (List ℕ)) → EachLow asks → EachLow answers → session ≡ None
+    → known ≡ [] → q.telling ≡ false → q.reply ≡ None → q.untold ≡ true → ExchangeIn sid groups q asks answers session known
+low_exchange sid groups q asks answers session known asks_low answers_low none nothing telling reply untold = grind (arith, low_fits, low_none, low_tells, true_false)
 
 pub one_session : {X : Type 0} (o : Option X) (x y : X) → o ≡ Some x → o ≡ Some y → x ≡ y
 one_session {X} o x y one two = let both : Some x ≡ Some y = sym one ∙ two in cc both
@@ -135,7 +135,7 @@ module _ (shape : NetShape) (u t : PortState) (l : PortLog) (left : NetLeft) (p 
   -- with the same link, handshake and groups
   quiet_now : (now_is : NetSession) → left.end.session ≡ Some now_is → left.end.groups ≡ s.groups → left.end.handshake ≡ s.handshake → left.end.link.to_send ≡ s.link.to_send → now_is.telling ≡ p.telling
       → now_is.reply ≡ p.reply → now_is.untold ≡ p.untold → Now l.transcript.client
-  quiet_now now_is is groups handshake sends telling reply untold = grind (arith, some_same, guest_as, same_outbox, same_talk)
+  quiet_now now_is is groups handshake sends telling reply untold = grind (arith, some_same, guest_as, same_outbox, same_exchange)
 
   may_form : GuestSid u.lane → (acting : Acting Initiator shape.slots [] s l.guest l.transcript.client) → MayForm Initiator s.handshake.draft.sid s p
   may_form sid acting = record { session = session; agreed = sid.agreed; small = sid.small; empty = λ quiet. free_empty Initiator s l.transcript.client acting.ends quiet }
@@ -148,9 +148,9 @@ module _ (shape : NetShape) (u t : PortState) (l : PortLog) (left : NetLeft) (p 
       (formed_by Initiator s.handshake.draft.sid s (seen_at A u.lane) (reach_of A u.lane) (port_rule Initiator s (seen_at A u.lane)) held p (may_form sid acting) refl holds) was
 
   -- it takes a packet
-  took_now : (packet : List ℕ) (opens : Bool) → Acting Initiator shape.slots [] s l.guest l.transcript.client → PortTalks shape (lane_core u.lane) l → IsUp A u.lane.wire.wire
+  took_now : (packet : List ℕ) (opens : Bool) → Acting Initiator shape.slots [] s l.guest l.transcript.client → PortTwoEnds shape (lane_core u.lane) l → IsUp A u.lane.wire.wire
       → IsFront (heard (Heard packet ∷ l.transcript.client)) (said l.transcript.server) → NetTakes Initiator s u.lane.guest_memory packet (GoesOn left.end opens left.own) → Now (Heard packet ∷ l.transcript.client)
-  took_now packet opens acting talks up front takes =
+  took_now packet opens acting two_ends up front takes =
       by_hears (hears_in Initiator s l.transcript.client u.lane.guest_memory packet (GoesOn left.end opens left.own) acting.ends (session_up Initiator s l.transcript.client p acting.ends session) takes)
     where
       opened : is_some s.session ≡ true
@@ -163,21 +163,21 @@ module _ (shape : NetShape) (u t : PortState) (l : PortLog) (left : NetLeft) (p 
           let here : Now l.transcript.client =
           quiet_now p (ap (λ (x : NetEndState). x.session) same ∙ session) (ap (λ (x : NetEndState). x.groups) same) (ap (λ (x : NetEndState). x.handshake) same)
           (ap (λ (x : NetEndState). x.link.to_send) same ∙ none.sends) refl refl refl in
-          subst (λ (xs : List (List ℕ)). TalkIn left.end.handshake.draft.sid left.end.groups q (outbox left.end l.transcript.client l.transcript.server)
+          subst (λ (xs : List (List ℕ)). ExchangeIn left.end.handshake.draft.sid left.end.groups q (outbox left.end l.transcript.client l.transcript.server)
           (unheard (said l.transcript.server) xs ++ listed (unsaid u.lane.hub)) u.lane.hub.session u.lane.hub.groups) (sym none.messages) here
       by_hears (inr (inl one)) =
           let sides = sides_of (lane_core u.lane) l.transcript in
-          let talk = talks.talks A in
+          let exchange = two_ends.two_ends A in
           let grown : IsFront (heard l.transcript.client ++ one.bytes ∷ []) (said l.transcript.server) = subst (λ (xs : List (List ℕ)). IsFront xs (said l.transcript.server)) one.messages front in
           let first = outbox_heard u.lane.hub l.transcript.server l.transcript.client packet one.bytes one.messages grown in
-          let before : TalkIn s.handshake.draft.sid s.groups p (outbox s l.transcript.client l.transcript.server) (one.bytes ∷ outbox u.lane.hub l.transcript.server (Heard packet ∷ l.transcript.client))
+          let before : ExchangeIn s.handshake.draft.sid s.groups p (outbox s l.transcript.client l.transcript.server) (one.bytes ∷ outbox u.lane.hub l.transcript.server (Heard packet ∷ l.transcript.client))
           u.lane.hub.session u.lane.hub.groups =
-          subst (λ (xs : List (List ℕ)). TalkIn s.handshake.draft.sid s.groups p (outbox s l.transcript.client l.transcript.server) xs u.lane.hub.session u.lane.hub.groups) first was in
-          let own : OwnRead one.bytes talk.meets.handshakes.sid =
-          next_read (asks_of shape) (answers_of shape) Initiator Responder sides one.bytes s.handshake.draft.sid talk up opened other_up grown before.answers_fit.0 in
-          let agreed = mine_agreed (asks_of shape) (answers_of shape) Initiator sides talk up opened in
+          subst (λ (xs : List (List ℕ)). ExchangeIn s.handshake.draft.sid s.groups p (outbox s l.transcript.client l.transcript.server) xs u.lane.hub.session u.lane.hub.groups) first was in
+          let own : OwnRead one.bytes exchange.meets.handshakes.sid =
+          next_read (asks_of shape) (answers_of shape) Initiator Responder sides one.bytes s.handshake.draft.sid exchange up opened other_up grown before.answers_fit.0 in
+          let agreed = mine_agreed (asks_of shape) (answers_of shape) Initiator sides exchange up opened in
           let in_it : InSession Initiator (record s { link = one.link }) p u.lane.guest_memory own.message (GoesOn left.end opens left.own) =
-          in_own_session Initiator s p u.lane.guest_memory packet l.transcript.client (GoesOn left.end opens left.own) talk.meets.handshakes.sid one session agreed.knows own in
+          in_own_session Initiator s p u.lane.guest_memory packet l.transcript.client (GoesOn left.end opens left.own) exchange.meets.handshakes.sid one session agreed.knows own in
           let does : Does Initiator (record s { link = one.link }) p u.lane.guest_memory own.message.subtype own.message.body left.end opens left.own =
           subst (TakeDoes Initiator (record s { link = one.link }) p u.lane.guest_memory own.message.subtype own.message.body) (sym in_it.hears)
           (message_does Initiator (record s { link = one.link }) p u.lane.guest_memory own.message (session_open Initiator s l.transcript.client p acting.ends session)) in
@@ -187,7 +187,7 @@ module _ (shape : NetShape) (u t : PortState) (l : PortLog) (left : NetLeft) (p 
           guest_as s left.end q (outbox s l.transcript.client l.transcript.server) (outbox left.end (Heard packet ∷ l.transcript.client) l.transcript.server)
           (outbox u.lane.hub l.transcript.server (Heard packet ∷ l.transcript.client)) u.lane.hub.session u.lane.hub.groups notes.groups notes.handshake
           (same_outbox s left.end l.transcript.client l.transcript.server notes.handshake (notes.sends ∙ one.sends))
-          (subst (λ (x : NetSession). TalkIn s.handshake.draft.sid s.groups x (outbox s l.transcript.client l.transcript.server)
+          (subst (λ (x : NetSession). ExchangeIn s.handshake.draft.sid s.groups x (outbox s l.transcript.client l.transcript.server)
           (outbox u.lane.hub l.transcript.server (Heard packet ∷ l.transcript.client)) u.lane.hub.session u.lane.hub.groups) same
           (guest_hears s.handshake.draft.sid s.groups p noted.0 (outbox s l.transcript.client l.transcript.server) (outbox u.lane.hub l.transcript.server (Heard packet ∷ l.transcript.client))
           u.lane.hub.session u.lane.hub.groups one.bytes notes.told notes.same notes.reply notes.untold before))
@@ -217,28 +217,28 @@ guest_in shape u t l (Frame frame) left p q acts goes session now up other front
     (ap (λ (x : NetEndState). x.handshake) same) (ap (λ (x : NetEndState). x.link.to_send) same) (ap (λ (x : NetSession). x.telling) here) (ap (λ (x : NetSession). x.reply) here) (ap (λ (x : NetSession). x.untold) here)
 guest_in shape u t l Blocked left p q acts goes session now up other front was =
     let acting = acting_at shape A u l acts.finds up in
-    let sid = guest_sid shape u.lane l acts.finds.talks up (ap is_some session) in
+    let sid = guest_sid shape u.lane l acts.finds.two_ends up (ap is_some session) in
     let forms = forms_now shape u t l left p q session now other was left.end acting sid acts.step.0 in
     let same : forms.q ≡ q = one_session left.end.session forms.q q forms.session_is now in
     guest_as u.lane.guest left.end q (outbox left.end l.transcript.client l.transcript.server) (outbox left.end l.transcript.client l.transcript.server)
     (outbox u.lane.hub l.transcript.server l.transcript.client) u.lane.hub.session u.lane.hub.groups forms.groups forms.handshake refl
-    (subst (λ (x : NetSession). TalkIn u.lane.guest.handshake.draft.sid u.lane.guest.groups x (outbox left.end l.transcript.client l.transcript.server)
-    (outbox u.lane.hub l.transcript.server l.transcript.client) u.lane.hub.session u.lane.hub.groups) same forms.talk)
+    (subst (λ (x : NetSession). ExchangeIn u.lane.guest.handshake.draft.sid u.lane.guest.groups x (outbox left.end l.transcript.client l.transcript.server)
+    (outbox u.lane.hub l.transcript.server l.transcript.client) u.lane.hub.session u.lane.hub.groups) same forms.exchange)
 guest_in shape u t l (Sent packet opens) left p q acts goes session now up other front was =
     let step = acts.step in
     let acting = acting_at shape A u l acts.finds up in
-    let sid = guest_sid shape u.lane l acts.finds.talks up (ap is_some session) in
+    let sid = guest_sid shape u.lane l acts.finds.two_ends up (ap is_some session) in
     let forms = forms_now shape u t l left p q session now other was step.held acting sid step.holds in
     let puts : PutsIt step.held left.end l.transcript.client packet =
     sends_own Initiator shape.slots [] u.lane.guest l.guest l.transcript.client (seen_at A u.lane) u.lane.guest_memory (reach_of A u.lane) packet opens left forms.q acting step sid.agreed.owed forms.session_is in
     let same : forms.q ≡ q = one_session left.end.session forms.q q (puts.session ∙ forms.session_is) now in
     guest_as u.lane.guest left.end q (outbox step.held l.transcript.client l.transcript.server) (outbox left.end (Said packet ∷ l.transcript.client) l.transcript.server)
     (outbox u.lane.hub l.transcript.server l.transcript.client) u.lane.hub.session u.lane.hub.groups (puts.groups ∙ forms.groups) (puts.handshake ∙ forms.handshake)
-    (outbox_put step.held left.end l.transcript.client l.transcript.server packet puts (acts.finds.talks.front other))
-    (subst (λ (x : NetSession). TalkIn u.lane.guest.handshake.draft.sid u.lane.guest.groups x (outbox step.held l.transcript.client l.transcript.server)
-    (outbox u.lane.hub l.transcript.server l.transcript.client) u.lane.hub.session u.lane.hub.groups) same forms.talk)
+    (outbox_put step.held left.end l.transcript.client l.transcript.server packet puts (acts.finds.two_ends.front other))
+    (subst (λ (x : NetSession). ExchangeIn u.lane.guest.handshake.draft.sid u.lane.guest.groups x (outbox step.held l.transcript.client l.transcript.server)
+    (outbox u.lane.hub l.transcript.server l.transcript.client) u.lane.hub.session u.lane.hub.groups) same forms.exchange)
 guest_in shape u t l (Took packet opens) left p q acts goes session now up other front was =
-    took_now shape u t l left p q session now other was packet opens (acting_at shape A u l acts.finds up) acts.finds.talks up front acts.step.1
+    took_now shape u t l left p q session now other was packet opens (acting_at shape A u l acts.finds up) acts.finds.two_ends up front acts.step.1
 guest_in shape u t l _ left p q acts goes session now up other front was = absurd goes
 
 -- IT OPENS
@@ -257,8 +257,8 @@ guest_opens shape u t l packet left q acts up other none nothing now =
     let short : length (said (Said packet ∷ l.transcript.client)) ≤ 6 =
     omega (arith, few, grown_most _ (said l.transcript.client) (said (Said packet ∷ l.transcript.client)) (said_grown l.transcript.client packet)) in
     let mine : Plain (said (Said packet ∷ l.transcript.client)) =
-    open_said (asks_of shape) (answers_of shape) Initiator (sides_of (lane_core t.lane) then_.transcript) (acts.talks.talks A) up opened short in
-    let theirs = closed_plain (asks_of shape) (answers_of shape) Responder (swapped (sides_of (lane_core u.lane) l.transcript)) (acts.finds.talks.talks B) other_before (hub.shut hub_shut) in
+    open_said (asks_of shape) (answers_of shape) Initiator (sides_of (lane_core t.lane) then_.transcript) (acts.two_ends.two_ends A) up opened short in
+    let theirs = closed_plain (asks_of shape) (answers_of shape) Responder (swapped (sides_of (lane_core u.lane) l.transcript)) (acts.finds.two_ends.two_ends B) other_before (hub.shut hub_shut) in
     let none_here : u.lane.hub.session ≡ None = not_some u.lane.hub.session (hub.shut hub_shut) in
     let hub_acting = acting_at shape B u l acts.finds other_before in
     let asks_low = low_outbox left.end (Said packet ∷ l.transcript.client) l.transcript.server mine.low
@@ -268,13 +268,13 @@ guest_opens shape u t l packet left q acts up other none nothing now =
     let from : left.end.session ≡ Some (opened_session (first_id (put_end step.held))) =
     ap (λ (x : NetLeft). x.end.session) step.is ∙ ap (λ (b : Bool). (opened_by_put Initiator b (put_end step.held)).session) (sym step.opens_is) in
     let fresh = opened_fresh left.end (first_id (put_end step.held)) q now from in
-    low_talk left.end.handshake.draft.sid left.end.groups q (outbox left.end (Said packet ∷ l.transcript.client) l.transcript.server)
+    low_exchange left.end.handshake.draft.sid left.end.groups q (outbox left.end (Said packet ∷ l.transcript.client) l.transcript.server)
     (outbox u.lane.hub l.transcript.server (Said packet ∷ l.transcript.client)) u.lane.hub.session u.lane.hub.groups asks_low answers_low none_here nothing fresh.0 fresh.1 fresh.2
 
 -- A STEP
-pub guest_talk : (shape : NetShape) (u t : PortState) (l : PortLog) (answer : NetAnswer) (left : NetLeft) → Acts shape A u t l answer left
-    → TalkStands u.lane l → TalkStands t.lane (after l (OnLane (Steps A answer)))
-guest_talk shape u t l answer left acts talk q up other some = as_now (by_session u.lane.guest.session refl)
+pub guest_exchange : (shape : NetShape) (u t : PortState) (l : PortLog) (answer : NetAnswer) (left : NetLeft) → Acts shape A u t l answer left
+    → ExchangeStands u.lane l → ExchangeStands t.lane (after l (OnLane (Steps A answer)))
+guest_exchange shape u t l answer left acts exchange q up other some = as_now (by_session u.lane.guest.session refl)
   where
     then_ : PortLog
     then_ = after l (OnLane (Steps A answer))
@@ -293,7 +293,7 @@ guest_talk shape u t l answer left acts talk q up other some = as_now (by_sessio
     front : IsFront (heard (turns_now answer l.transcript.client)) (said l.transcript.server)
     front =
         let turns = turns_at A l.transcript answer in
-        subst (λ (xs : List Turn). IsFront (heard xs) (said l.transcript.server)) turns.mine (subst (λ (xs : List Turn). IsFront (heard then_.transcript.client) (said xs)) turns.theirs (acts.talks.front_a up))
+        subst (λ (xs : List Turn). IsFront (heard xs) (said l.transcript.server)) turns.mine (subst (λ (xs : List Turn). IsFront (heard then_.transcript.client) (said xs)) turns.theirs (acts.two_ends.front_a up))
 
     in_log : then_.guest.session ≢ None
     in_log =
@@ -309,7 +309,7 @@ guest_talk shape u t l answer left acts talk q up other some = as_now (by_sessio
     other_before = peer_was_up shape A u t l answer left acts goes other
 
     by_session : (session : Option NetSession) → u.lane.guest.session ≡ session → Between left.end u.lane.hub (turns_now answer l.transcript.client) l.transcript.server q
-    by_session (Some p) is = guest_in shape u t l answer left p q acts goes is now up_before other_before front (talk p up_before other_before is)
+    by_session (Some p) is = guest_in shape u t l answer left p q acts goes is now up_before other_before front (exchange p up_before other_before is)
     by_session None is =
         let before = open_both Initiator shape.slots [] u.lane.guest l.guest acts.finds.ready.guest in
         let none : l.guest.session ≡ None = before.none is in

@@ -20,7 +20,7 @@ use Rattle.port_laws.proofs.FormsOwn.{Formed, Kept, PutsIt, Ranged, Replied, Tol
 use Rattle.port_laws.proofs.OwnBytes.{membership_reads, seven_six}
 use Rattle.port_laws.proofs.Outbox.{SaysGroups, TellsSome, first_unheard, outbox, says_groups, unheard_more}
 use Rattle.port_laws.proofs.ShortMessages.{seven_long}
-use Rattle.port_laws.proofs.Talking.{RepliesAgree, ReplyAgrees, TalkIn, guest_ranges, guest_tells, hub_ranges, hub_replies, reply_in}
+use Rattle.port_laws.proofs.GroupsExchanged.{RepliesAgree, ReplyAgrees, ExchangeIn, guest_ranges, guest_tells, hub_ranges, hub_replies, reply_in}
 
 -- THE OUTBOX
 pub outbox_more : (s held : NetEndState) (mine theirs : List Turn) (m : List ℕ) → unsaid s ≡ None → unsaid held ≡ Some m → outbox held mine theirs ≡ outbox s mine theirs ++ m ∷ []
@@ -66,28 +66,28 @@ pub record GuestForms (held : NetEndState) (s : NetEndState) (sid : ℕ) (client
   pub session_is : held.session ≡ Some q
   pub groups : held.groups ≡ s.groups
   pub handshake : held.handshake ≡ s.handshake
-  pub talk : TalkIn sid s.groups q (outbox held client server) answers session known
+  pub exchange : ExchangeIn sid s.groups q (outbox held client server) answers session known
 
 pub guest_forms : (s held : NetEndState) (p : NetSession) (sid : ℕ) (client server : List Turn) (answers : List (List ℕ)) (session : Option NetSession) (known : List (List ℕ)) → s.session ≡ Some p
-    → AreGroups s.groups → sid < 2 ^ 32 → s.handshake.draft.sid ≡ sid → Formed Initiator sid s p held → TalkIn sid s.groups p (outbox s client server) answers session known
+    → AreGroups s.groups → sid < 2 ^ 32 → s.handshake.draft.sid ≡ sid → Formed Initiator sid s p held → ExchangeIn sid s.groups p (outbox s client server) answers session known
     → GuestForms held s sid client server answers session known
-guest_forms s held p sid client server answers session known is are small draft (Kept same) talk = record {
+guest_forms s held p sid client server answers session known is are small draft (Kept same) exchange = record {
   q = p;
   session_is = ap (λ (x : NetEndState). x.session) same ∙ is;
   groups = ap (λ (x : NetEndState). x.groups) same;
   handshake = ap (λ (x : NetEndState). x.handshake) same;
-  talk = subst (λ (x : NetEndState). TalkIn sid s.groups p (outbox x client server) answers session known) (sym same) talk;
+  exchange = subst (λ (x : NetEndState). ExchangeIn sid s.groups p (outbox x client server) answers session known) (sym same) exchange;
 }
-guest_forms s held p sid client server answers session known is are small draft (Ranged m q forms says telling reply untold) talk = record {
+guest_forms s held p sid client server answers session known is are small draft (Ranged m q forms says telling reply untold) exchange = record {
   q = q;
   session_is = forms.session;
   groups = forms.groups;
   handshake = forms.handshake;
-  talk = subst (λ (xs : List (List ℕ)). TalkIn sid s.groups q xs answers session known) (sym (outbox_more s held client server m forms.none forms.now))
-      (guest_ranges sid s.groups p q (outbox s client server) answers session known m says telling reply untold talk);
+  exchange = subst (λ (xs : List (List ℕ)). ExchangeIn sid s.groups q xs answers session known) (sym (outbox_more s held client server m forms.none forms.now))
+      (guest_ranges sid s.groups p q (outbox s client server) answers session known m says telling reply untold exchange);
 }
-guest_forms s held p sid client server answers session known is are small draft (Replied m q r forms owes same none telling) talk = none_some r (sym talk.quiet ∙ owes)
-guest_forms s held p sid client server answers session known is are small draft (Told m q forms role same before now reply) talk =
+guest_forms s held p sid client server answers session known is are small draft (Replied m q r forms owes same none telling) exchange = none_some r (sym exchange.quiet ∙ owes)
+guest_forms s held p sid client server answers session known is are small draft (Told m q forms role same before now reply) exchange =
     let here : m ≡ canonical (membership sid s.groups) = same ∙ ap (λ (n : ℕ). canonical (membership n s.groups)) draft in
     let one = member sid s.groups are small in
     record {
@@ -95,9 +95,9 @@ guest_forms s held p sid client server answers session known is are small draft 
       session_is = forms.session;
       groups = forms.groups;
       handshake = forms.handshake;
-      talk = subst (λ (xs : List (List ℕ)). TalkIn sid s.groups q xs answers session known) (sym (outbox_more s held client server m forms.none forms.now))
+      exchange = subst (λ (xs : List (List ℕ)). ExchangeIn sid s.groups q xs answers session known) (sym (outbox_more s held client server m forms.none forms.now))
           (guest_tells sid s.groups p q (outbox s client server) answers session known m (subst (SaysGroups Initiator sid) (sym here) one.says)
-          (λ n most. subst (TellsSome s.groups n) (sym here) (one.tells n most)) (ap addresses_of here ∙ one.all) before now reply talk);
+          (λ n most. subst (TellsSome s.groups n) (sym here) (one.tells n most)) (ap addresses_of here ∙ one.all) before now reply exchange);
     }
 
 -- THE SWITCH'S END forms a message, or none
@@ -106,7 +106,7 @@ pub record HubForms (held : NetEndState) (s : NetEndState) (sid : ℕ) (groups :
   pub session_is : held.session ≡ Some q
   pub groups_are : held.groups ≡ s.groups
   pub handshake : held.handshake ≡ s.handshake
-  pub talk : TalkIn sid groups p asks (outbox held server client) held.session s.groups
+  pub exchange : ExchangeIn sid groups p asks (outbox held server client) held.session s.groups
 
 in_reply : (session : Option NetSession) (q : NetSession) → session ≡ Some q → reply_in session ≡ q.reply
 in_reply session q is = ap reply_in is
@@ -115,26 +115,26 @@ answer_long : (s : NetEndState) (r : GroupsReply) → ReplyAgrees r → length (
 answer_long s r agrees = grind (arith, length_canonical, length-append)
 
 pub hub_forms : (s held : NetEndState) (q : NetSession) (sid : ℕ) (groups : List (List ℕ)) (p : NetSession) (asks : List (List ℕ)) (client server : List Turn) → s.session ≡ Some q
-    → Formed Responder sid s q held → TalkIn sid groups p asks (outbox s server client) s.session s.groups → HubForms held s sid groups p asks client server
-hub_forms s held q sid groups p asks client server is (Kept same) talk = record {
+    → Formed Responder sid s q held → ExchangeIn sid groups p asks (outbox s server client) s.session s.groups → HubForms held s sid groups p asks client server
+hub_forms s held q sid groups p asks client server is (Kept same) exchange = record {
   q = q;
   session_is = ap (λ (x : NetEndState). x.session) same ∙ is;
   groups_are = ap (λ (x : NetEndState). x.groups) same;
   handshake = ap (λ (x : NetEndState). x.handshake) same;
-  talk = subst (λ (x : NetEndState). TalkIn sid groups p asks (outbox x server client) x.session s.groups) (sym same) talk;
+  exchange = subst (λ (x : NetEndState). ExchangeIn sid groups p asks (outbox x server client) x.session s.groups) (sym same) exchange;
 }
-hub_forms s held q sid groups p asks client server is (Ranged m now forms says telling reply untold) talk = record {
+hub_forms s held q sid groups p asks client server is (Ranged m now forms says telling reply untold) exchange = record {
   q = now;
   session_is = forms.session;
   groups_are = forms.groups;
   handshake = forms.handshake;
-  talk = subst (λ (xs : List (List ℕ)). TalkIn sid groups p asks xs held.session s.groups) (sym (outbox_more s held server client m forms.none forms.now))
+  exchange = subst (λ (xs : List (List ℕ)). ExchangeIn sid groups p asks xs held.session s.groups) (sym (outbox_more s held server client m forms.none forms.now))
       (hub_ranges sid groups p asks (outbox s server client) s.session held.session s.groups m says.fits says.none
-      (in_reply held.session now forms.session ∙ reply ∙ sym (in_reply s.session q is)) talk);
+      (in_reply held.session now forms.session ∙ reply ∙ sym (in_reply s.session q is)) exchange);
 }
-hub_forms s held q sid groups p asks client server is (Replied m now r forms owes same none telling) talk =
+hub_forms s held q sid groups p asks client server is (Replied m now r forms owes same none telling) exchange =
     let owed : reply_in s.session ≡ Some r = in_reply s.session q is ∙ owes in
-    let agrees : ReplyAgrees r = subst RepliesAgree owed talk.reply in
+    let agrees : ReplyAgrees r = subst RepliesAgree owed exchange.reply in
     let says : SaysGroups Responder sid m =
     subst (SaysGroups Responder sid) (sym same)
     (says_groups Responder sid r.subtype s.handshake.draft.sid r.set r.count r.addresses (ap subtype_code agrees.subtype) (answer_long s r agrees)) in
@@ -143,7 +143,7 @@ hub_forms s held q sid groups p asks client server is (Replied m now r forms owe
       session_is = forms.session;
       groups_are = forms.groups;
       handshake = forms.handshake;
-      talk = subst (λ (xs : List (List ℕ)). TalkIn sid groups p asks xs held.session s.groups) (sym (outbox_more s held server client m forms.none forms.now))
-          (hub_replies sid groups p asks (outbox s server client) s.session held.session s.groups m r says owed (in_reply held.session now forms.session ∙ none) talk);
+      exchange = subst (λ (xs : List (List ℕ)). ExchangeIn sid groups p asks xs held.session s.groups) (sym (outbox_more s held server client m forms.none forms.now))
+          (hub_replies sid groups p asks (outbox s server client) s.session held.session s.groups m r says owed (in_reply held.session now forms.session ∙ none) exchange);
     }
-hub_forms s held q sid groups p asks client server is (Told m now forms role same before telling reply) talk = absurd (cc role)
+hub_forms s held q sid groups p asks client server is (Told m now forms role same before telling reply) exchange = absurd (cc role)

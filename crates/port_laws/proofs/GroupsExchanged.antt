@@ -65,7 +65,7 @@ none_told groups known (x ∷ asks) none all =
     told_past x groups (AllTold groups known asks) (one_none (is_groups x) (count_groups asks) none) (none_told groups known asks (omega (arith, none)) all)
 
 -- BOTH ENDS: the guest in this session with its groups, what it asks and what is answered, and the switch's end
-pub record TalkIn (sid : ℕ) (groups : List (List ℕ)) (p : NetSession) (asks answers : List (List ℕ)) (session : Option NetSession) (known : List (List ℕ)) : Type 0 where
+pub record ExchangeIn (sid : ℕ) (groups : List (List ℕ)) (p : NetSession) (asks answers : List (List ℕ)) (session : Option NetSession) (known : List (List ℕ)) : Type 0 where
   pub asks_fit : EachFits Initiator sid asks
   pub answers_fit : EachFits Responder sid answers
   pub counted : count_groups asks + owed_replies session + count_groups answers ≡ one_if p.telling
@@ -80,19 +80,19 @@ known_few groups known front = grind (arith, length-take)
 
 -- THE GUEST says a range
 pub guest_ranges : (sid : ℕ) (groups : List (List ℕ)) (p q : NetSession) (asks answers : List (List ℕ)) (session : Option NetSession) (known : List (List ℕ)) (m : List ℕ)
-    → SaysRange Initiator sid m → q.telling ≡ p.telling → q.reply ≡ p.reply → q.untold ≡ p.untold → TalkIn sid groups p asks answers session known → TalkIn sid groups q (asks ++ m ∷ []) answers session known
-guest_ranges sid groups p q asks answers session known m says telling reply untold talk =
-    let counted = talk.counted in
+    → SaysRange Initiator sid m → q.telling ≡ p.telling → q.reply ≡ p.reply → q.untold ≡ p.untold → ExchangeIn sid groups p asks answers session known → ExchangeIn sid groups q (asks ++ m ∷ []) answers session known
+guest_ranges sid groups p q asks answers session known m says telling reply untold exchange =
+    let counted = exchange.counted in
     let none = says.none in
     record {
-      asks_fit = fits_more Initiator sid asks (m ∷ []) talk.asks_fit (says.fits, tt);
-      answers_fit = talk.answers_fit;
+      asks_fit = fits_more Initiator sid asks (m ∷ []) exchange.asks_fit (says.fits, tt);
+      answers_fit = exchange.answers_fit;
       counted = omega (arith, counted, none, count-append asks (m ∷ []), ap one_if telling);
-      tells = tells_more groups (length known) asks (m ∷ []) talk.tells (none_tells groups (length known) (m ∷ []) none);
-      front = talk.front;
-      reply = talk.reply;
-      quiet = reply ∙ talk.quiet;
-      latest = λ is. told_more groups known asks m (one_none (is_groups m) 0 none) (talk.latest (sym untold ∙ is));
+      tells = tells_more groups (length known) asks (m ∷ []) exchange.tells (none_tells groups (length known) (m ∷ []) none);
+      front = exchange.front;
+      reply = exchange.reply;
+      quiet = reply ∙ exchange.quiet;
+      latest = λ is. told_more groups known asks m (one_none (is_groups m) 0 none) (exchange.latest (sym untold ∙ is));
     }
 
 one_some : (b : Bool) → one_if b + 0 ≡ 1 → b ≡ true
@@ -101,18 +101,18 @@ one_some b is = grind arith
 -- it tells its groups
 pub guest_tells : (sid : ℕ) (groups : List (List ℕ)) (p q : NetSession) (asks answers : List (List ℕ)) (session : Option NetSession) (known : List (List ℕ)) (m : List ℕ)
     → SaysGroups Initiator sid m → ((known_of : ℕ) → known_of ≤ length groups → TellsSome groups known_of m) → addresses_of m ≡ groups → p.telling ≡ false → q.telling ≡ true → q.reply ≡ p.reply
-    → TalkIn sid groups p asks answers session known → TalkIn sid groups q (asks ++ m ∷ []) answers session known
-guest_tells sid groups p q asks answers session known m says tells all before now reply talk =
-    let counted = talk.counted in
+    → ExchangeIn sid groups p asks answers session known → ExchangeIn sid groups q (asks ++ m ∷ []) answers session known
+guest_tells sid groups p q asks answers session known m says tells all before now reply exchange =
+    let counted = exchange.counted in
     let one = says.one in
     record {
-      asks_fit = fits_more Initiator sid asks (m ∷ []) talk.asks_fit (says.fits, tt);
-      answers_fit = talk.answers_fit;
+      asks_fit = fits_more Initiator sid asks (m ∷ []) exchange.asks_fit (says.fits, tt);
+      answers_fit = exchange.answers_fit;
       counted = omega (arith, counted, one, count-append asks (m ∷ []), ap one_if before, ap one_if now);
-      tells = tells_more groups (length known) asks (m ∷ []) talk.tells ((λ is. tells (length known) (known_few groups known talk.front)), tt);
-      front = talk.front;
-      reply = talk.reply;
-      quiet = reply ∙ talk.quiet;
+      tells = tells_more groups (length known) asks (m ∷ []) exchange.tells ((λ is. tells (length known) (known_few groups known exchange.front)), tt);
+      front = exchange.front;
+      reply = exchange.reply;
+      quiet = reply ∙ exchange.quiet;
       latest = λ is. told_last groups known asks m (one_some (is_groups m) one) all (omega (arith, counted, ap one_if before));
     }
 
@@ -121,54 +121,54 @@ told_now : (b was now : Bool) (rest : ℕ) → rest + one_if b ≡ one_if was �
 told_now b was now rest is told same = grind (arith, one_most)
 
 pub guest_hears : (sid : ℕ) (groups : List (List ℕ)) (p q : NetSession) (asks answers : List (List ℕ)) (session : Option NetSession) (known : List (List ℕ)) (m : List ℕ)
-    → (is_groups m ≡ true → q.telling ≡ false) → (is_groups m ≡ false → q.telling ≡ p.telling) → q.reply ≡ p.reply → q.untold ≡ p.untold → TalkIn sid groups p asks (m ∷ answers) session known
-    → TalkIn sid groups q asks answers session known
-guest_hears sid groups p q asks answers session known m told same reply untold talk =
-    let counted = talk.counted in
+    → (is_groups m ≡ true → q.telling ≡ false) → (is_groups m ≡ false → q.telling ≡ p.telling) → q.reply ≡ p.reply → q.untold ≡ p.untold → ExchangeIn sid groups p asks (m ∷ answers) session known
+    → ExchangeIn sid groups q asks answers session known
+guest_hears sid groups p q asks answers session known m told same reply untold exchange =
+    let counted = exchange.counted in
     record {
-      asks_fit = talk.asks_fit;
-      answers_fit = talk.answers_fit.1;
+      asks_fit = exchange.asks_fit;
+      answers_fit = exchange.answers_fit.1;
       counted = told_now (is_groups m) p.telling q.telling (count_groups asks + owed_replies session + count_groups answers) (omega (arith, counted)) told same;
-      tells = talk.tells;
-      front = talk.front;
-      reply = talk.reply;
-      quiet = reply ∙ talk.quiet;
-      latest = λ is. talk.latest (sym untold ∙ is);
+      tells = exchange.tells;
+      front = exchange.front;
+      reply = exchange.reply;
+      quiet = reply ∙ exchange.quiet;
+      latest = λ is. exchange.latest (sym untold ∙ is);
     }
 
 pub is_telling : (sid : ℕ) (groups : List (List ℕ)) (p : NetSession) (asks answers : List (List ℕ)) (session : Option NetSession) (known : List (List ℕ)) (m : List ℕ)
-    → TalkIn sid groups p asks (m ∷ answers) session known → envelope_at m ≡ 0x0101 → p.telling ≡ true
-is_telling sid groups p asks answers session known m talk is = grind (arith, eq-eqb)
+    → ExchangeIn sid groups p asks (m ∷ answers) session known → envelope_at m ≡ 0x0101 → p.telling ≡ true
+is_telling sid groups p asks answers session known m exchange is = grind (arith, eq-eqb)
 
 -- THE SWITCH'S END says what speaks of no groups
 pub hub_ranges : (sid : ℕ) (groups : List (List ℕ)) (p : NetSession) (asks answers : List (List ℕ)) (session now : Option NetSession) (known : List (List ℕ)) (m : List ℕ)
-    → MessageFits Responder sid m → count_groups (m ∷ []) ≡ 0 → reply_in now ≡ reply_in session → TalkIn sid groups p asks answers session known
-    → TalkIn sid groups p asks (answers ++ m ∷ []) now known
-hub_ranges sid groups p asks answers session now known m given none same talk = grind (arith, fits_more, count-append)
+    → MessageFits Responder sid m → count_groups (m ∷ []) ≡ 0 → reply_in now ≡ reply_in session → ExchangeIn sid groups p asks answers session known
+    → ExchangeIn sid groups p asks (answers ++ m ∷ []) now known
+hub_ranges sid groups p asks answers session now known m given none same exchange = grind (arith, fits_more, count-append)
 
 -- it answers
 pub hub_replies : (sid : ℕ) (groups : List (List ℕ)) (p : NetSession) (asks answers : List (List ℕ)) (session now : Option NetSession) (known : List (List ℕ)) (m : List ℕ) (r : GroupsReply)
-    → SaysGroups Responder sid m → reply_in session ≡ Some r → reply_in now ≡ None → TalkIn sid groups p asks answers session known → TalkIn sid groups p asks (answers ++ m ∷ []) now known
-hub_replies sid groups p asks answers session now known m r says before none talk = grind (arith, fits_more, count-append)
+    → SaysGroups Responder sid m → reply_in session ≡ Some r → reply_in now ≡ None → ExchangeIn sid groups p asks answers session known → ExchangeIn sid groups p asks (answers ++ m ∷ []) now known
+hub_replies sid groups p asks answers session now known m r says before none exchange = grind (arith, fits_more, count-append)
 
 -- it hears what speaks of no groups
 pub hub_hears : (sid : ℕ) (groups : List (List ℕ)) (p : NetSession) (asks answers : List (List ℕ)) (session now : Option NetSession) (known : List (List ℕ)) (m : List ℕ)
-    → is_groups m ≡ false → reply_in now ≡ reply_in session → TalkIn sid groups p (m ∷ asks) answers session known → TalkIn sid groups p asks answers now known
-hub_hears sid groups p asks answers session now known m not_ same talk = grind arith
+    → is_groups m ≡ false → reply_in now ≡ reply_in session → ExchangeIn sid groups p (m ∷ asks) answers session known → ExchangeIn sid groups p asks answers now known
+hub_hears sid groups p asks answers session now known m not_ same exchange = grind arith
 
 -- it hears groups, which it knows then
 front_taken : (many : ℕ) (groups : List (List ℕ)) → many ≤ length groups → take many groups ≡ take (length (take many groups)) groups
 front_taken many groups few = grind (arith, length-take)
 
 pub hub_learns : (sid : ℕ) (groups : List (List ℕ)) (p : NetSession) (asks answers : List (List ℕ)) (session now : Option NetSession) (known : List (List ℕ)) (m : List ℕ) (r : GroupsReply)
-    (some : TellsSome groups (length known) m) → is_groups m ≡ true → reply_in session ≡ None → reply_in now ≡ Some r → ReplyAgrees r → TalkIn sid groups p (m ∷ asks) answers session known
-    → TalkIn sid groups p asks answers now (addresses_of m)
-hub_learns sid groups p asks answers session now known m r some is before after_is agrees talk = grind (arith, one_most, none_tells, front_taken, none_told)
+    (some : TellsSome groups (length known) m) → is_groups m ≡ true → reply_in session ≡ None → reply_in now ≡ Some r → ReplyAgrees r → ExchangeIn sid groups p (m ∷ asks) answers session known
+    → ExchangeIn sid groups p asks answers now (addresses_of m)
+hub_learns sid groups p asks answers session now known m r some is before after_is agrees exchange = grind (arith, one_most, none_tells, front_taken, none_told)
 
 -- NOTHING of this changes
-pub same_talk : (sid : ℕ) (groups : List (List ℕ)) (p q : NetSession) (asks answers : List (List ℕ)) (session now : Option NetSession) (known : List (List ℕ))
-    → q.telling ≡ p.telling → q.reply ≡ p.reply → q.untold ≡ p.untold → reply_in now ≡ reply_in session → TalkIn sid groups p asks answers session known → TalkIn sid groups q asks answers now known
-same_talk sid groups p q asks answers session now known telling reply untold same talk = grind arith
+pub same_exchange : (sid : ℕ) (groups : List (List ℕ)) (p q : NetSession) (asks answers : List (List ℕ)) (session now : Option NetSession) (known : List (List ℕ))
+    → q.telling ≡ p.telling → q.reply ≡ p.reply → q.untold ≡ p.untold → reply_in now ≡ reply_in session → ExchangeIn sid groups p asks answers session known → ExchangeIn sid groups q asks answers now known
+same_exchange sid groups p q asks answers session now known telling reply untold same exchange = grind arith
 
 -- the guest joins one more group
 more_tells : (groups : List (List ℕ)) (address : List ℕ) (known : ℕ) (asks : List (List ℕ)) → EachTells groups known asks → EachTells (groups ++ address ∷ []) known asks
@@ -188,5 +188,5 @@ more_tells groups address known (m ∷ asks) tells = (
 )
 
 pub guest_joins : (sid : ℕ) (groups : List (List ℕ)) (address : List ℕ) (p q : NetSession) (asks answers : List (List ℕ)) (session : Option NetSession) (known : List (List ℕ))
-    → q.telling ≡ p.telling → q.reply ≡ p.reply → q.untold ≡ true → TalkIn sid groups p asks answers session known → TalkIn sid (groups ++ address ∷ []) q asks answers session known
-guest_joins sid groups address p q asks answers session known telling reply untold talk = grind (arith, more_tells, take-append-le, known_few, true_false)
+    → q.telling ≡ p.telling → q.reply ≡ p.reply → q.untold ≡ true → ExchangeIn sid groups p asks answers session known → ExchangeIn sid (groups ++ address ∷ []) q asks answers session known
+guest_joins sid groups address p q asks answers session known telling reply untold exchange = grind (arith, more_tells, take-append-le, known_few, true_false)

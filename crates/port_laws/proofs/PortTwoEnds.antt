@@ -23,7 +23,7 @@ use Rattle.port_model.specs.PortLog.{PortLog}
 use Rattle.port_model.specs.PortState.{PortState}
 use Rattle.port_laws.specs.PortCore.{port_core, port_events}
 use Rattle.port_laws.proofs.CoreLaws.{offers_match, sizes_fit}
-use Rattle.port_laws.proofs.PeerOpens.{InAll, PeerIn, Talks, closed_short, least_heard, least_seven, open_long, peer_is_up, peer_open, row}
+use Rattle.port_laws.proofs.PeerOpens.{InAll, PeerIn, TwoEnds, closed_short, least_heard, least_seven, open_long, peer_is_up, peer_open, row}
 use Rattle.port_laws.proofs.PortCounts.{PortCounts}
 use Rattle.port_laws.proofs.PortRuns.{fresh_port_core, logs_same}
 
@@ -38,14 +38,14 @@ abbrev pub sides_from : End → LaneCore → TranscriptLog → Sides
 sides_from A c transcript = sides_of c transcript
 sides_from B c transcript = swapped (sides_of c transcript)
 
-pub record PortTalks (shape : NetShape) (c : LaneCore) (l : PortLog) : Type 0 where
-  pub talks : (e : End) → Talks (asks_of shape) (answers_of shape) (role_at e) (sides_from e c l.transcript)
+pub record PortTwoEnds (shape : NetShape) (c : LaneCore) (l : PortLog) : Type 0 where
+  pub two_ends : (e : End) → TwoEnds (asks_of shape) (answers_of shape) (role_at e) (sides_from e c l.transcript)
   pub one : c.a.is_open ≡ true → c.b.is_open ≡ true → AreOneSession c.a.handshake c.b.handshake
   pub front_a : IsUp A c.wire.wire → IsFront (heard l.transcript.client) (said l.transcript.server)
   pub front : IsUp B c.wire.wire → IsFront (heard l.transcript.server) (said l.transcript.client)
 
-pub port_talks : (shape : NetShape) (s : PortState) (l : PortLog) → IsNetShape shape → PortCounts shape s l → s.lane.wire.forged ≡ false → PortTalks shape (port_core s) l
-port_talks shape s l is counts clean =
+pub port_two_ends : (shape : NetShape) (s : PortState) (l : PortLog) → IsNetShape shape → PortCounts shape s l → s.lane.wire.forged ≡ false → PortTwoEnds shape (port_core s) l
+port_two_ends shape s l is counts clean =
     let asks = asks_of shape in
     let answers = answers_of shape in
     let fits = sizes_fit shape is in
@@ -55,7 +55,7 @@ port_talks shape s l is counts clean =
     let meets : Meets asks answers Initiator (sides_of (port_core s) now.transcript) = knows.holds.holds clean in
     let keeps = meets_keep asks answers (record { asks_fit = fits.asks_fit; answers_fit = fits.answers_fit; matched = offers_match shape is }) in
     record {
-      talks = λ e. by_end e now.transcript same
+      two_ends = λ e. by_end e now.transcript same
           (record { both = refl; mine = knows.holds.ends.a; theirs = knows.holds.ends.b; meets = meets })
           (record { both = refl; mine = knows.holds.ends.b; theirs = knows.holds.ends.a; meets = keeps.swaps Initiator (sides_of (port_core s) now.transcript) meets });
       one = λ guest hub. one_session asks answers (port_core s) now knows clean guest hub;
@@ -63,45 +63,45 @@ port_talks shape s l is counts clean =
       front = λ up. subst (λ (x : TranscriptLog). IsFront (heard x.server) (said x.client)) same (messages_of (port_core s) now.transcript B meets.converse up);
     }
   where
-    by_end : (e : End) (transcript : TranscriptLog) → transcript ≡ l.transcript → Talks (asks_of shape) (answers_of shape) Initiator (sides_of (port_core s) transcript)
-        → Talks (asks_of shape) (answers_of shape) Responder (swapped (sides_of (port_core s) transcript))
-        → Talks (asks_of shape) (answers_of shape) (role_at e) (sides_from e (port_core s) l.transcript)
-    by_end A transcript same one other = subst (λ (x : TranscriptLog). Talks (asks_of shape) (answers_of shape) Initiator (sides_of (port_core s) x)) same one
-    by_end B transcript same one other = subst (λ (x : TranscriptLog). Talks (asks_of shape) (answers_of shape) Responder (swapped (sides_of (port_core s) x))) same other
+    by_end : (e : End) (transcript : TranscriptLog) → transcript ≡ l.transcript → TwoEnds (asks_of shape) (answers_of shape) Initiator (sides_of (port_core s) transcript)
+        → TwoEnds (asks_of shape) (answers_of shape) Responder (swapped (sides_of (port_core s) transcript))
+        → TwoEnds (asks_of shape) (answers_of shape) (role_at e) (sides_from e (port_core s) l.transcript)
+    by_end A transcript same one other = subst (λ (x : TranscriptLog). TwoEnds (asks_of shape) (answers_of shape) Initiator (sides_of (port_core s) x)) same one
+    by_end B transcript same one other = subst (λ (x : TranscriptLog). TwoEnds (asks_of shape) (answers_of shape) Responder (swapped (sides_of (port_core s) x))) same other
 
 -- THE SAME of an end of the port
-pub open_turns : (shape : NetShape) (c : LaneCore) (l : PortLog) (e : End) → PortTalks shape c l → IsUp e c.wire.wire → (end_of e c).is_open ≡ true → InAll (role_at e) (transcript_of e l.transcript)
-open_turns shape c l A talks up opened = open_long (asks_of shape) (answers_of shape) Initiator (sides_of c l.transcript) (talks.talks A) up opened
-open_turns shape c l B talks up opened = open_long (asks_of shape) (answers_of shape) Responder (swapped (sides_of c l.transcript)) (talks.talks B) up opened
+pub open_turns : (shape : NetShape) (c : LaneCore) (l : PortLog) (e : End) → PortTwoEnds shape c l → IsUp e c.wire.wire → (end_of e c).is_open ≡ true → InAll (role_at e) (transcript_of e l.transcript)
+open_turns shape c l A two_ends up opened = open_long (asks_of shape) (answers_of shape) Initiator (sides_of c l.transcript) (two_ends.two_ends A) up opened
+open_turns shape c l B two_ends up opened = open_long (asks_of shape) (answers_of shape) Responder (swapped (sides_of c l.transcript)) (two_ends.two_ends B) up opened
 
-pub shut_turns : (shape : NetShape) (c : LaneCore) (l : PortLog) (e : End) → PortTalks shape c l → IsUp e c.wire.wire → (end_of e c).is_open ≡ false
+pub shut_turns : (shape : NetShape) (c : LaneCore) (l : PortLog) (e : End) → PortTwoEnds shape c l → IsUp e c.wire.wire → (end_of e c).is_open ≡ false
     → length (row (role_at e) (transcript_of e l.transcript)) ≤ 5
-shut_turns shape c l A talks up shut = closed_short (asks_of shape) (answers_of shape) Initiator (sides_of c l.transcript) (talks.talks A) up shut
-shut_turns shape c l B talks up shut = closed_short (asks_of shape) (answers_of shape) Responder (swapped (sides_of c l.transcript)) (talks.talks B) up shut
+shut_turns shape c l A two_ends up shut = closed_short (asks_of shape) (answers_of shape) Initiator (sides_of c l.transcript) (two_ends.two_ends A) up shut
+shut_turns shape c l B two_ends up shut = closed_short (asks_of shape) (answers_of shape) Responder (swapped (sides_of c l.transcript)) (two_ends.two_ends B) up shut
 
 -- the peer of an end that heard a message of its session
 pub record PeerOpen (e : End) (c : LaneCore) : Type 0 where
   pub up : IsUp (peer_of e) c.wire.wire
   pub opened : (end_of (peer_of e) c).is_open ≡ true
 
-pub many_open : (shape : NetShape) (c : LaneCore) (l : PortLog) (e : End) → PortTalks shape c l → IsUp e c.wire.wire → 7 ≤ length (heard (transcript_of e l.transcript)) → PeerOpen e c
-many_open shape c l A talks up many =
+pub many_open : (shape : NetShape) (c : LaneCore) (l : PortLog) (e : End) → PortTwoEnds shape c l → IsUp e c.wire.wire → 7 ≤ length (heard (transcript_of e l.transcript)) → PeerOpen e c
+many_open shape c l A two_ends up many =
     let there : PeerIn (sides_of c l.transcript) =
-    peer_open (asks_of shape) (answers_of shape) Initiator (sides_of c l.transcript) (talks.talks A) up (omega (arith, many, least_seven Initiator)) in
+    peer_open (asks_of shape) (answers_of shape) Initiator (sides_of c l.transcript) (two_ends.two_ends A) up (omega (arith, many, least_seven Initiator)) in
     record { up = there.up; opened = there.opened }
-many_open shape c l B talks up many =
+many_open shape c l B two_ends up many =
     let there : PeerIn (swapped (sides_of c l.transcript)) =
-    peer_open (asks_of shape) (answers_of shape) Responder (swapped (sides_of c l.transcript)) (talks.talks B) up (omega (arith, many, least_seven Responder)) in
+    peer_open (asks_of shape) (answers_of shape) Responder (swapped (sides_of c l.transcript)) (two_ends.two_ends B) up (omega (arith, many, least_seven Responder)) in
     record { up = there.up; opened = there.opened }
 
 -- the guest of a switch's end in session is in session, and the peer of a guest in session is up
-pub six_open : (shape : NetShape) (c : LaneCore) (l : PortLog) → PortTalks shape c l → IsUp B c.wire.wire → c.b.is_open ≡ true → c.a.is_open ≡ true
-six_open shape c l talks up opened =
-    let all = open_turns shape c l B talks up opened in
-    (peer_open (asks_of shape) (answers_of shape) Responder (swapped (sides_of c l.transcript)) (talks.talks B) up (least_heard all.heard_long)).opened
+pub six_open : (shape : NetShape) (c : LaneCore) (l : PortLog) → PortTwoEnds shape c l → IsUp B c.wire.wire → c.b.is_open ≡ true → c.a.is_open ≡ true
+six_open shape c l two_ends up opened =
+    let all = open_turns shape c l B two_ends up opened in
+    (peer_open (asks_of shape) (answers_of shape) Responder (swapped (sides_of c l.transcript)) (two_ends.two_ends B) up (least_heard all.heard_long)).opened
 
-pub up_open : (shape : NetShape) (c : LaneCore) (l : PortLog) → PortTalks shape c l → IsUp A c.wire.wire → c.a.is_open ≡ true → IsUp B c.wire.wire
-up_open shape c l talks up opened =
-    let all = open_turns shape c l A talks up opened in
+pub up_open : (shape : NetShape) (c : LaneCore) (l : PortLog) → PortTwoEnds shape c l → IsUp A c.wire.wire → c.a.is_open ≡ true → IsUp B c.wire.wire
+up_open shape c l two_ends up opened =
+    let all = open_turns shape c l A two_ends up opened in
     let six = all.heard_long in
-    peer_is_up (asks_of shape) (answers_of shape) Initiator (sides_of c l.transcript) (talks.talks A) up (omega (arith, six))
+    peer_is_up (asks_of shape) (answers_of shape) Initiator (sides_of c l.transcript) (two_ends.two_ends A) up (omega (arith, six))
