@@ -31,6 +31,7 @@ use Rattle.port_laws.proofs.RuleFrames.{held_frames}
 use Rattle.port_laws.proofs.RuleNoneLeft.{idle_end, port_none_left}
 use Rattle.port_laws.proofs.RuleNoneUntold.{port_none_untold}
 use Rattle.port_laws.proofs.RuleRest.{port_ticks}
+use Rattle.port_laws.proofs.RuleUnforged.{in_some}
 
 lt_some : (n : ℕ) → 1 ≤ n → nat_lt 0 n ≡ true
 lt_some n some = grind (arith, nat_tests, some)
@@ -39,10 +40,6 @@ lt_some n some = grind (arith, nat_tests, some)
 queue_empty : (b : Bool) (queue : List (List ℕ)) (s : PortState) → takes_more s.lane.hub ≡ b → s.queue ≡ queue → 1 ≤ s.lane.hub.slots → is_some s.lane.hub.session ≡ true
     → length (moves_first b queue s).lane.hub.frames ≡ 0 → (moves_first b queue s).queue ≡ []
 queue_empty b queue s takes is slots opened none = grind (arith, length-append, true_false, lt_some)
-
--- a session of which this holds
-some_in : (session : Option SessionLog) (P : SessionLog → Type 0) → InSession session P → (v : SessionLog) × (session ≡ Some v) × P v
-some_in session P here = grind arith
 
 some_not : {X : Type 0} (o : Option X) (x : X) → o ≡ Some x → o ≢ None
 some_not {X} o x is none = none_some x (sym none ∙ is)
@@ -104,7 +101,7 @@ idle_turn shape events s m t is run clean whole first second = by_test (is_finis
     found = finds_before shape m l (CalmTick 0) is (port_kept shape so_far m is run_one) unforged
 
     session : (v : SessionLog) × (l.hub.session ≡ Some v) × AllSeen v
-    session = some_in l.hub.session AllSeen none.hub
+    session = in_some l.hub.session AllSeen none.hub
 
     no_frames : length u.lane.hub.frames ≡ 0
     no_frames = omega (arith, (idle_end shape B u l session.0 finds second.1.step.0 session.1).unseen, session.2)

@@ -24,7 +24,7 @@ use Rattle.channel_model.specs.WireLog.{WireLog}
 use Rattle.channel_laws.specs.Standing.{EndStands}
 use Rattle.cookie_copy.specs.Faults.{is_up}
 use Rattle.cookie_copy.specs.Reach.{Reach}
-use Rattle.port_model.proofs.Refuting.{none_some}
+use Rattle.port_model.proofs.Refuting.{none_some, of_some}
 use Rattle.port_model.proofs.Ruling.{says_of}
 use Rattle.port_model.specs.EndLog.{EndLog}
 use Rattle.port_model.specs.Fetching.{Fetched, fetched}
@@ -68,9 +68,6 @@ own_untaken memory s = fresh_frames s + ready_in s.slots memory s.session
 
 abbrev Kept : List ℕ → NetEndState → List ℕ → NetEndState → Type 0
 Kept memory s new t = own_untaken new t ≤ own_untaken memory s
-
-of_some : {X : Type 0} (P : X → Type 0) (x y : X) → Some x ≡ Some y → P x → P y
-of_some {X} P x y same holds = let is : x ≡ y = cc in subst P is holds
 
 -- in a session of the same counts
 in_session : (memory : List ℕ) (s : NetEndState) (p : NetSession) (n : ℕ) → s.session ≡ Some p → n ≤ (length s.frames - unseen_in p) + ready_slots s.slots memory → n ≤ own_untaken memory s
@@ -252,10 +249,9 @@ hub_crossed shape u l frame t finds step =
     let less : own_untaken step.step.new u.lane.guest + 1 ≤ own_untaken u.lane.guest_memory u.lane.guest =
     subst (λ (x : Option NetSession). (length u.lane.guest.frames - unseen x) + ready_in u.lane.guest.slots step.step.new x + 1
     ≤ (length u.lane.guest.frames - unseen x) + ready_in u.lane.guest.slots u.lane.guest_memory x) (sym takes.theirs) (omega (arith, here)) in
-    subst (λ (x : ChannelState). untaken x t.guest_memory t.guest + 1 ≤ lane_crossing u.lane) (sym (ap (λ (w : WireLog). w.wire.end_a) now.wire ∙ takes.peer_up))
-    (subst (λ (x : ChannelState). own_untaken t.guest_memory t.guest + 1 ≤ untaken x u.lane.guest_memory u.lane.guest) (sym takes.peer_up)
-    (subst (λ (x : NetEndState). own_untaken t.guest_memory x + 1 ≤ own_untaken u.lane.guest_memory u.lane.guest) (sym now.peer_end)
-    (subst (λ (x : List ℕ). own_untaken x u.lane.guest + 1 ≤ own_untaken u.lane.guest_memory u.lane.guest) (sym (now.peer_memory ∙ ap (λ (x : NetLeft). x.peer) step.step.is)) less)))
+    let state = ap (λ (w : WireLog). w.wire.end_a) now.wire ∙ takes.peer_up in
+    let memory = now.peer_memory ∙ ap (λ (x : NetLeft). x.peer) step.step.is in
+    rw (state, takes.peer_up, now.peer_end, memory) less
 
 hub_crossing : (shape : NetShape) (u : PortState) (l : PortLog) (answer : NetAnswer) (t : NetLaneState) → Finds shape u l → EndSteps B u.lane answer t → lane_crossing t ≤ lane_crossing u.lane
 hub_crossing shape u l (Frame frame) t finds step = let less = hub_crossed shape u l frame t finds step in omega (arith, less)
@@ -316,8 +312,7 @@ port_tick_crossing s queued lost t step =
 -- no more than the guest holds
 few_up : (shape : NetShape) (s : PortState) (l : PortLog) (session : Option NetSession) → Finds shape s l → IsUp A s.lane.wire.wire → s.lane.guest.session ≡ session
     → own_untaken s.lane.guest_memory s.lane.guest ≤ length s.lane.guest.frames
-few_up shape s l None finds up is =
-    subst (λ (x : Option NetSession). (length s.lane.guest.frames - unseen x) + ready_in s.lane.guest.slots s.lane.guest_memory x ≤ length s.lane.guest.frames) (sym is) (omega arith)
+few_up shape s l None finds up is = rw is (omega arith)
 few_up shape s l (Some p) finds up is =
     let ring : RingHolds l.shape.slots p.seen (taken_of B s.lane l) p.published s.lane.guest.frames s.lane.guest_memory =
     subst (λ (x : Option NetSession). RingIn l.shape.slots (taken_of B s.lane l) x s.lane.guest.frames s.lane.guest_memory) is (finds.rings.guest_ring up) in
@@ -325,10 +320,7 @@ few_up shape s l (Some p) finds up is =
     let most : ready_slots s.lane.guest.slots s.lane.guest_memory ≤ p.published - taken_of B s.lane l =
     subst (λ (n : ℕ). ready_slots n s.lane.guest_memory ≤ p.published - taken_of B s.lane l) slots_is
     (ready_most l.shape.slots p.seen (taken_of B s.lane l) p.published s.lane.guest.frames s.lane.guest_memory ring) in
-    let first = ring.seen_first in
-    let held = ring.held in
-    subst (λ (x : Option NetSession). (length s.lane.guest.frames - unseen x) + ready_in s.lane.guest.slots s.lane.guest_memory x ≤ length s.lane.guest.frames) (sym is)
-    (omega (arith, most, first, held))
+    rw is (omega (arith, most, ring.seen_first, ring.held))
 
 pub port_few_cross : (shape : NetShape) (events : List PortEvent) (s : PortState) → IsNetShape shape → Run PortStep (fresh_port shape) events s → s.lane.wire.forged ≡ false
     → crossing s ≤ length s.lane.guest.frames

@@ -129,13 +129,10 @@ module _ (shape : NetShape) (u t : PortState) (l : PortLog) (left : NetLeft) (p 
   abbrev Now : List Turn → Type 0
   Now turns = Between left.end u.lane.hub turns l.transcript.server q
 
-  some_same : {X : Type 0} (o : Option X) (x y : X) → o ≡ Some x → o ≡ Some y → x ≡ y
-  some_same {X} o x y one two = let both : Some x ≡ Some y = sym one ∙ two in cc both
-
   -- with the same link, handshake and groups
   quiet_now : (now_is : NetSession) → left.end.session ≡ Some now_is → left.end.groups ≡ s.groups → left.end.handshake ≡ s.handshake → left.end.link.to_send ≡ s.link.to_send → now_is.telling ≡ p.telling
       → now_is.reply ≡ p.reply → now_is.untold ≡ p.untold → Now l.transcript.client
-  quiet_now now_is is groups handshake sends telling reply untold = grind (arith, some_same, guest_as, same_outbox, same_exchange)
+  quiet_now now_is is groups handshake sends telling reply untold = grind (arith, one_session, guest_as, same_outbox, same_exchange)
 
   may_form : GuestSid u.lane → (acting : Acting Initiator shape.slots [] s l.guest l.transcript.client) → MayForm Initiator s.handshake.draft.sid s p
   may_form sid acting = record { session = session; agreed = sid.agreed; small = sid.small; empty = λ quiet. free_empty Initiator s l.transcript.client acting.ends quiet }
@@ -162,17 +159,14 @@ module _ (shape : NetShape) (u t : PortState) (l : PortLog) (left : NetLeft) (p 
           let same : left.end ≡ record s { link = none.link } = cc took in
           let here : Now l.transcript.client =
           quiet_now p (ap (λ (x : NetEndState). x.session) same ∙ session) (ap (λ (x : NetEndState). x.groups) same) (ap (λ (x : NetEndState). x.handshake) same)
-          (ap (λ (x : NetEndState). x.link.to_send) same ∙ none.sends) refl refl refl in
-          subst (λ (xs : List (List ℕ)). ExchangeIn left.end.handshake.draft.sid left.end.groups q (outbox left.end l.transcript.client l.transcript.server)
-          (unheard (said l.transcript.server) xs ++ listed (unsaid u.lane.hub)) u.lane.hub.session u.lane.hub.groups) (sym none.messages) here
+          (ap (λ (x : NetEndState). x.link.to_send) same ∙ none.sends) refl refl refl in rw none.messages here
       by_hears (inr (inl one)) =
           let sides = sides_of (lane_core u.lane) l.transcript in
           let exchange = two_ends.two_ends A in
           let grown : IsFront (heard l.transcript.client ++ one.bytes ∷ []) (said l.transcript.server) = subst (λ (xs : List (List ℕ)). IsFront xs (said l.transcript.server)) one.messages front in
           let first = outbox_heard u.lane.hub l.transcript.server l.transcript.client packet one.bytes one.messages grown in
           let before : ExchangeIn s.handshake.draft.sid s.groups p (outbox s l.transcript.client l.transcript.server) (one.bytes ∷ outbox u.lane.hub l.transcript.server (Heard packet ∷ l.transcript.client))
-          u.lane.hub.session u.lane.hub.groups =
-          subst (λ (xs : List (List ℕ)). ExchangeIn s.handshake.draft.sid s.groups p (outbox s l.transcript.client l.transcript.server) xs u.lane.hub.session u.lane.hub.groups) first was in
+          u.lane.hub.session u.lane.hub.groups = rw first at was in
           let own : OwnRead one.bytes exchange.meets.handshakes.sid =
           next_read (asks_of shape) (answers_of shape) Initiator Responder sides one.bytes s.handshake.draft.sid exchange up opened other_up grown before.answers_fit.0 in
           let agreed = mine_agreed (asks_of shape) (answers_of shape) Initiator sides exchange up opened in
@@ -183,7 +177,7 @@ module _ (shape : NetShape) (u t : PortState) (l : PortLog) (left : NetLeft) (p 
           (message_does Initiator (record s { link = one.link }) p u.lane.guest_memory own.message (session_open Initiator s l.transcript.client p acting.ends session)) in
           let noted = guest_notes (record s { link = one.link }) left.end p u.lane.guest_memory left.own one.bytes own.message own.of own.spells does.does in
           let notes : GuestNotes (record s { link = one.link }) left.end p noted.0 one.bytes = noted.1 in
-          let same : noted.0 ≡ q = some_same left.end.session noted.0 q notes.session now in
+          let same : noted.0 ≡ q = one_session left.end.session noted.0 q notes.session now in
           guest_as s left.end q (outbox s l.transcript.client l.transcript.server) (outbox left.end (Heard packet ∷ l.transcript.client) l.transcript.server)
           (outbox u.lane.hub l.transcript.server (Heard packet ∷ l.transcript.client)) u.lane.hub.session u.lane.hub.groups notes.groups notes.handshake
           (same_outbox s left.end l.transcript.client l.transcript.server notes.handshake (notes.sends ∙ one.sends))
@@ -220,10 +214,9 @@ guest_in shape u t l Blocked left p q acts goes session now up other front was =
     let sid = guest_sid shape u.lane l acts.finds.two_ends up (ap is_some session) in
     let forms = forms_now shape u t l left p q session now other was left.end acting sid acts.step.0 in
     let same : forms.q ≡ q = one_session left.end.session forms.q q forms.session_is now in
-    guest_as u.lane.guest left.end q (outbox left.end l.transcript.client l.transcript.server) (outbox left.end l.transcript.client l.transcript.server)
-    (outbox u.lane.hub l.transcript.server l.transcript.client) u.lane.hub.session u.lane.hub.groups forms.groups forms.handshake refl
-    (subst (λ (x : NetSession). ExchangeIn u.lane.guest.handshake.draft.sid u.lane.guest.groups x (outbox left.end l.transcript.client l.transcript.server)
-    (outbox u.lane.hub l.transcript.server l.transcript.client) u.lane.hub.session u.lane.hub.groups) same forms.exchange)
+    guest_as u.lane.guest left.end q (outbox left.end l.transcript.client l.transcript.server) (outbox left.end
+    l.transcript.client l.transcript.server) (outbox u.lane.hub l.transcript.server l.transcript.client)
+    u.lane.hub.session u.lane.hub.groups forms.groups forms.handshake refl (rw same at forms.exchange)
 guest_in shape u t l (Sent packet opens) left p q acts goes session now up other front was =
     let step = acts.step in
     let acting = acting_at shape A u l acts.finds up in
@@ -245,8 +238,7 @@ guest_in shape u t l _ left p q acts goes session now up other front was = absur
 guest_opens : (shape : NetShape) (u t : PortState) (l : PortLog) (packet : List ℕ) (left : NetLeft) (q : NetSession) → Acts shape A u t l (Sent packet true) left → IsUp A t.lane.wire.wire → IsUp B t.lane.wire.wire
     → l.guest.session ≡ None → u.lane.hub.groups ≡ [] → left.end.session ≡ Some q → Between left.end u.lane.hub (Said packet ∷ l.transcript.client) l.transcript.server q
 guest_opens shape u t l packet left q acts up other none nothing now =
-    let turned = turned_at shape A u t l (Sent packet true) left acts tt in
-    let few = turned.few none in
+    let few = (turned_at shape A u t l (Sent packet true) left acts tt).few none in
     let then_ = after l (OnLane (Steps A (Sent packet true))) in
     let up_before = acts_up_at shape A u t l (Sent packet true) left acts tt in
     let other_before = peer_was_up shape A u t l (Sent packet true) left acts tt other in
@@ -284,16 +276,11 @@ guest_exchange shape u t l answer left acts exchange q up other some = as_now (b
 
     as_now : Between left.end u.lane.hub (turns_now answer l.transcript.client) l.transcript.server q → Between t.lane.guest t.lane.hub then_.transcript.client then_.transcript.server q
     as_now one =
-        let turns = turns_at A l.transcript answer in
-        subst (λ (xs : List Turn). Between t.lane.guest t.lane.hub xs then_.transcript.server q) (sym turns.mine)
-        (subst (λ (xs : List Turn). Between t.lane.guest t.lane.hub (turns_now answer l.transcript.client) xs q) (sym turns.theirs)
-        (subst (λ (x : NetEndState). Between t.lane.guest x (turns_now answer l.transcript.client) l.transcript.server q) (sym acts.now.peer_end)
-        (subst (λ (x : NetEndState). Between x u.lane.hub (turns_now answer l.transcript.client) l.transcript.server q) (sym acts.now.end) one)))
+        let turns = turns_at A l.transcript answer in rw (turns.mine, turns.theirs, acts.now.peer_end, acts.now.end) one
 
     front : IsFront (heard (turns_now answer l.transcript.client)) (said l.transcript.server)
     front =
-        let turns = turns_at A l.transcript answer in
-        subst (λ (xs : List Turn). IsFront (heard xs) (said l.transcript.server)) turns.mine (subst (λ (xs : List Turn). IsFront (heard then_.transcript.client) (said xs)) turns.theirs (acts.two_ends.front_a up))
+        let turns = turns_at A l.transcript answer in rw turns.mine at (rw turns.theirs at (acts.two_ends.front_a up))
 
     in_log : then_.guest.session ≢ None
     in_log =

@@ -10,7 +10,7 @@ use Rattle.ldc_queue.specs.declared.end.ChannelState.{ChannelState}
 use Rattle.ldc_queue.specs.declared.end.ChannelState.TheVariants.{Up}
 use Rattle.ldc_queue.specs.declared.end.End.TheVariants.{A, B}
 use Rattle.ldc_queue.specs.OneStream.{IsFront}
-use Rattle.ldc_queue.specs.Transcript.{Heard, Said, Turn}
+use Rattle.ldc_queue.specs.Transcript.{Heard, Turn}
 use Rattle.vio_handshake.specs.Rules.{Faults, Goes as GoesTake, GoesOpen, HandshakeTake, handshake_take}
 use Rattle.vio_tag.specs.declared.message.Message.{Message}
 use Rattle.vio_tag.specs.declared.message.TagFault.{TagFault}
@@ -97,9 +97,7 @@ module _ (shape : NetShape) (u t : PortState) (l : PortLog) (left : NetLeft) (p 
           let same : left.end ≡ record u.lane.hub { link = none.link } = cc took in
           let here : Now l.transcript.server =
           quiet_now q (ap (λ (x : NetEndState). x.session) same ∙ session) (ap (λ (x : NetEndState). x.groups) same) (ap (λ (x : NetEndState). x.handshake) same)
-          (ap (λ (x : NetEndState). x.link.to_send) same ∙ none.sends) refl in
-          subst (λ (xs : List (List ℕ)). ExchangeIn sid u.lane.guest.groups p (unheard (said l.transcript.client) xs ++ listed (unsaid u.lane.guest))
-          (outbox left.end l.transcript.server l.transcript.client) left.end.session left.end.groups) (sym none.messages) here
+          (ap (λ (x : NetEndState). x.link.to_send) same ∙ none.sends) refl in rw none.messages here
       by_hears (inr (inr refused)) = let never : GoesOn left.end opens left.own ≡ Resets refused.cause = refused.is in absurd (cc never)
       by_hears (inr (inl one)) = by_notes noted.1
         where
@@ -136,9 +134,8 @@ module _ (shape : NetShape) (u t : PortState) (l : PortLog) (left : NetLeft) (p 
           with_out : (known : List (List ℕ)) → left.end.groups ≡ known → left.end.handshake ≡ u.lane.hub.handshake → left.end.link.to_send ≡ u.lane.hub.link.to_send
               → ExchangeIn sid u.lane.guest.groups p asks (outbox u.lane.hub l.transcript.server l.transcript.client) left.end.session known → Now (Heard packet ∷ l.transcript.server)
           with_out known groups handshake sends exchange =
-              subst (λ (xs : List (List ℕ)). ExchangeIn sid u.lane.guest.groups p asks (outbox left.end l.transcript.server l.transcript.client) left.end.session xs) (sym groups)
-              (subst (λ (xs : List (List ℕ)). ExchangeIn sid u.lane.guest.groups p asks xs left.end.session known)
-              (sym (same_outbox u.lane.hub left.end l.transcript.server l.transcript.client handshake sends)) exchange)
+              rw (groups, same_outbox u.lane.hub left.end l.transcript.server l.transcript.client handshake sends)
+              exchange
 
           by_notes : HubNotes (record u.lane.hub { link = one.link }) left.end q noted.0 one.bytes ⊎ HubLearns (record u.lane.hub { link = one.link }) left.end noted.0 one.bytes
               → Now (Heard packet ∷ l.transcript.server)
@@ -178,8 +175,7 @@ hub_in shape u t l Blocked left p q acts goes session guest fresh up other front
     let small = (guest_sid shape u.lane l acts.finds.two_ends up (ap is_some guest)).small in
     let forms = forms_now shape u t l left p q session fresh was left.end acting
     (record { session = session; agreed = agreed; small = small; empty = λ quiet. free_empty Responder u.lane.hub l.transcript.server acting.ends quiet }) acts.step.0 in
-    subst (λ (xs : List (List ℕ)). ExchangeIn u.lane.guest.handshake.draft.sid u.lane.guest.groups p (outbox u.lane.guest l.transcript.client l.transcript.server)
-    (outbox left.end l.transcript.server l.transcript.client) left.end.session xs) (sym forms.groups_are) forms.exchange
+    rw forms.groups_are forms.exchange
 hub_in shape u t l (Sent packet opens) left p q acts goes session guest fresh up other front was =
     let step = acts.step in
     let acting = acting_at shape B u l acts.finds other in
@@ -189,12 +185,8 @@ hub_in shape u t l (Sent packet opens) left p q acts goes session guest fresh up
     (record { session = session; agreed = agreed; small = small; empty = λ quiet. free_empty Responder u.lane.hub l.transcript.server acting.ends quiet }) step.holds in
     let puts : PutsIt step.held left.end l.transcript.server packet =
     sends_own Responder shape.slots u.queue u.lane.hub l.hub l.transcript.server (seen_at B u.lane) u.lane.hub_memory (reach_of B u.lane) packet opens left forms.q acting step agreed.owed forms.session_is in
-    subst (λ (xs : List (List ℕ)). ExchangeIn u.lane.guest.handshake.draft.sid u.lane.guest.groups p (outbox u.lane.guest l.transcript.client l.transcript.server)
-    (outbox left.end (Said packet ∷ l.transcript.server) l.transcript.client) left.end.session xs) (sym (puts.groups ∙ forms.groups_are))
-    (subst (λ (o : Option NetSession). ExchangeIn u.lane.guest.handshake.draft.sid u.lane.guest.groups p (outbox u.lane.guest l.transcript.client l.transcript.server)
-    (outbox left.end (Said packet ∷ l.transcript.server) l.transcript.client) o u.lane.hub.groups) (sym puts.session)
-    (subst (λ (xs : List (List ℕ)). ExchangeIn u.lane.guest.handshake.draft.sid u.lane.guest.groups p (outbox u.lane.guest l.transcript.client l.transcript.server) xs step.held.session u.lane.hub.groups)
-    (sym (outbox_put step.held left.end l.transcript.server l.transcript.client packet puts (acts.finds.two_ends.front_a up))) forms.exchange))
+    rw (puts.groups ∙ forms.groups_are, puts.session) (rw (outbox_put step.held left.end l.transcript.server
+    l.transcript.client packet puts (acts.finds.two_ends.front_a up)) forms.exchange)
 hub_in shape u t l (Took packet opens) left p q acts goes session guest fresh up other front was =
     let says = says_of Responder u.lane.hub (seen_at B u.lane) (Takes packet) acts.step.0 in
     let listens : MayListen q = subst (λ (x : Option NetSession). IfOpen x MayListen) session says.2 in
@@ -351,11 +343,7 @@ hub_exchange shape u t l answer left acts fresh exchange p up other some = as_no
     front = subst (λ (xs : List Turn). IsFront (heard xs) (said l.transcript.client)) turns (subst (λ (xs : List Turn). IsFront (heard then_.transcript.server) (said xs)) same (acts.two_ends.front other))
 
     as_now : Between u.lane.guest left.end l.transcript.client (turns_now answer l.transcript.server) p → Between t.lane.guest t.lane.hub then_.transcript.client then_.transcript.server p
-    as_now one =
-        subst (λ (xs : List Turn). Between t.lane.guest t.lane.hub then_.transcript.client xs p) (sym turns)
-        (subst (λ (xs : List Turn). Between t.lane.guest t.lane.hub xs (turns_now answer l.transcript.server) p) (sym same)
-        (subst (λ (x : NetEndState). Between x t.lane.hub l.transcript.client (turns_now answer l.transcript.server) p) (sym acts.now.peer_end)
-        (subst (λ (x : NetEndState). Between u.lane.guest x l.transcript.client (turns_now answer l.transcript.server) p) (sym acts.now.end) one)))
+    as_now one = rw (turns, same, acts.now.peer_end, acts.now.end) one
 
     was : Between u.lane.guest u.lane.hub l.transcript.client l.transcript.server p
     was = exchange p guest_before up_before guest_some

@@ -32,7 +32,7 @@ use Rattle.port_model.specs.PortLog.{PortLog}
 use Rattle.port_model.specs.PortState.{PortState}
 use Rattle.port_model.specs.Spoken.{RangeAck, RangeInfo, Spoken, spoken}
 use Rattle.port_laws.specs.Counted.{unsaid}
-use Rattle.port_laws.specs.NetCore.{lane_core, one_if}
+use Rattle.port_laws.specs.NetCore.{lane_core}
 use Rattle.port_laws.specs.WaysStand.{Way, Ways, WaysStand, ack_first, acks_in, info_first, infos_in, or_new}
 use Rattle.port_laws.proofs.Outbox.{EachFits, MessageFits, RangeFits, count-append, count_groups, listed, outbox, unheard as undrawn}
 use Rattle.port_laws.proofs.PeerOpens.{TwoEnds, mine_at, theirs_at}
@@ -42,6 +42,7 @@ use Rattle.port_laws.proofs.PutCounts.{own_half}
 use Rattle.port_laws.proofs.RingActs.{Finds, acting_at, open_both}
 use Rattle.port_laws.proofs.StepCounts.{Acting}
 use Rattle.port_laws.proofs.ExchangeGuest.{Between, ExchangeStands, guest_sid}
+use Rattle.port_laws.proofs.EndMoves.{one_most}
 
 -- LISTS
 suffix_of : {X : Type 0} (xs five ys rest : List X) → xs ++ ys ≡ five ++ rest → length five ≤ length xs → (x : List X) × (xs ≡ five ++ x) × (rest ≡ x ++ ys)
@@ -147,9 +148,6 @@ both_up _ is = absurd (cc is)
 longer : (xs ys : List (List ℕ)) → IsFront xs ys → length xs ≤ length ys
 longer xs ys front = omega (arith, ap length front.1, length-append xs front.0)
 
-telling_few : (b : Bool) → one_if b ≤ 1
-telling_few b = grind arith
-
 module _ (shape : NetShape) (u : PortState) (l : PortLog) (p : NetSession) (finds : Finds shape u l) (ways : WaysStand u.lane l) (exchange : ExchangeStands u.lane l) (up : IsUp A u.lane.wire.wire)
     (other_up : IsUp B u.lane.wire.wire) (session : u.lane.guest.session ≡ Some p) (whole : u.lane.wire.lossy ≡ false) (parts : PartsSaid l.transcript.client) (long : LongSaid l.transcript.client) where
   abbrev sides : Sides
@@ -216,7 +214,7 @@ module _ (shape : NetShape) (u : PortState) (l : PortLog) (p : NetSession) (find
   fits = fits_front u.lane.guest.handshake.draft.sid left.messages (listed (unsaid u.lane.guest)) (subst (EachFits Initiator u.lane.guest.handshake.draft.sid) asks between.asks_fit)
 
   groups_few : count_groups left.messages ≤ 1
-  groups_few = grind (arith, between, asks, count-append, left, telling_few)
+  groups_few = grind (arith, between, asks, count-append, left, one_most)
 
   way : Ways l.shape.slots (said l.transcript.client) (heard l.transcript.client) (said l.transcript.server) (heard l.transcript.server) (or_new l.guest.session) (or_new l.hub.session)
   way = ways up other_up guest_in

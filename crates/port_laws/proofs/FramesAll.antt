@@ -93,8 +93,7 @@ own_adds shape e u t l answer left more acts less = record {
       let same : taken_of (peer_of e) t.lane m ≡ taken_by (theirs_now answer x y) (log_of_end (peer_of e) l).session =
       ap (λ (z : ChannelState). taken_by z (log_of_end (peer_of e) m).session) (ap (λ (w : WireLog). state_of (peer_of e) w.wire) acts.now.wire ∙ (wire_now e u.lane answer).theirs)
       ∙ ap (λ (z : EndLog). taken_by (theirs_now answer x y) z.session) log.theirs in
-      let most = theirs_less answer x y (log_of_end (peer_of e) l).session in
-      omega (arith, same, most);
+      omega (arith, same, theirs_less answer x y (log_of_end (peer_of e) l).session);
   opened = λ v none is. opened_zero l.shape.slots (transcript_of e l.transcript) answer (log_of_end e l) v none (sym (ap (λ (z : EndLog). z.session) log.mine) ∙ is);
 }
   where
@@ -239,9 +238,8 @@ module _ (shape : NetShape) (is : IsNetShape shape) where
       record {
         gone = λ d clean.
             (let less = rest.gone d clean in
-            let first = length-append (by_end d) (took d event) in
             let both = length-append (took d event) (frames_taken d events) in
-            omega (arith, less, first, both));
+            omega (arith, less, length-append (by_end d) (took d event), both));
         wire = rest.wire;
       }
 
@@ -257,8 +255,7 @@ bounded : (n : ℕ) (frames given : List (List ℕ)) → n ≤ length given → 
 bounded n [] given within order = omega (arith, within)
 bounded n (frame ∷ frames) given within order =
     let there = slice_get_within given order.0 frame order.2 in
-    let rest = bounded (order.0 + 1) frames given (omega (arith, there)) order.3 in
-    omega (arith, rest, order.1)
+    omega (arith, bounded (order.0 + 1) frames given (omega (arith, there)) order.3, order.1)
 
 none_left : (n : ℕ) (given : List (List ℕ)) → length given ≤ n → drop n given ≡ []
 none_left zero [] less = refl

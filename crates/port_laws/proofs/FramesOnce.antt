@@ -111,10 +111,8 @@ bounds shape d s l finds = record { within = within; counted = counted; shut = s
     counted v log =
         let both = both_open (role_at e) shape.slots (queue_of e s) f (log_of_end e l) v (end_counted shape e s l finds.ready) log in
         let ring = both.open_is.counts.ring in
-        let all = ring.all in
-        let left = ring.left in
         let stands = (counts_stand f both.p (end_stood shape e s l finds.ready) both.is).seen in
-        omega (arith, all, left, stands, lost v both.p log both.is)
+        omega (arith, ring.all, ring.left, stands, lost v both.p log both.is)
 
     shut : (log_of_end e l).session ≡ None → (log_of_end e l).published ≡ (log_of_end e l).gone
     shut none = (shut_counts (role_at e) shape.slots (queue_of e s) f (log_of_end e l) (end_counted shape e s l finds.ready) (by_session f.session refl)).gone_all
@@ -423,8 +421,7 @@ goes_below n k frames new given behind none less grown below = grind (arith, Bel
 last_below : (n k : ℕ) (frames new given behind : List (List ℕ)) (frame : List ℕ) → new ≡ frame ∷ [] → slice_get given n ≡ Some frame → n + 1 ≤ k → Grown given behind → Below 0 n frames given
     → Below 0 k (frames ++ new) behind
 last_below n k frames new given behind frame one get less grown below =
-    subst (λ (xs : List (List ℕ)). Below 0 k (frames ++ xs) behind) (sym one)
-    (subst (Below 0 k (frames ++ frame ∷ [])) (sym grown.1)
+    rw one (subst (Below 0 k (frames ++ frame ∷ [])) (sym grown.1)
     (below_given 0 k (frames ++ frame ∷ []) given grown.0 (below_more 0 (n + 1) k (frames ++ frame ∷ []) given less (below_last 0 n frames given frame get below))))
 
 record TakesOne (d : End) (event : NetEvent) : Type 0 where

@@ -41,9 +41,7 @@ in_it (x ∷ xs) address ys = or_second (pointwise nat_eq address x) _ (in_it xs
 with_known : (done rest : List (List ℕ)) → with_groups (done ++ rest) rest ≡ done ++ rest
 with_known done [] = refl
 with_known done (address ∷ rest) =
-    let assoc : (done ++ address ∷ []) ++ rest ≡ done ++ (address ∷ rest) = append_assoc done (address ∷ []) rest in
-    ap (λ (b : Bool). with_groups (if b then done ++ (address ∷ rest) else (done ++ (address ∷ rest)) ++ address ∷ []) rest) (in_it done address rest)
-    ∙ ap (λ (xs : List (List ℕ)). with_groups xs rest) (sym assoc) ∙ with_known (done ++ address ∷ []) rest ∙ assoc
+    grind (arith, with_known (done ++ address ∷ []) rest, append_assoc done (address ∷ []) rest, in_it)
 
 with_fresh : (first rest : List (List ℕ)) → Fresh first rest → with_groups first rest ≡ first ++ rest
 with_fresh first [] fresh = sym (append-nil first)

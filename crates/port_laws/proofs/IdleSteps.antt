@@ -1,5 +1,5 @@
 -- A step of the switch's end that is idle leaves the whole port as it was: a frame that moves to the end from the out queue is published.
-use Rattle.std.proofs.Common.{◌≡◌, ℕ, ◌≤◌, Bool, true, false, Option, Some, List, [], ◌∷◌, length, refl, ap, ◌∙◌, arith, length-append}
+use Rattle.std.proofs.Common.{◌≡◌, ℕ, ◌≤◌, Bool, true, false, Some, List, [], ◌∷◌, length, refl, ap, ◌∙◌, arith, length-append}
 use Rattle.std.specs.Prelude.{is_some, nat_lt}
 use Rattle.std.proofs.lemmas.Bool.{and_parts}
 use Rattle.ldc_link.specs.declared.phase.Role.TheVariants.{Responder}
@@ -20,9 +20,7 @@ use Rattle.port_laws.proofs.StepCounts.{counts_stand}
 use Rattle.port_laws.proofs.RingRuns.{port_kept}
 use Rattle.port_laws.proofs.RuleFrames.{end_stood}
 use Rattle.port_laws.proofs.RuleIdle.{past_end, rule_left}
-
-some_session : (session : Option NetSession) → is_some session ≡ true → (p : NetSession) × (session ≡ Some p)
-some_session session is = grind arith
+use Rattle.port_laws.proofs.PutCounts.{some_of}
 
 -- an idle end in session published all that it holds
 idle_long : (s : PortState) (p : NetSession) → port_rule Responder s.lane.hub (seen_at B s.lane) ≡ Idles → s.lane.hub.session ≡ Some p → length s.lane.hub.frames ≤ unseen_in p
@@ -32,7 +30,7 @@ moves_none : (b : Bool) (queue : List (List ℕ)) (s : PortState) → takes_more
     → port_rule Responder (moves_first b queue s).lane.hub (seen_at B (moves_first b queue s).lane) ≡ Idles → moves_first b queue s ≡ s
 moves_none true [] s takes is stands idles = refl
 moves_none true (frame ∷ frames) s takes is stands idles =
-    let session = some_session s.lane.hub.session (and_parts (is_some s.lane.hub.session) (nat_lt (length s.lane.hub.frames) s.lane.hub.slots) takes).0 in
+    let session = some_of s.lane.hub.session (and_parts (is_some s.lane.hub.session) (nat_lt (length s.lane.hub.frames) s.lane.hub.slots) takes).0 in
     let held = (counts_stand s.lane.hub session.0 stands session.1).held in
     let long = idle_long (moves_first true (frame ∷ frames) s) session.0 idles session.1 in
     absurd (omega (arith, held, long, length-append s.lane.hub.frames (frame ∷ [])))

@@ -29,7 +29,7 @@ use Rattle.channel_model.specs.TranscriptLog.{transcript_of}
 use Rattle.port_model.proofs.Moving.{before_keeps}
 use Rattle.port_model.proofs.Ruling.{says_of}
 use Rattle.port_model.specs.Fetching.{slots_cookies}
-use Rattle.port_model.specs.NetEndPutting.{cleared_by_put, cleared_ring, net_opens}
+use Rattle.port_model.specs.NetEndPutting.{cleared_by_put, cleared_ring}
 use Rattle.port_model.specs.NetEndRule.{Publishes, Takes}
 use Rattle.port_model.specs.NetEndState.{NetEndState, NetSession, unseen_in}
 use Rattle.port_model.specs.NetEndStep.{Frame, Idle, NetAnswer, NetEndStep, NetLeft, Published, Sent, Took, published_memory}
@@ -118,20 +118,16 @@ step_long role s turns at memory reach (Took packet opens) left some fits owns s
       ap length step.2,
     )
 step_long role s turns at memory reach (Sent packet opens) left some fits owns step =
-    let few = fits.few in
-    let room = fits.room in
-    subst (SameLong memory reach.memory) (sym step.is) (put_long role (net_opens step.held) s.slots memory (omega (arith, few, room)), refl)
+    grind (arith, fits.few, fits.room, put_long)
 step_long role s turns at memory reach Idle left some fits owns step = subst (SameLong memory reach.memory) (sym step.1) (refl, refl)
 step_long role s turns at memory reach (Published id) left some fits owns step =
     let says = says_of role s at (Publishes step.session step.frame) step.rule in
     let is = (owns says.0.in_session.free.up).frames (unseen_in step.session) step.frame says.1 in
-    subst (SameLong memory reach.memory) (sym step.is)
-    (published_long s.slots (step.session.published % s.slots) step.frame memory fits (mod_below step.session.published s.slots (omega (arith, some))) is, refl)
+    grind (arith, published_long, mod_below)
 step_long role s turns at memory reach (Frame frame) left some fits owns step =
-    let found = found_frame s reach step.session.place frame step.new step.found in
     subst (SameLong memory reach.memory) (sym step.is) (
       refl,
-      ap length found.new_is
+      ap length (found_frame s reach step.session.place frame step.new step.found).new_is
           ∙ moved_long reach (slots_cookies s) (64 * step.session.place) (header 4 (net_desc_of (moved_in reach.table reach.memory (slots_cookies s) (64 * step.session.place) 64)).ack),
     )
 step_long role s turns at memory reach _ left some fits owns step = subst (SameLong memory reach.memory) (sym step.2) (refl, refl)

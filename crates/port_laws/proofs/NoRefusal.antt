@@ -1,5 +1,5 @@
 -- On a port that nobody forged an end resets itself for a gap alone, and only behind a loss: no message of a session is refused.
-use Rattle.std.proofs.Common.{◌≡◌, ◌≢◌, ℕ, ◌+◌, ◌-◌, ◌%◌, ◌≤◌, ◌⊎◌, Bool, true, false, Option, Some, None, List, [], ◌∷◌, ◌++◌, inl, inr, refl, sym, ap, ◌∙◌, subst, arith}
+use Rattle.std.proofs.Common.{◌≡◌, ◌≢◌, ℕ, ◌+◌, ◌-◌, ◌%◌, ◌≤◌, ◌⊎◌, true, false, Option, Some, None, List, [], ◌∷◌, ◌++◌, inl, inr, refl, sym, ap, ◌∙◌, subst, arith}
 use Rattle.std.specs.Prelude.{is_some}
 use Rattle.std.proofs.lemmas.Nat.{mod_below}
 use Rattle.ldc_link.specs.declared.phase.Role.TheVariants.{Initiator, Responder}
@@ -43,17 +43,17 @@ use Rattle.port_model.specs.PortLog.{PortLog, after, log_of_end, no_events}
 use Rattle.port_model.specs.PortMay.{OfWire}
 use Rattle.port_model.specs.PortState.{OnLane, PortEvent, PortState, PortStep, Receives, before, fresh_port}
 use Rattle.port_model.specs.RuleFacts.{RuleSays}
-use Rattle.port_model.specs.Spoken.{RangeAck, RangeInfo, Spoken, range_spoken, spoken, spoken_by}
+use Rattle.port_model.specs.Spoken.{RangeAck, RangeInfo, range_spoken, spoken, spoken_by}
 use Rattle.port_laws.specs.Counted.{EndCounts}
 use Rattle.port_laws.specs.NetCore.{fresh_net_core, lane_core}
 use Rattle.port_laws.specs.PortCore.{port_core, port_events}
 use Rattle.port_laws.specs.RingHolds.{RingHolds}
 use Rattle.port_laws.specs.RingStands.{RingIn, taken_by}
-use Rattle.port_laws.specs.WaysStand.{Way, Ways, WaysStand, ack_first, acks_in, info_first, infos_in, or_new}
+use Rattle.port_laws.specs.WaysStand.{Way, Ways, WaysStand, acks_in, infos_in, or_new}
 use Rattle.port_laws.proofs.CoreLaws.{offers_match, sizes_fit}
 use Rattle.port_laws.proofs.EndCounting.{OpenCounts, open_empty}
 use Rattle.port_laws.proofs.HearsIn.{AllAgreed, Hears, OwnRead, hears_in, mine_agreed}
-use Rattle.port_laws.proofs.LaneMoves.{event_core_step}
+use Rattle.port_laws.proofs.LaneMoves.{event_core_step, up_of}
 use Rattle.port_laws.proofs.Outbox.{MessageFits, outbox}
 use Rattle.port_laws.proofs.PeerOpens.{PeerIn, TwoEnds, least_heard, peer_open}
 use Rattle.port_laws.proofs.PortCounts.{PortCounts, queue_of}
@@ -63,7 +63,6 @@ use Rattle.port_laws.proofs.Refusing.{Expects, ack_comes, info_comes, ring_done,
 use Rattle.port_laws.proofs.RingActs.{Finds, core_open, open_both, ring_of_end}
 use Rattle.port_laws.proofs.RingRuns.{finds_before}
 use Rattle.port_laws.proofs.RuleFrames.{end_acts, end_counted}
-use Rattle.port_laws.proofs.RuleRest.{up_state}
 use Rattle.port_laws.proofs.RuleSlots.{slot_reset}
 use Rattle.port_laws.proofs.PutCounts.{some_of}
 use Rattle.port_laws.proofs.StepCounts.{Acting}
@@ -75,6 +74,7 @@ use Rattle.port_laws.proofs.ExchangeSteps.{outbox_heard}
 use Rattle.port_laws.proofs.TookCounts.{free_empty, session_up}
 use Rattle.port_laws.proofs.WayMoves.{first_came, span, swap_ways}
 use Rattle.port_laws.proofs.WayRuns.{guest_open_up, new_taken, turn_at, ways_before}
+use Rattle.channel_laws.proofs.NextHeard.{own_gap}
 
 -- BOTH DIRECTIONS, as an end has them
 abbrev WaysAt : End → NetLaneState → PortLog → Type 0
@@ -115,12 +115,11 @@ expects_at shape e u l k bytes p sid finds up other_up session ways empty front 
       let spans : v.seen + range_of slots bytes ≡ w.taken = span slots v.seen w.taken bytes (omega (arith, some, slots_is)) comes.some turn comes.start comes.end in
       let seen : p.seen ≡ v.seen = sym here.counts.ring.seen ∙ ap (λ (x : SessionLog). x.seen) (sym mine) in
       let own_slots : s.slots ≡ slots = counted.slots_is ∙ sym slots_is in
-      let first = ring.taken_first in
       let same : range_of s.slots bytes ≡ range_of slots bytes = ap (λ (n : ℕ). range_of n bytes) own_slots in
       let below = mod_below (w.taken - 1) slots (omega (arith, some, slots_is)) in (
         ap (λ (n : ℕ). n % s.slots) seen ∙ ap (λ (n : ℕ). v.seen % n) own_slots ∙ sym comes.start,
         omega (arith, comes.end, below, own_slots),
-        omega (arith, same, spans, seen, first, taken_is),
+        omega (arith, same, spans, seen, ring.taken_first, taken_is),
         ap (λ (n : ℕ). first_undone n (memory_of e u.lane) p.seen (range_of n bytes)) own_slots
             ∙ ring_done slots p.seen taken p.published s.frames (memory_of e u.lane) (range_of slots bytes) ring (omega (arith, spans, seen, taken_is)),
       );
@@ -159,14 +158,10 @@ expects_at shape e u l k bytes p sid finds up other_up session ways empty front 
     came = first_came slots (heard (transcript_of e l.transcript)) (heard (transcript_of e l.transcript) ++ bytes ∷ []) (said (transcript_of (peer_of e) l.transcript)) ways.coming rest bytes ways.comes refl front.1
 
     first_info : spoken bytes ≡ RangeInfo → Way slots w v (bytes ∷ infos_in rest) (acks_in ways.going)
-    first_info is =
-        subst (λ (x : Spoken). Way slots w v (info_first x bytes (infos_in rest)) (acks_in ways.going)) is
-        (subst (λ (xs : List (List ℕ)). Way slots w v (infos_in xs) (acks_in ways.going)) came ways.theirs)
+    first_info is = rw is at (rw came at ways.theirs)
 
     first_ack : spoken bytes ≡ RangeAck → Way slots v w (infos_in ways.going) (bytes ∷ acks_in rest)
-    first_ack is =
-        subst (λ (x : Spoken). Way slots v w (infos_in ways.going) (ack_first x bytes (acks_in rest))) is
-        (subst (λ (xs : List (List ℕ)). Way slots v w (infos_in ways.going) (acks_in xs)) came ways.mine)
+    first_ack is = rw is at (rw came at ways.mine)
 
     turn : w.taken ≤ v.seen + slots
     turn = subst (λ (x : SessionLog). w.taken ≤ x.seen + slots) (sym mine) (turn_at shape e u l here.of_log finds up other_up here.is)
@@ -194,7 +189,7 @@ guest_resets shape u l cause packet p finds ways exchange parts session rule tak
     says = says_of Initiator s (seen_at A u.lane) (Takes packet) rule
 
     up : IsUp A u.lane.wire.wire
-    up = up_state u.lane.wire.wire.end_a says.0.up
+    up = up_of u.lane.wire.wire.end_a says.0.up
 
     acting : Acting Initiator shape.slots [] s l.guest l.transcript.client
     acting = end_acts shape A u l finds.ready says.0.up
@@ -228,8 +223,7 @@ guest_resets shape u l cause packet p finds ways exchange parts session rule tak
         let first = outbox_heard u.lane.hub l.transcript.server l.transcript.client packet one.bytes one.messages grown in
         let sid = s.handshake.draft.sid in
         let before : ExchangeIn sid s.groups p (outbox s l.transcript.client l.transcript.server) (one.bytes ∷ outbox u.lane.hub l.transcript.server (Heard packet ∷ l.transcript.client))
-        u.lane.hub.session u.lane.hub.groups =
-        subst (λ (xs : List (List ℕ)). ExchangeIn sid s.groups p (outbox s l.transcript.client l.transcript.server) xs u.lane.hub.session u.lane.hub.groups) first (exchange p up other_up session) in
+        u.lane.hub.session u.lane.hub.groups = rw first at (exchange p up other_up session) in
         let own : OwnRead one.bytes one_side.meets.handshakes.sid =
         next_read (asks_of shape) (answers_of shape) Initiator Responder sides one.bytes sid one_side up opened other_up grown before.answers_fit.0 in
         let agreed = mine_agreed (asks_of shape) (answers_of shape) Initiator sides one_side up opened in
@@ -255,7 +249,7 @@ hub_resets shape u l cause packet q finds ways exchange parts session rule takes
     says = says_of Responder s (seen_at B u.lane) (Takes packet) rule
 
     up : IsUp B u.lane.wire.wire
-    up = up_state u.lane.wire.wire.end_b says.0.up
+    up = up_of u.lane.wire.wire.end_b says.0.up
 
     acting : Acting Responder shape.slots u.queue s l.hub l.transcript.server
     acting = end_acts shape B u l finds.ready says.0.up
@@ -315,9 +309,6 @@ takes_it e u cause packet (Takes bytes) is fails =
     let same : bytes ≡ packet = cc fails.0 in (is ∙ ap (λ (xs : List ℕ). Takes xs) same, subst (λ (xs : List ℕ). NetTakes (role_at e) (net_end e u) (memory_of e u) xs (Resets cause)) same fails.1)
 takes_it e u cause packet (Fetches p activity) is fails = absurd (cc fails.0)
 takes_it e u cause packet _ is fails = absurd fails
-
-own_gap : (w : WireLog) (lossy : Bool) (cause : Cause) → w.lossy ≡ lossy → IsGapBehindLoss lossy cause → IsOwnReset w cause
-own_gap w lossy cause is gap = record { expected = gap.expected; found = gap.found; gap = gap.gap; lossy = is ∙ gap.lossy_is }
 
 pub parts_at : (shape : NetShape) (s : PortState) (l : PortLog) (e : End) → IsNetShape shape → PortCounts shape s l → PartsSaid (transcript_of e l.transcript)
 parts_at shape s l A is counts =

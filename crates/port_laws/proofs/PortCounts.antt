@@ -172,11 +172,8 @@ one_more (group ∷ groups) address are six = (are.0, one_more groups address ar
 behind_more : (told : Option (List (List ℕ))) (groups : List (List ℕ)) (address : List ℕ) → IsBehind told groups → IsBehind told (groups ++ address ∷ [])
 behind_more told groups address is = grind (arith, length-append)
 
-named_behind : (told : Option (List (List ℕ))) (groups : List (List ℕ)) (address : List ℕ) → told ≡ Some groups → IsBehind told (groups ++ address ∷ [])
-named_behind told groups address is = subst (λ (x : Option (List (List ℕ))). IsBehind x (groups ++ address ∷ [])) (sym is) (omega (arith, length-append groups (address ∷ [])))
-
 behind_either : (b : Bool) (p : NetSession) (groups : List (List ℕ)) (address : List ℕ) (v : SessionLog) → p.untold ≡ b → GroupCounts p groups v → IsBehind v.membership (groups ++ address ∷ [])
-behind_either b p groups address v is counts = grind (arith, behind_more, named_behind)
+behind_either b p groups address v is counts = grind (arith, behind_more, length-append)
 
 right_more : (slots : ℕ) (groups : List (List ℕ)) (address : List ℕ) (v : SessionLog) (message : List ℕ) (k : Spoken) → SaysRightly slots groups v message k
     → SaysRightly slots (groups ++ address ∷ []) v message k
@@ -191,14 +188,7 @@ member_counts : (slots : ℕ) (groups : List (List ℕ)) (address : List ℕ) (p
 member_counts slots groups address published gone left begun None None counts = counts
 member_counts slots groups address published gone left begun (Some p) (Some v) counts = record {
   right = unsaid_more slots groups address begun v left counts.right;
-  ring = record {
-    all = counts.ring.all;
-    left = counts.ring.left;
-    here = counts.ring.here;
-    seen = counts.ring.seen;
-    infos = counts.ring.infos;
-    asking = counts.ring.asking;
-  };
+  ring = grind arith;
   peer = record { seq = counts.peer.seq; place = counts.peer.place; active = counts.peer.active };
   guest = record {
     named = λ is. true_false is;

@@ -1,18 +1,17 @@
 -- Each run of a port with its out queue is one of two ends on a channel, in the same log.
 use Rattle.std.proofs.Common.{◌≡◌, Option, List, [], ◌∷◌, ◌++◌, refl, sym, subst, ap, ◌∙◌, arith}
-use Rattle.ldc_link.specs.declared.phase.Role.TheVariants.{Initiator, Responder}
 use Rattle.runs.specs.Lawful.{Lawful, log_append, log_of, run_lawful}
 use Rattle.runs.specs.Run.{Run, run_keeps, run_push}
 use Rattle.channel_model.specs.TranscriptLog.{TranscriptLog}
 use Rattle.channel_model.specs.WireEvent.{WireEvent}
 use Rattle.channel_laws.specs.CoreLog as core
-use Rattle.channel_laws.specs.LaneCore.{Beside, CoreEvent, CoreStep, transcript_after, transcript_behind}
+use Rattle.channel_laws.specs.LaneCore.{CoreEvent, CoreStep, transcript_after, transcript_behind}
 use Rattle.port_model.proofs.Moving.{before_keeps}
 use Rattle.port_model.specs.NetEvent.{NetEvent}
 use Rattle.port_model.specs.NetLaneState.{NetShape}
 use Rattle.port_model.specs.PortLog.{PortLog, after, no_events, spoken_on}
 use Rattle.port_model.specs.PortState.{OnLane, PortEvent, PortState, PortStep, Receives, before, fresh_port}
-use Rattle.port_laws.specs.NetCore.{core_event, event_core, fresh_net_core, is_begun, lane_core}
+use Rattle.port_laws.specs.NetCore.{core_event, event_core, fresh_net_core, lane_core}
 use Rattle.port_laws.specs.PortCore.{port_core, port_event, port_events}
 use Rattle.port_laws.proofs.Fitting.{BothFit, event_fits}
 use Rattle.port_laws.proofs.LaneMoves.{event_core_step, fresh_fits, still, wire_same}
@@ -33,9 +32,7 @@ port_fits s event t step given = grind (arith, event_fits, before_fits)
 pub port_step_core : (s : PortState) (event : PortEvent) (t : PortState) → PortFits s → PortStep s event t → CoreStep (port_core s) (port_event event) (port_core t)
 port_step_core s (OnLane event) t fits step =
     subst (λ x. CoreStep x (core_event event) (port_core t)) (before_core event s) (event_core_step (before event s).lane event t.lane (before_fits event s fits) step.1)
-port_step_core s (Receives frame) t fits step =
-    subst (λ (x : PortState). CoreStep (port_core s) Beside (port_core x)) (sym step.2)
-    (record { entries = refl; stands = tt; wire = refl; a = still Initiator (is_begun s.lane.wire.wire.end_a) s.lane.guest; b = still Responder (is_begun s.lane.wire.wire.end_b) s.lane.hub })
+port_step_core s (Receives frame) t fits step = grind (arith, still)
 
 -- A RUN
 pub port_run_core : (s t : PortState) (events : List PortEvent) → PortFits s → Run PortStep s events t → Run CoreStep (port_core s) (port_events events) (port_core t)

@@ -36,9 +36,7 @@ ring_ready : (slots own taken more : ℕ) (session : Option NetSession) (frames 
 ring_ready slots own taken more None frames memory same ring = tt
 ring_ready slots own taken more (Some p) frames memory same ring =
     let most : ready_slots slots memory ≤ p.published - taken = ready_most slots p.seen taken p.published frames memory ring in
-    let first = ring.seen_first in
-    let held = ring.held in
-    (omega (arith, most, first, ap (λ (n : ℕ). ready_slots n memory) same), omega (arith, held))
+    (omega (arith, most, ring.seen_first, ap (λ (n : ℕ). ready_slots n memory) same), omega (arith, ring.held))
 
 -- what of an end isn't a packet's or a frame's: its groups, and that it isn't up
 abbrev spare : Role → ℕ

@@ -129,8 +129,7 @@ lane_frame shape u l e frame t finds step =
     let peer = peer_falls (state_of (peer_of e) u.lane.wire.wire) (role_at (peer_of e)) (more_at (peer_of e) queued) memory step.step.new f takes.p takes.peer_up takes.theirs
     (subst (λ (n : ℕ). ready_slots n step.step.new + 1 ≡ ready_slots n memory) (sym slots_is) ready) in
     let own = own_more (state_of e u.lane.wire.wire) (role_at e) (more_at e queued) (memory_of e u.lane) s step.step.session step.step.activity frame takes.up says.0.session says.1 in
-    subst (λ (x : NetLaneState). remaining_of x queued + 1 ≤ remaining_of u.lane queued) (sym step.is)
-    (subst (λ (x : NetLeft). remaining_of (record (with_left e x u.lane) { wire = u.lane.wire }) queued + 1 ≤ remaining_of u.lane queued) (sym step.step.is) (both_left e u.lane queued _ own peer))
+    rw (step.is, step.step.is) (both_left e u.lane queued _ own peer)
 
 -- ALONG EVERY RUN
 pub port_frame : (shape : NetShape) (events : List PortEvent) (s : PortState) (e : End) (frame : List ℕ) (t : PortState) → IsNetShape shape → Run PortStep (fresh_port shape) events s

@@ -1,5 +1,5 @@
 -- What remains on a port that nobody forged falls by each packet that an end takes.
-use Rattle.std.proofs.Common.{◌≡◌, ℕ, ◌+◌, ◌-◌, ◌*◌, ◌<◌, ◌≤◌, Bool, false, Option, Some, None, List, length, drop, refl, sym, subst, ap, ◌∙◌, arith, length-drop}
+use Rattle.std.proofs.Common.{◌≡◌, ℕ, ◌+◌, ◌-◌, ◌*◌, ◌<◌, ◌≤◌, Bool, false, Some, None, List, length, drop, refl, sym, subst, ap, ◌∙◌, arith, length-drop}
 use Rattle.std.specs.Prelude.{⊤}
 use Rattle.ldc_link.specs.declared.phase.Role.{Role}
 use Rattle.ldc_link.specs.declared.phase.Role.TheVariants.{Initiator, Responder}
@@ -122,9 +122,7 @@ took_gains role more memory packet s t turns opens new ends stands some room tak
 
     cleared_gains : (r : Role) → r ≡ Responder → s.session ≡ None → Gained r more memory s (cleared_ring s.slots memory) (opened_net_end s)
     cleared_gains Initiator role_is closed = absurd (cc role_is)
-    cleared_gains Responder role_is closed =
-        subst (λ (x : Option NetSession). own_left Responder more (cleared_ring s.slots memory) (opened_net_end s) ≤ session_left Responder s.slots (length s.frames + more) memory x + 2) (sym closed)
-        (omega (arith, cleared_none s.slots memory))
+    cleared_gains Responder role_is closed = rw closed (omega (arith, cleared_none s.slots memory))
 
     by_what : (take : NetTake) → TookWhat role s memory take → Gains role more memory s take
     by_what take (Stays k h is) = subst (Gains role more memory s) (sym is) (same_gained role more memory s)

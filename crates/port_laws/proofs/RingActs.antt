@@ -202,14 +202,13 @@ in_one shape u l queue two_ends guest hub guest_open hub_open =
     let one = two_ends.one guest_open hub_open in
     let guest_two_ends = two_ends.two_ends A in
     let guest_offer = guest_two_ends.mine.handshake.offer_is in
-    let hub_offer = guest_two_ends.theirs.handshake.offer_is in
     let both : u.guest.handshake.offer.both_rings ≡ true = ap (λ (o : Offer). o.both_rings) guest_offer in
     let ring : KnowsRing u.hub.handshake.draft u.guest.handshake.draft u.guest.handshake.offer = one.ring in
     let peer_ring : KnowsRing u.guest.handshake.draft u.hub.handshake.draft u.hub.handshake.offer =
     subst (λ (b : Bool). KnowsBoth b u.guest.handshake.draft u.hub.handshake.draft u.hub.handshake.offer) both one.peer_ring in
     record {
       guest_cookies = known_cookies u.guest u.hub.handshake.offer Responder u.hub.address shape.slots peer_ring.count peer_ring.cookies
-          (hub_offer ∙ ap (port_offer Responder u.hub.address) hub.slots_is);
+          (guest_two_ends.theirs.handshake.offer_is ∙ ap (port_offer Responder u.hub.address) hub.slots_is);
       hub_cookies = known_cookies u.hub u.guest.handshake.offer Initiator u.guest.address shape.slots ring.count ring.cookies
           (guest_offer ∙ ap (port_offer Initiator u.guest.address) guest.slots_is);
     }
@@ -279,11 +278,10 @@ owns_at : (shape : NetShape) (e : End) (u : PortState) (l : PortLog) → Finds s
     → Owns (role_at e) (net_end e u.lane) (transcript_of e l.transcript) (memory_of e u.lane)
 owns_at shape e u l finds up =
     let acting = acting_at shape e u l finds up in
-    let slots = acting.counts.slots_is in
     record {
       ends = acting.ends;
       stands = acting.stands;
-      fits = subst (λ (n : ℕ). Fits n (memory_of e u.lane)) (sym slots) (end_room shape e u l finds);
+      fits = subst (λ (n : ℕ). Fits n (memory_of e u.lane)) (sym acting.counts.slots_is) (end_room shape e u l finds);
       frames = end_frames shape e u l finds;
     }
 
@@ -367,11 +365,9 @@ acts_ring shape e u t l answer left acts up =
     (owns_at shape e u l acts.finds) slots
     (λ opened here. shut_peer shape e u.lane l acts.finds.two_ends acts.finds.rings (acts_shut shape e u t l answer left acts opened)) acts.step
     (ring_of_end e u.lane l acts.finds.rings) mine in
-    subst (λ (n : ChannelState). RingIn l.shape.slots (taken_by n (log_of_end (peer_of e) (after l (OnLane (Steps e answer)))).session) (net_end e t.lane).session (net_end e t.lane).frames
-    (memory_of e t.lane)) (sym theirs)
-    (subst (λ (z : EndLog). RingIn l.shape.slots (taken_by (theirs_now answer x y) z.session) (net_end e t.lane).session (net_end e t.lane).frames (memory_of e t.lane)) (sym (log_now e l answer).theirs)
-    (subst (λ (z : NetEndState). RingIn l.shape.slots (taken_by (theirs_now answer x y) log) z.session z.frames (memory_of e t.lane)) (sym acts.now.end)
-    (subst (RingIn l.shape.slots (taken_by (theirs_now answer x y) log) left.end.session left.end.frames) (sym acts.now.own) there)))
+    rw (theirs, (log_now e l answer).theirs, acts.now.end) (subst
+    (RingIn l.shape.slots (taken_by (theirs_now answer x y) log) left.end.session left.end.frames) (sym acts.now.own)
+    there)
 
 acts_peer_ring : (shape : NetShape) (e : End) (u t : PortState) (l : PortLog) (answer : NetAnswer) (left : NetLeft) → Acts shape e u t l answer left
     → PeerRing e t.lane (after l (OnLane (Steps e answer)))
@@ -398,13 +394,9 @@ acts_peer_ring shape e u t l answer left acts up =
     (λ here other. subst (λ (n : ℕ). TakesOf answer (net_end e u.lane) (reach_of e u.lane) n (memory_pages shape.slots) (taken_in log.session) session) shape_slots
     (takes_of shape e u l answer left session acts.finds refl acts.step))
     acts.step held theirs in
-    subst (λ (n : ChannelState). RingIn l.shape.slots (taken_by n (log_of_end e (after l (OnLane (Steps e answer)))).session) (net_end (peer_of e) t.lane).session (net_end (peer_of e) t.lane).frames
-    (memory_of (peer_of e) t.lane)) (sym mine)
-    (subst (λ (z : EndLog). RingIn l.shape.slots (taken_by (mine_now answer x) z.session) (net_end (peer_of e) t.lane).session (net_end (peer_of e) t.lane).frames (memory_of (peer_of e) t.lane))
-    (sym (log_now e l answer).mine)
-    (subst (λ (z : NetEndState). RingIn l.shape.slots (taken_by (mine_now answer x) (after_answer l.shape.slots turns answer log).session) z.session z.frames (memory_of (peer_of e) t.lane))
-    (sym acts.now.peer_end)
-    (subst (RingIn l.shape.slots (taken_by (mine_now answer x) (after_answer l.shape.slots turns answer log).session) session frames) (sym acts.now.peer_memory) there)))
+    rw (mine, (log_now e l answer).mine, acts.now.peer_end) (subst
+    (RingIn l.shape.slots (taken_by (mine_now answer x) (after_answer l.shape.slots turns answer log).session) session frames)
+    (sym acts.now.peer_memory) there)
 
 pub steps_rings : (shape : NetShape) (e : End) (u t : PortState) (l : PortLog) (answer : NetAnswer) → Finds shape u l → EndSteps e u.lane answer t.lane
     → PortCounts shape t (after l (OnLane (Steps e answer))) → PortTwoEnds shape (lane_core t.lane) (after l (OnLane (Steps e answer))) → Rings t.lane (after l (OnLane (Steps e answer)))

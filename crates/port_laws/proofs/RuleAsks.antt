@@ -42,7 +42,7 @@ use Rattle.port_model.proofs.Refuting.{none_some, true_false}
 use Rattle.port_model.proofs.Ruling.{says_of}
 use Rattle.port_model.proofs.SlotsLooked.{first_in_order}
 use Rattle.port_model.specs.EndLog.{SessionLog, range_of}
-use Rattle.port_model.specs.FrameLaws.{Asks, AsksAt, InSession, IsActive, NamesUndone, SomeMessage, UndoneAt, ended_in}
+use Rattle.port_model.specs.FrameLaws.{Asks, AsksAt, InSession, IsActive, NamesUndone, SomeMessage, UndoneAt}
 use Rattle.port_model.specs.NetEndRule.{NetRule, Takes, port_rule}
 use Rattle.port_model.specs.NetEndState.{NetEndState, NetSession}
 use Rattle.port_model.specs.NetEndStep.{NetFails, Reset, Took}
@@ -179,10 +179,9 @@ asks_here role s p memory sid slots turns packet message v peer listening none e
     let info = info_body m.subtype m.body judged.form (sym (spoken_same message m judged.spells) ∙ kind) in
     let fields : SpellsBody message (DringData info.seq info.ident info.start info.end info.state) = subst (SpellsBody message) info.body judged.spells.body in
     let causes : info_cause s p info.seq info.ident info.start info.end ≡ None =
-    sym (session_info role s p memory info.seq info.ident info.start info.end info.state)
-    ∙ sym (ap (λ (x : Subtype). session_cause role s p memory x (DringData info.seq info.ident info.start info.end info.state)) info.subtype)
-    ∙ sym (ap (session_cause role s p memory m.subtype) info.body)
-    ∙ subst (λ (b : MsgBody). body_cause own m b ≡ None) info.body judged.body in
+    sym (session_info role s p memory info.seq info.ident info.start info.end info.state) ∙ sym (ap
+    (λ (x : Subtype). session_cause role s p memory x (DringData info.seq info.ident info.start info.end info.state))
+    info.subtype) ∙ sym (ap (session_cause role s p memory m.subtype) info.body) ∙ rw info.body at judged.body in
     let one = past_if (is_other s.handshake.draft.ident_peer info.ident) (the_cause.Ident s.handshake.draft.ident_peer info.ident) _ None (λ no. no) tt causes in
     let two = past_if (is_other p.seq info.seq) (the_cause.Seq p.seq info.seq) _ None (λ no. no) tt one.1 in
     let three = past_if (is_other p.place info.start) (the_cause.Slot p.place info.start) _ None (λ no. no) tt two.1 in
@@ -365,11 +364,9 @@ module _ (shape : NetShape) (is : IsNetShape shape) (events : List PortEvent) (s
           let cause = cause_here shape is events s (for_slot (Some bytes)) run e p bytes (Some (the_cause.NotDone slot state))
           (fails_with shape (port_events events) w.lane is (moves_run shape is events s (for_slot (Some bytes)) run) e p (the_cause.NotDone slot state) bytes some step.step.0) in
           let rule : port_rule (role_at e) own (seen_at e w.lane) ≡ Takes bytes = takes_rule (role_at e) (port_rule (role_at e) own (seen_at e w.lane)) own (memory_of e w.lane) (reach_of e w.lane) (the_cause.NotDone slot state) bytes step.step.0 in
-          subst (λ (o : Option SessionLog). InSession o (λ (x : SessionLog). SomeMessage (range_in 2 (ended_in (half_heard (transcript_of e log.transcript)) (Some bytes))) (NamesUndone log.shape.slots slot state x)))
-          (sym here.is)
-          (subst (λ (x : NetShape). SomeMessage (range_in 2 (ended_by (half_heard (transcript_of e log.transcript)) bytes)) (NamesUndone x.slots slot state v)) (sym known.shape_is)
-          (undone_here (role_at e) own p (memory_of e w.lane) own.handshake.draft.sid shape.slots (transcript_of e log.transcript) bytes v slot state
-          (end_counted shape e w log known).slots_is (listens shape e w log bytes p v known rule some here.is) cause))
+          rw (here.is, known.shape_is) (undone_here (role_at e) own p (memory_of e w.lane) own.handshake.draft.sid
+          shape.slots (transcript_of e log.transcript) bytes v slot state (end_counted shape e w log known).slots_is
+          (listens shape e w log bytes p v known rule some here.is) cause)
 
   undone_by : (packet : Option (List ℕ)) → NetLaneStep (before (for_slot packet) s).lane (for_slot packet) t → UndoneAt log (OnLane (for_slot packet))
   undone_by None step =

@@ -39,32 +39,27 @@ use Rattle.port_model.specs.RestLaws.{TwoIdleAt}
 use Rattle.port_model.specs.RuleFacts.{IfOpen, MayListen}
 use Rattle.port_laws.specs.NetCore.{lane_core}
 use Rattle.port_laws.specs.NoneLeft.{AllSeen, NoneLeft, NoneLeftAt}
-use Rattle.port_laws.specs.WaysStand.{Way, WaysStand, acks_in, infos_in, or_new}
+use Rattle.port_laws.specs.WaysStand.{Way, WaysStand, acks_in, infos_in}
 use Rattle.port_laws.proofs.PortCounts.{before_guest, before_wire, queue_of, ready_before}
 use Rattle.port_laws.proofs.PortRuns.{lawful_along}
 use Rattle.port_laws.proofs.RingActs.{Finds}
 use Rattle.port_laws.proofs.RingRuns.{finds_before}
 use Rattle.port_laws.proofs.RuleFrames.{both_open, end_acts, end_counted, end_stood, held_frames, seen_within}
 use Rattle.port_laws.proofs.RuleIdle.{idle_counts, rule_left}
-use Rattle.port_laws.proofs.RuleRest.{up_state}
 use Rattle.port_laws.proofs.RuleTwoIdle.{IdlesKept, idles_kept, two_idle_event}
 use Rattle.port_laws.proofs.TookCounts.{free_empty}
 use Rattle.port_laws.proofs.WayRuns.{KeptWays, port_ways, ways_before}
+use Rattle.channel_laws.proofs.NextPacket.{none_of}
+use Rattle.channel_laws.proofs.LinkPlaced.{up_live}
+use Rattle.port_laws.proofs.LaneMoves.{up_of}
 
 -- WHAT WAS SAID WAS HEARD where nothing was lost and nothing waits
-no_packets : (packets : List (List ℕ)) → length packets ≤ 0 → packets ≡ []
-no_packets [] few = refl
-no_packets (packet ∷ packets) few = absurd (omega (arith, few))
-
 pub no_first : (packets : List (List ℕ)) → slice_get packets 0 ≡ None → packets ≡ []
 no_first [] is = refl
 no_first (packet ∷ packets) is = absurd (cc is)
 
-live_up : (state : ChannelState) (packets : List (List ℕ)) → state ≡ Up → live state packets ≡ packets
-live_up state packets is = ap (λ (x : ChannelState). live x packets) is
-
 one_way : (x y : ChannelState) (put took waiting : List (List ℕ)) (lost : ℕ) → OneWay (live x put) (live y took) (numbered waiting) lost → lost ≡ 0 → waiting ≡ [] → x ≡ Up → y ≡ Up → put ≡ took
-one_way x y put took waiting lost way whole none up other = grind (arith, no_packets, live_up, append-nil)
+one_way x y put took waiting lost way whole none up other = grind (arith, none_of, up_live, append-nil)
 
 pub record HeardAll (s : Sides) : Type 0 where
   pub mine : said s.mine.turns ≡ heard s.theirs.turns
@@ -124,8 +119,8 @@ both_left : (shape : NetShape) (u : PortState) (l : PortLog) → Finds shape u l
 both_left shape u l finds ways guest_idles hub_idles lossless opened =
     let guest_says = says_of Initiator u.lane.guest (seen_at A u.lane) Idles guest_idles in
     let hub_says = says_of Responder u.lane.hub (seen_at B u.lane) Idles hub_idles in
-    let up : u.lane.wire.wire.end_a ≡ Up = up_state u.lane.wire.wire.end_a guest_says.0.up in
-    let other : u.lane.wire.wire.end_b ≡ Up = up_state u.lane.wire.wire.end_b hub_says.0.up in
+    let up : u.lane.wire.wire.end_a ≡ Up = up_of u.lane.wire.wire.end_a guest_says.0.up in
+    let other : u.lane.wire.wire.end_b ≡ Up = up_of u.lane.wire.wire.end_b hub_says.0.up in
     let whole : u.lane.wire.lossy ≡ false = ap (λ (w : WireLog). w.lossy) finds.ready.wire ∙ lossless in
     let two_ends = finds.two_ends.two_ends A in
     let all = heard_all (sides_of (lane_core u.lane) l.transcript) two_ends.meets.converse whole up other (no_first u.lane.wire.wire.to_a guest_says.1) (no_first u.lane.wire.wire.to_b hub_says.1) in
@@ -137,21 +132,18 @@ both_left shape u l finds ways guest_idles hub_idles lossless opened =
     let guest_end = idle_end shape A u l guest.0 finds guest_idles guest.1 in
     let hub_end = idle_end shape B u l hub.0 finds hub_idles hub.1 in
     let mine : Way l.shape.slots guest.0 hub.0 (infos_in between.going) (acks_in between.coming) =
-    subst (λ (o : Option SessionLog). Way l.shape.slots guest.0 (or_new o) (infos_in between.going) (acks_in between.coming)) hub.1
-    (subst (λ (o : Option SessionLog). Way l.shape.slots (or_new o) (or_new l.hub.session) (infos_in between.going) (acks_in between.coming)) guest.1 between.mine) in
+    rw hub.1 at (rw guest.1 at between.mine) in
     let theirs : Way l.shape.slots hub.0 guest.0 (infos_in between.coming) (acks_in between.going) =
-    subst (λ (o : Option SessionLog). Way l.shape.slots hub.0 (or_new o) (infos_in between.coming) (acks_in between.going)) guest.1
-    (subst (λ (o : Option SessionLog). Way l.shape.slots (or_new o) (or_new l.guest.session) (infos_in between.coming) (acks_in between.going)) hub.1 between.theirs) in
+    rw guest.1 at (rw hub.1 at between.theirs) in
     let guest_seen : guest.0.seen ≡ guest.0.published =
     rests_seen l.shape.slots guest.0 hub.0 (infos_in between.going) (acks_in between.coming) (ap infos_in going) (ap acks_in coming) hub_end.answered guest_end.announced guest_end.within mine in
     let hub_seen : hub.0.seen ≡ hub.0.published =
     rests_seen l.shape.slots hub.0 guest.0 (infos_in between.coming) (acks_in between.going) (ap infos_in coming) (ap acks_in going) guest_end.answered hub_end.announced hub_end.within theirs in
-    let unseen = guest_end.unseen in
     let frames = held_frames Initiator shape.slots [] u.lane.guest l.guest finds.ready.guest in
     record {
       guest = subst (λ (o : Option SessionLog). InSession o AllSeen) (sym guest.1) guest_seen;
       hub = subst (λ (o : Option SessionLog). InSession o AllSeen) (sym hub.1) hub_seen;
-      none = omega (arith, frames, unseen, guest_seen);
+      none = omega (arith, frames, guest_end.unseen, guest_seen);
     }
 
 -- AN EVENT

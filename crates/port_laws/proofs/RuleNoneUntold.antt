@@ -38,13 +38,13 @@ use Rattle.port_laws.proofs.RingRuns.{finds_before}
 use Rattle.port_laws.proofs.RuleFrames.{both_open, end_acts}
 use Rattle.port_laws.proofs.RuleIdle.{rule_left}
 use Rattle.port_laws.proofs.RuleNoneLeft.{heard_all, moved_guest, before_entries, no_first, some_log}
-use Rattle.port_laws.proofs.RuleRest.{up_state}
 use Rattle.port_laws.proofs.RuleTwoIdle.{IdlesKept, idles_kept, two_idle_event}
 use Rattle.port_laws.proofs.RuleGroups.{hub_told}
 use Rattle.port_laws.proofs.GroupsExchanged.{AllTold, owed_replies, reply_in}
 use Rattle.port_laws.proofs.ExchangeGuest.{ExchangeStands}
 use Rattle.port_laws.proofs.ExchangeRuns.{KeptExchange, before_exchange, port_exchange}
 use Rattle.port_laws.proofs.TookCounts.{free_empty}
+use Rattle.port_laws.proofs.LaneMoves.{up_of}
 
 none_out : (s : NetEndState) (mine theirs : List Turn) → said mine ≡ heard theirs → s.link.to_send ≡ [] → outbox s mine theirs ≡ []
 none_out s mine theirs all empty = grind (arith, drop_all, empty_unsaid)
@@ -61,8 +61,8 @@ both_told : (shape : NetShape) (u : PortState) (l : PortLog) → Finds shape u l
 both_told shape u l finds exchange guest_idles hub_idles lossless opened =
     let guest_says = says_of Initiator u.lane.guest (seen_at A u.lane) Idles guest_idles in
     let hub_says = says_of Responder u.lane.hub (seen_at B u.lane) Idles hub_idles in
-    let up : u.lane.wire.wire.end_a ≡ Up = up_state u.lane.wire.wire.end_a guest_says.0.up in
-    let other : u.lane.wire.wire.end_b ≡ Up = up_state u.lane.wire.wire.end_b hub_says.0.up in
+    let up : u.lane.wire.wire.end_a ≡ Up = up_of u.lane.wire.wire.end_a guest_says.0.up in
+    let other : u.lane.wire.wire.end_b ≡ Up = up_of u.lane.wire.wire.end_b hub_says.0.up in
     let whole : u.lane.wire.lossy ≡ false = ap (λ (w : WireLog). w.lossy) finds.ready.wire ∙ lossless in
     let all = heard_all (sides_of (lane_core u.lane) l.transcript) (finds.two_ends.two_ends A).meets.converse whole up other (no_first u.lane.wire.wire.to_a guest_says.1) (no_first u.lane.wire.wire.to_b hub_says.1) in
     let guest = some_log l.guest.session opened.0 in
@@ -83,8 +83,7 @@ both_told shape u l finds exchange guest_idles hub_idles lossless opened =
     let left = rule_left Initiator u.lane.guest (seen_at A u.lane) both.p guest_says.0 guest_says.1 both.is listens guest_idles in
     let untold : both.p.untold ≡ false = told_by both.p.untold both.p.telling (left.told refl) telling in
     let here : OpenCounts Initiator shape.slots u.lane.guest.groups l.guest.published l.guest.gone None u.lane.guest.link.begun both.p l.guest.session =
-    subst (λ (x : Option (List ℕ)). OpenCounts Initiator shape.slots u.lane.guest.groups l.guest.published l.guest.gone x u.lane.guest.link.begun both.p l.guest.session)
-    (empty_unsaid u.lane.guest empty) both.open_is in
+    rw (empty_unsaid u.lane.guest empty) at both.open_is in
     let groups : GroupCounts both.p u.lane.guest.groups here.of_log = here.counts.guest in
     let known : u.lane.hub.groups ≡ u.lane.guest.groups = subst (AllTold u.lane.guest.groups u.lane.hub.groups) sent (exchanging.latest untold) in (
       subst (λ (o : Option SessionLog). InSession o (ToldAll l)) (sym here.is)

@@ -4,8 +4,6 @@ use Rattle.std.specs.Prelude.{◌%◌, ◌==◌, ◌&&◌, not}
 use Rattle.std.proofs.lemmas.Bool.{and_parts, eqb-true}
 use Rattle.cookie_copy.specs.Faults.{is_up}
 use Rattle.ldc_link.specs.declared.phase.Role.TheVariants.{Initiator, Responder}
-use Rattle.ldc_queue.specs.declared.end.ChannelState.{ChannelState}
-use Rattle.ldc_queue.specs.declared.end.ChannelState.TheVariants.{Up}
 use Rattle.ldc_queue.specs.declared.end.End.{End}
 use Rattle.ldc_queue.specs.Wire.{state_of}
 use Rattle.runs.specs.Lawful.{Lawful}
@@ -34,13 +32,11 @@ use Rattle.port_laws.proofs.PortCounts.{Ready, queue_of}
 use Rattle.port_laws.proofs.RuleFrames.{active_here, along, both_open, end_acts, held_frames, none_more}
 use Rattle.port_laws.proofs.SlotsFound.{fails_fit, fetched_fits}
 use Rattle.port_laws.proofs.TookCounts.{free_empty}
+use Rattle.port_laws.proofs.LaneMoves.{up_of}
 
 -- ONLY AN END THAT IS UP publishes a frame or takes one
-pub up_state : (c : ChannelState) → is_up c ≡ true → c ≡ Up
-up_state c is = grind (arith, false_true)
-
 end_up : (shape : NetShape) (e : End) (u : PortState) (l : PortLog) → Ready shape u l → is_up (seen_at e u.lane).state ≡ true → IsUp e l.wire.wire
-end_up shape e u l ready up = subst (λ (w : WireLog). IsUp e w.wire) ready.wire (up_state (state_of e u.lane.wire.wire) up)
+end_up shape e u l ready up = subst (λ (w : WireLog). IsUp e w.wire) ready.wire (up_of (state_of e u.lane.wire.wire) up)
 
 works_event : (shape : NetShape) (u : PortState) (l : PortLog) (event : NetEvent) (t : NetLaneState) → Ready shape u l → NetLaneStep u.lane event t → WorksAt l (OnLane event)
 works_event shape u l event t ready step = grind (arith, end_up, says_of)
@@ -135,7 +131,6 @@ calm_finished shape u l queued ready queue is =
     let one = and_parts (told_all u.lane.guest.session) (is_nothing u.lane.guest.frames) two.0 in
     let none : queued ≡ 0 = eqb-true queued 0 three.1 in
     let guest_held = held_frames Initiator shape.slots [] u.lane.guest l.guest ready.guest ∙ none_more (length u.lane.guest.frames) in
-    let hub_held = held_frames Responder shape.slots u.queue u.lane.hub l.hub ready.hub in
     let guest_none : length u.lane.guest.frames ≡ 0 = nothing_empty u.lane.guest.frames one.1 in
     let hub_none : length u.lane.hub.frames ≡ 0 = nothing_empty u.lane.hub.frames two.1 in
     record {
@@ -143,7 +138,7 @@ calm_finished shape u l queued ready queue is =
           (λ v told. (told.membership ∙ ap (λ (x : List (List ℕ)). Some x) ready.members, told.told))
           (guest_told shape.slots u.lane.guest l.guest ready.guest one.0);
       guest = guest_held ∙ guest_none;
-      hub = omega (arith, hub_held, hub_none, queue, none);
+      hub = omega (arith, held_frames Responder shape.slots u.queue u.lane.hub l.hub ready.hub, hub_none, queue, none);
     }
 
 all_true : (a b c d : Bool) → a ≡ true → b ≡ true → c ≡ true → d ≡ true → (a && b && c && d) ≡ true

@@ -40,10 +40,10 @@ use Rattle.port_laws.proofs.RingActs.{Finds, core_open, end_reaches, peer_ring_o
 use Rattle.port_laws.proofs.RingFinds.{Finding, no_fail, ring_finds}
 use Rattle.port_laws.proofs.RingRuns.{finds_before}
 use Rattle.port_laws.proofs.RuleFrames.{end_acts, end_counted, end_stood}
-use Rattle.port_laws.proofs.RuleRest.{up_state}
 use Rattle.port_laws.proofs.SessionsHeard.{spoke_some}
 use Rattle.port_laws.proofs.TookCounts.{free_empty}
 use Rattle.port_laws.proofs.WayRuns.{KeptWays, port_ways, ways_before}
+use Rattle.port_laws.proofs.LaneMoves.{up_of}
 
 -- WHAT ITS COPIES WORK ON
 reach_memory : (e : End) (u : NetLaneState) → memory_of (peer_of e) u ≡ (reach_of e u).memory
@@ -121,8 +121,7 @@ slot_reset shape e u l cause lost left finds ways step = by_rule (port_rule (rol
         place_is (role_at e) shape.slots (queue_of e u) s (log_of_end e l) p (end_counted shape e u l finds.ready) says.0.session ∙ ap (λ (o : Option SessionLog). taken_in o % shape.slots) here.is in
         let less : activity.last ≡ None → w.taken < q.published = λ none.
         let rests : w.answered ≡ w.taken = subst (LastCounts shape.slots w) none busy.2 in
-        let answered = work.answered in
-        omega (arith, rests, answered, seen, some) in
+        omega (arith, rests, work.answered, seen, some) in
         no_fail w.taken q.published (fetched s (reach_of e u.lane) (w.taken % shape.slots)) activity p.place cause finding less
         (subst (λ (n : ℕ). FetchFails (fetched s (reach_of e u.lane) n) activity p.place cause) place fails)
 
@@ -130,7 +129,7 @@ slot_reset shape e u l cause lost left finds ways step = by_rule (port_rule (rol
         → FetchFails (fetched s (reach_of e u.lane) p.place) activity p.place cause → ⊥
     at_work p activity rule fails =
         let says = says_of (role_at e) s (seen_at e u.lane) (Fetches p activity) rule in
-        let up : state_of e u.lane.wire.wire ≡ Up = seen_up e u.lane ∙ up_state (seen_at e u.lane).state says.0.free.up in
+        let up : state_of e u.lane.wire.wire ≡ Up = seen_up e u.lane ∙ up_of (seen_at e u.lane).state says.0.free.up in
         let acting = end_acts shape e u l finds.ready says.0.free.up in
         let empty = free_empty (role_at e) s (transcript_of e l.transcript) acting.ends says.0.free.quiet in
         let here : OpenCounts (role_at e) shape.slots s.groups (log_of_end e l).published (log_of_end e l).gone None s.link.begun p (log_of_end e l).session =

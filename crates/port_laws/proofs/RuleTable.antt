@@ -27,8 +27,8 @@ use Rattle.port_laws.proofs.CoreLaws.{sizes_fit}
 use Rattle.port_laws.proofs.MemoryLong.{KeptLong, port_long}
 use Rattle.port_laws.proofs.PortCounts.{before_wire}
 use Rattle.port_laws.proofs.PortRuns.{fresh_port_core, lawful_along, logs_same, port_fits_behind, port_step_core}
-use Rattle.port_laws.proofs.RuleRest.{up_state}
 use Rattle.port_laws.proofs.RuleSlots.{seen_up}
+use Rattle.port_laws.proofs.LaneMoves.{up_of}
 
 -- THE SIZES of the log are those of the lane
 record SameSizes (s : NetLaneState) (l : PortLog) : Type 0 where
@@ -52,15 +52,13 @@ same_sizes shape events s is run =
     (fresh_port_core shape events s run) in
     let room : RoomStands now = knows.room in
     let slots : shape.slots ≡ l.shape.slots = sym (ap (λ (z : NetShape). z.slots) had.counts.shape_is) in
-    let to_a = room.to_a in
-    let to_b = room.to_b in
     record {
       wire = had.counts.wire;
       entries = knows.entries ∙ logs.entries;
       guest = had.memory.guest ∙ ap (λ (n : ℕ). 8192 * memory_pages n) slots;
       hub = had.memory.hub ∙ ap (λ (n : ℕ). 8192 * memory_pages n) slots;
-      room_a = omega (arith, to_a, logs.entries, ap (λ (w : WireLog). length w.wire.to_a) logs.wire);
-      room_b = omega (arith, to_b, logs.entries, ap (λ (w : WireLog). length w.wire.to_b) logs.wire);
+      room_a = omega (arith, room.to_a, logs.entries, ap (λ (w : WireLog). length w.wire.to_a) logs.wire);
+      room_b = omega (arith, room.to_b, logs.entries, ap (λ (w : WireLog). length w.wire.to_b) logs.wire);
     }
 
 -- A STEP, by what stands on the channel
@@ -72,7 +70,7 @@ answer_table : (e : End) (answer : NetAnswer) (s : NetLaneState) (l : PortLog) �
 answer_table e answer s l same idle stands = grind (arith, full_at)
 
 idle_up : (e : End) (u t : NetLaneState) (l : PortLog) (answer : NetAnswer) → u.wire ≡ l.wire → NetLaneStep u (Steps e answer) t → answer ≡ Idle → IsUp e l.wire.wire
-idle_up e u t l answer wire step is = grind (arith, says_of, seen_up, up_state)
+idle_up e u t l answer wire step is = grind (arith, says_of, seen_up, up_of)
 
 on_log : (e : End) (s : NetLaneState) (l : PortLog) → SameSizes s l → (P : Sizes → Wire → Type 0) → P (sizes_of e s) s.wire.wire → P (sizes_in l) l.wire.wire
 on_log e s l same P holds = subst (λ (n : Sizes). P n l.wire.wire) (sizes_are s l same e) (subst (λ (w : WireLog). P (sizes_of e s) w.wire) same.wire holds)

@@ -43,7 +43,7 @@ use Rattle.port_laws.proofs.RingRuns.{Kept, finds_before, port_kept}
 use Rattle.port_laws.proofs.RuleFrames.{active_here, end_acts, end_counted}
 use Rattle.port_laws.proofs.SessionsHeard.{same_sid, spoke_some}
 use Rattle.port_laws.proofs.TookCounts.{free_empty}
-use Rattle.port_laws.proofs.RuleTwoIdle.{some_session}
+use Rattle.port_laws.proofs.PutCounts.{some_of}
 
 -- IN THE LOG of the end that published it
 last_is : (one : OpenedLog) (rest : List OpenedLog) (sid : ℕ) → one.sid ≡ sid → last_of sid (one ∷ rest) ≡ Some one
@@ -56,10 +56,8 @@ published_is role slots queue s l p v frame counts logs is same first below next
     let here = open_counts role slots queue s l p counts is in
     let w : SessionLog = here.of_log in
     let head : HeadIn (Some w) l.opened l.published = subst (λ (o : Option SessionLog). HeadIn o l.opened l.published) here.is logs.head in
-    let all = here.counts.ring.all in
-    let gone = here.counts.ring.left in
     let own : w.published ≡ p.published = sym (left_published (unsaid s) w) ∙ here.counts.ring.here in
-    by_opened l.opened refl w head (same w here.is) all gone own
+    by_opened l.opened refl w head (same w here.is) here.counts.ring.all here.counts.ring.left own
   where
     by_opened : (opened : List OpenedLog) → l.opened ≡ opened → (w : SessionLog) → HeadIn (Some w) opened l.published → w.sid ≡ v.sid → l.published ≡ p.base + p.published → l.gone ≡ p.base + p.seen
         → w.published ≡ p.published → IsPublished l frame v
@@ -95,7 +93,8 @@ pub record TakesPublished (shape : NetShape) (e : End) (u : PortState) (l : Port
   pub ring : RingHolds shape.slots p.seen v.taken p.published (net_end (peer_of e) u.lane).frames (memory_of (peer_of e) u.lane)
   pub found : FetchesFrame shape.slots p.seen v.taken p.published (net_end (peer_of e) u.lane).frames frame (memory_of (peer_of e) u.lane) new
 
-in_some : (log : Option SessionLog) (P : SessionLog → Type 0) → InSession log P → (v : SessionLog) × (log ≡ Some v) × P v
+-- a session of which this holds
+pub in_some : (log : Option SessionLog) (P : SessionLog → Type 0) → InSession log P → (v : SessionLog) × (log ≡ Some v) × P v
 in_some log P holds = grind arith
 
 core_peer : (e : End) (u : NetLaneState) → PeerOpen e (lane_core u) → is_some (net_end (peer_of e) u).session ≡ true
@@ -130,7 +129,7 @@ takes_published shape e u l frame t finds step =
     let spoke = spoke_some (role_at e) (transcript_of e l.transcript) log.session v mine (spoke_of e u.lane l finds.rings) in
     let there : PeerOpen e (lane_core u.lane) = many_open shape (lane_core u.lane) l e finds.two_ends (core_up e u.lane up) (spoke.many (omega (arith, busy))) in
     let peer_up : state_of (peer_of e) u.lane.wire.wire ≡ Up = peer_is_up e u.lane there in
-    let peer = some_session (net_end (peer_of e) u.lane).session (core_peer e u.lane there) in
+    let peer = some_of (net_end (peer_of e) u.lane).session (core_peer e u.lane there) in
     let p : NetSession = peer.0 in
     let frames : List (List ℕ) = (net_end (peer_of e) u.lane).frames in
     let memory : List ℕ = memory_of (peer_of e) u.lane in

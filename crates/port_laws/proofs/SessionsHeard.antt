@@ -7,7 +7,7 @@ use Rattle.ldc_link.specs.declared.phase.Role.TheVariants.{Initiator, Responder}
 use Rattle.ldc_queue.specs.Fragments.{Fragment, fragment_at, is_part}
 use Rattle.ldc_queue.specs.Transcript.{Heard, Said, Turn}
 use Rattle.channel_model.specs.Messages.{ended_by, opening_sid, sid_in, sid_of, whole_with}
-use Rattle.channel_model.specs.Sayings.{half_heard, half_said, heard, said, whole_by, whole_past}
+use Rattle.channel_model.specs.Sayings.{half_heard, half_said, heard, said, whole_past}
 use Rattle.port_model.proofs.Refuting.{none_some}
 use Rattle.port_model.specs.EndLog.{SessionLog, heard_in, heard_kind, opened_log, said_in, said_kind}
 use Rattle.port_model.specs.Spoken.{GroupsNack, Other, RangeInfo, Spoken}
@@ -33,11 +33,8 @@ abbrev pub Grown : Option (List ℕ) → List (List ℕ) → List (List ℕ) →
 Grown None before now = now ≡ before
 Grown (Some message) before now = now ≡ before ++ message ∷ []
 
-grown_by : (stop : Bool) (message : List ℕ) (messages : List (List ℕ)) → Grown (whole_with stop message) messages (whole_by stop message messages)
-grown_by stop message messages = grind arith
-
 grown : (b : Bool) (part : Fragment) (half : List ℕ) (messages : List (List ℕ)) → Grown (whole_with (b && part.stop) (half ++ part.bytes)) messages (whole_past b part half messages)
-grown b part half messages = grind (arith, grown_by)
+grown b part half messages = grind arith
 
 pub heard_grown : (turns : List Turn) (packet : List ℕ) → Grown (ended_by (half_heard turns) packet) (heard turns) (heard (Heard packet ∷ turns))
 heard_grown turns packet = grown (is_part packet) (fragment_at packet) (half_heard turns) (heard turns)

@@ -1,5 +1,5 @@
 -- Along every run of a port that nobody forged, what is on the way between its ends agrees with what both count.
-use Rattle.std.proofs.Common.{◌≡◌, ◌≢◌, ℕ, ◌+◌, ◌≤◌, Bool, true, false, Option, Some, None, List, [], ◌∷◌, length, refl, sym, ap, ◌∙◌, subst, arith}
+use Rattle.std.proofs.Common.{◌≡◌, ◌≢◌, ℕ, ◌+◌, ◌≤◌, true, false, Option, Some, None, List, [], ◌∷◌, length, refl, sym, ap, ◌∙◌, subst, arith}
 use Rattle.std.specs.Prelude.{is_some, ⊤}
 use Rattle.ldc_link.specs.declared.phase.Role.TheVariants.{Initiator, Responder}
 use Rattle.ldc_queue.specs.declared.end.ChannelState.{ChannelState}
@@ -43,6 +43,7 @@ use Rattle.port_laws.proofs.StepCounts.{sent_right}
 use Rattle.port_laws.proofs.WayActs.{AnswerFits, ClosedFits, closed_acts, first_ways, open_acts}
 use Rattle.port_laws.proofs.WayMoves.{Plain, RightIn, swap_ways}
 use Rattle.port_laws.proofs.WayPlain.{BothPlain, closed_plain, open_heard, open_said}
+use Rattle.port_laws.proofs.ReadyFrames.{by_value}
 
 -- THE FRAMES THAT THE PEER TOOK are at most a turn of the ring
 pub new_taken : (log : Option SessionLog) → (or_new log).taken ≡ taken_in log
@@ -62,9 +63,6 @@ right_in : (slots : ℕ) (groups : List (List ℕ)) (l : EndLog) (v : SessionLog
 right_in slots groups l v None is right = tt
 right_in slots groups l v (Some message) is right = right message v refl is
 
-not_opens : (opens : Bool) → (opens ≡ true → ⊥) → opens ≡ false
-not_opens opens not = grind arith
-
 fits_at : (shape : NetShape) (e : End) (u t : PortState) (l : PortLog) (answer : NetAnswer) (left : NetLeft) (v : SessionLog) → Acts shape e u t l answer left → state_of (peer_of e) u.lane.wire.wire ≡ Up
     → (log_of_end e l).session ≡ Some v → IsFront (heard (turns_now answer (transcript_of e l.transcript))) (said (transcript_of (peer_of e) l.transcript))
     → AnswerFits l.shape.slots (transcript_of e l.transcript) (transcript_of (peer_of e) l.transcript) v (or_new (log_of_end (peer_of e) l).session) answer
@@ -82,7 +80,7 @@ fits_at shape e u t l answer left v acts other is front = by_answer answer acts 
         let right = sent_right (role_at e) shape.slots (queue_of e u) (net_end e u.lane) (log_of_end e l) (transcript_of e l.transcript) (seen_at e u.lane) (memory_of e u.lane) (reach_of e u.lane) packet opens
         left acting moves.step in
         let slots : shape.slots ≡ l.shape.slots = sym (ap (λ (z : NetShape). z.slots) moves.finds.ready.shape_is) in (
-          not_opens opens (never (Sent packet opens) moves),
+          by_value opens (never (Sent packet opens) moves),
           (
             moves.step.held.groups,
             subst (λ (n : ℕ). RightIn n moves.step.held.groups v (ended_by (half_said (transcript_of e l.transcript)) packet)) slots
@@ -90,7 +88,7 @@ fits_at shape e u t l answer left v acts other is front = by_answer answer acts 
           ),
         )
     by_answer (Took packet opens) moves ahead = (
-      not_opens opens (never (Took packet opens) moves),
+      by_value opens (never (Took packet opens) moves),
       ahead,
       turn_at shape e u l v moves.finds (acts_up_at shape e u t l (Took packet opens) left moves tt) other is,
     )
@@ -144,8 +142,7 @@ guest_first : (shape : NetShape) (u t : PortState) (l : PortLog) (packet : List 
     → Ways l.shape.slots (said (Said packet ∷ l.transcript.client)) (heard l.transcript.client) (said l.transcript.server) (heard l.transcript.server)
     (opened_log (opening_sid (half_said l.transcript.client) packet)) (or_new l.hub.session)
 guest_first shape u t l packet left acts up other none =
-    let turned = turned_at shape A u t l (Sent packet true) left acts tt in
-    let few = turned.few none in
+    let few = (turned_at shape A u t l (Sent packet true) left acts tt).few none in
     let then_ = after l (OnLane (Steps A (Sent packet true))) in
     let up_before = acts_up_at shape A u t l (Sent packet true) left acts tt in
     let other_before = peer_was_up shape A u t l (Sent packet true) left acts tt other in
@@ -175,15 +172,11 @@ guest_ways shape u t l answer left acts ways up other some =
     as_now : Now (turns_now answer l.transcript.client) l.transcript.server (after_answer l.shape.slots l.transcript.client answer l.guest).session
         → Ways l.shape.slots (said then_.transcript.client) (heard then_.transcript.client) (said then_.transcript.server) (heard then_.transcript.server) (or_new then_.guest.session) (or_new then_.hub.session)
     as_now one =
-        let turns = turns_at A l.transcript answer in
-        subst (λ (xs : List Turn). Ways l.shape.slots (said xs) (heard xs) (said then_.transcript.server) (heard then_.transcript.server) (or_new then_.guest.session) (or_new then_.hub.session)) (sym turns.mine)
-        (subst (λ (xs : List Turn). Ways l.shape.slots (said (turns_now answer l.transcript.client)) (heard (turns_now answer l.transcript.client)) (said xs) (heard xs) (or_new then_.guest.session) (or_new then_.hub.session))
-        (sym turns.theirs) one)
+        let turns = turns_at A l.transcript answer in rw (turns.mine, turns.theirs) one
 
     front : IsFront (heard (turns_now answer l.transcript.client)) (said l.transcript.server)
     front =
-        let turns = turns_at A l.transcript answer in
-        subst (λ (xs : List Turn). IsFront (heard xs) (said l.transcript.server)) turns.mine (subst (λ (xs : List Turn). IsFront (heard then_.transcript.client) (said xs)) turns.theirs (acts.two_ends.front_a up))
+        let turns = turns_at A l.transcript answer in rw turns.mine at (rw turns.theirs at (acts.two_ends.front_a up))
 
     by_log : (log : Option SessionLog) → l.guest.session ≡ log → Goes answer
         → Ways l.shape.slots (said then_.transcript.client) (heard then_.transcript.client) (said then_.transcript.server) (heard then_.transcript.server) (or_new then_.guest.session) (or_new then_.hub.session)
@@ -196,8 +189,7 @@ guest_ways shape u t l answer left acts ways up other some =
         let turned = turned_at shape A u t l answer left acts goes in
         let opening = opening_sent l.shape.slots l.transcript.client answer l.guest is some (turned.few is) (turned.many some) in
         let same : answer ≡ Sent opening.0 true = opening.1 in
-        as_now (subst (λ (given : NetAnswer). Now (turns_now given l.transcript.client) l.transcript.server (after_answer l.shape.slots l.transcript.client given l.guest).session) (sym same)
-        (guest_first shape u t l opening.0 left (subst (λ (given : NetAnswer). Acts shape A u t l given left) same acts) up other is))
+        as_now (rw same (guest_first shape u t l opening.0 left (rw same at acts) up other is))
 
 -- A STEP OF THE SWITCH'S END
 pub hub_plain : (shape : NetShape) (u t : PortState) (l : PortLog) (answer : NetAnswer) (left : NetLeft) → Acts shape B u t l answer left → Goes answer → IsUp B t.lane.wire.wire → l.hub.session ≡ None
@@ -304,10 +296,9 @@ hub_ways shape u t l answer left acts ways other up some = by_log l.hub.session 
     as_now : Now l.transcript.client (turns_now answer l.transcript.server) (after_answer l.shape.slots l.transcript.server answer l.hub).session
         → Ways l.shape.slots (said then_.transcript.client) (heard then_.transcript.client) (said then_.transcript.server) (heard then_.transcript.server) (or_new then_.guest.session) (or_new then_.hub.session)
     as_now one =
-        swap_ways l.shape.slots (said then_.transcript.server) (heard then_.transcript.server) (said then_.transcript.client) (heard then_.transcript.client) (or_new then_.hub.session) (or_new then_.guest.session)
-        (subst (λ (xs : List Turn). Ways l.shape.slots (said xs) (heard xs) (said then_.transcript.client) (heard then_.transcript.client) (or_new then_.hub.session) (or_new then_.guest.session)) (sym now)
-        (subst (λ (xs : List Turn). Ways l.shape.slots (said (turns_now answer l.transcript.server)) (heard (turns_now answer l.transcript.server)) (said xs) (heard xs) (or_new then_.hub.session) (or_new then_.guest.session))
-        (sym same) one))
+        swap_ways l.shape.slots (said then_.transcript.server) (heard then_.transcript.server) (said
+        then_.transcript.client) (heard then_.transcript.client) (or_new then_.hub.session) (or_new then_.guest.session)
+        (rw (now, same) one)
 
     by_log : (log : Option SessionLog) → l.hub.session ≡ log
         → Ways l.shape.slots (said then_.transcript.client) (heard then_.transcript.client) (said then_.transcript.server) (heard then_.transcript.server) (or_new then_.guest.session) (or_new then_.hub.session)
