@@ -1,5 +1,5 @@
 -- Each event of a port's lane keeps the counts of the frames of both ends in their order.
-use Rattle.std.proofs.Common.{◌≡◌, ℕ, ◌+◌, ◌-◌, ◌<◌, ◌≤◌, Bool, true, false, Option, Some, None, List, length, drop, refl, sym, subst, arith}
+use Rattle.std.proofs.Common.{◌≡◌, ℕ, ◌+◌, ◌-◌, ◌<◌, ◌≤◌, true, false, Option, Some, None, List, length, drop, refl, sym, subst, arith}
 use Rattle.std.specs.Prelude.{slice_get}
 use Rattle.std.proofs.lemmas.List.{length-append, length-drop}
 use Rattle.std.proofs.lemmas.Option.{slice_get_within}
@@ -13,7 +13,7 @@ use Rattle.channel_model.specs.Seeing.{Seen}
 use Rattle.cookie_copy.specs.Reach.{Reach}
 use Rattle.port_model.specs.Fetching.{Fetched, fetched}
 use Rattle.port_model.specs.FramesStand.{CountsStand, FramesStand}
-use Rattle.port_model.specs.NetEndPutting.{answer, announcement, answers, groups_answer, holding_own, net_holds, net_put, opened_by_put}
+use Rattle.port_model.specs.NetEndPutting.{answer, announcement, answers, groups_answer, holding_own, net_holds, net_put}
 use Rattle.port_model.specs.Groups.{membership}
 use Rattle.port_model.specs.NetEndRule.{Announces, Fetches, NetRule, Publishes, Replies, Tells, port_rule}
 use Rattle.port_model.specs.NetEndState.{Activity, NetEndState, NetSession, fresh_net_end, joined_net_end, unseen, unseen_in, with_frame}
@@ -71,11 +71,8 @@ holds_stands role s at r (Announces p) held stands is same =
     of_some FramesStand _ held same (announces_stands s p stands says.0.in_session.session says.1 says.2)
 holds_stands role s at r rule held stands is same = grind (arith, of_some, stands_with, none_some)
 
-opened_put_stands : (role : Role) (opens : Bool) (s : NetEndState) → FramesStand s → FramesStand (opened_by_put role opens s)
-opened_put_stands role opens s stands = grind (arith, opened_stands)
-
 put_stands : (role : Role) (held : NetEndState) → FramesStand held → FramesStand (net_put role held)
-put_stands role held stands = grind (arith, opened_put_stands, stands_with)
+put_stands role held stands = grind (arith, opened_stands, stands_with)
 
 -- IT PUBLISHES, and takes a frame
 published_stands : (s : NetEndState) (p : NetSession) (frame : List ℕ) → FramesStand s → s.session ≡ Some p → slice_get s.frames (unseen_in p) ≡ Some frame
@@ -118,11 +115,8 @@ queued_stands s frame stands less = grind (arith, length-append, counts_more)
 pub gives_stands : (s : NetEndState) (given : Given) (t : NetEndState) → FramesStand s → NetGives s given t → FramesStand t
 gives_stands s given t stands gives = grind (arith, queued_stands)
 
-untold_stands : (s : NetEndState) (groups : List (List ℕ)) (session : Option NetSession) → s.session ≡ session → FramesStand s → FramesStand (record s { groups = groups; session = untold session })
-untold_stands s groups session is stands = grind (arith, with_stands)
-
 pub joins_stands : (s : NetEndState) (joining : Joining) (t : NetEndState) → FramesStand s → NetJoins s joining t → FramesStand t
-joins_stands s joining t stands joins = grind (arith, untold_stands)
+joins_stands s joining t stands joins = grind (arith, with_stands)
 
 -- AN EVENT
 abbrev pub BothStand : NetLaneState → Type 0

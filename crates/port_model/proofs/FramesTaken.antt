@@ -1,6 +1,6 @@
 -- What an end takes keeps the counts of its frames.
-use Rattle.std.proofs.Common.{◌≡◌, ℕ, ◌+◌, ◌-◌, ◌≤◌, Bool, true, false, Option, Some, None, List, length, drop, refl, sym, subst, arith}
-use Rattle.std.specs.Prelude.{Result, ◌&&◌, if◌then◌else◌, ⊤}
+use Rattle.std.proofs.Common.{◌≡◌, ℕ, ◌-◌, Bool, true, false, Option, Some, None, List, length, drop, refl, sym, subst, arith}
+use Rattle.std.specs.Prelude.{Result, if◌then◌else◌, ⊤}
 use Rattle.std.proofs.lemmas.Bool.Decides.{nat_tests}
 use Rattle.std.proofs.lemmas.List.{length-drop}
 use Rattle.ldc_link.specs.declared.phase.Role.{Role}
@@ -13,10 +13,9 @@ use Rattle.vio_tag.specs.declared.cause.Cause.TheVariants as the_cause
 use Rattle.vio_tag.specs.declared.message.Message.{Message}
 use Rattle.vio_tag.specs.declared.message.MsgBody.{MsgBody}
 use Rattle.vio_tag.specs.declared.message.TagFault.{TagFault}
-use Rattle.dring.specs.Slots.{range_length}
 use Rattle.port_model.specs.FramesStand.{CountsStand, FramesStand}
 use Rattle.port_model.specs.NetEndState.{NetEndState, NetSession, opened_net_end}
-use Rattle.port_model.specs.NetEndTaking.{GoesOn, HearsLink, HearsWhole, NetTake, NetTakes, Resets, by_handshake, hears_message, in_session, opens_by_take, reads, refused, risen, sid_first, takes_ack, takes_done, takes_groups, takes_info, told}
+use Rattle.port_model.specs.NetEndTaking.{GoesOn, HearsLink, HearsWhole, NetTake, NetTakes, Resets, by_handshake, in_session, reads, refused, risen, sid_first, takes_ack, takes_info, told}
 use Rattle.port_model.specs.RuleFacts.{IfOpen}
 use Rattle.port_model.proofs.Refuting.{false_true}
 
@@ -45,22 +44,8 @@ with_stands s t p q stands is frames next slots session base published seen info
 info_stands : (s : NetEndState) (p : NetSession) (memory : List ℕ) (seq ident start end : ℕ) → FramesStand s → s.session ≡ Some p → TakeStands (takes_info s p memory seq ident start end)
 info_stands s p memory seq ident start end stands is = grind (arith, take_if, with_stands)
 
-done_stands : (s : NetEndState) (p : NetSession) (memory : List ℕ) (count : ℕ) (fault : Option Cause) → FramesStand s → s.session ≡ Some p
-    → 1 ≤ count → p.seen + count ≤ p.published → TakeStands (takes_done s p memory count fault)
-done_stands s p memory count fault stands is some within = grind (arith, length-drop, false_true)
-
-range_some : (slots start end : ℕ) → 1 ≤ range_length slots start end
-range_some slots start end = omega arith
-
-both_true : (a b : Bool) → (a && b) ≡ true → b ≡ true
-both_true a b is = grind (arith, false_true)
-
 ack_stands : (s : NetEndState) (p : NetSession) (memory : List ℕ) (ident start end : ℕ) → FramesStand s → s.session ≡ Some p → TakeStands (takes_ack s p memory ident start end)
-ack_stands s p memory ident start end stands is = grind (arith, take_if, both_true, done_stands, range_some, nat_tests)
-
-groups_stands : (s : NetEndState) (p : NetSession) (memory : List ℕ) (set count : ℕ) (addresses : List (List ℕ)) (groups : Option (List (List ℕ))) → FramesStand s → s.session ≡ Some p
-    → TakeStands (takes_groups s p memory set count addresses groups)
-groups_stands s p memory set count addresses groups stands is = grind (arith, with_stands)
+ack_stands s p memory ident start end stands is = grind (arith, take_if, false_true, length-drop, nat_tests)
 
 told_stands : (s : NetEndState) (p : NetSession) (memory : List ℕ) → FramesStand s → s.session ≡ Some p → TakeStands (told s p memory)
 told_stands s p memory stands is = grind (arith, take_if, with_stands)
@@ -75,26 +60,19 @@ counts_with s t frames next session counts = grind arith
 pub stands_with : (s t : NetEndState) → FramesStand s → t.frames ≡ s.frames → t.next_id ≡ s.next_id → t.slots ≡ s.slots → t.session ≡ s.session → FramesStand t
 stands_with s t stands frames next slots session = grind (arith, counts_with)
 
-opens_stands : (role : Role) (s : NetEndState) (memory : List ℕ) → FramesStand s → TakeStands (opens_by_take role s memory)
-opens_stands role s memory stands = grind (arith, opened_stands)
-
 handshake_stands : (role : Role) (s : NetEndState) (memory : List ℕ) (take : HandshakeTake) → FramesStand s → TakeStands (by_handshake role s memory take)
-handshake_stands role s memory take stands = grind (arith, stands_with, opens_stands)
+handshake_stands role s memory take stands = grind (arith, stands_with, opened_stands)
 
 in_stands : (role : Role) (s : NetEndState) (p : NetSession) (memory : List ℕ) (message : Message) (subtype : Subtype) (b : MsgBody) → FramesStand s → s.session ≡ Some p
     → TakeStands (in_session role s p memory message subtype b)
 in_stands role s p memory message subtype b stands is =
-    grind (arith, info_stands, ack_stands, groups_stands, told_stands, refused_stands, handshake_stands)
+    grind (arith, info_stands, ack_stands, with_stands, told_stands, refused_stands, handshake_stands)
 
 or_stands : (fault : Option Cause) (rest : NetTake) → TakeStands rest → TakeStands (sid_first fault rest)
 or_stands fault rest stands = grind arith
 
-hears_stands : (role : Role) (s : NetEndState) (memory : List ℕ) (session : Option NetSession) (message : Message) → FramesStand s → s.session ≡ session
-    → TakeStands (hears_message role s memory session message)
-hears_stands role s memory session message stands is = grind (arith, handshake_stands, or_stands, in_stands)
-
 reads_stands : (role : Role) (s : NetEndState) (memory : List ℕ) (d : Result Message TagFault) → FramesStand s → TakeStands (reads role s memory d)
-reads_stands role s memory d stands = grind (arith, hears_stands)
+reads_stands role s memory d stands = grind (arith, handshake_stands, or_stands, in_stands)
 
 whole_stands : (role : Role) (s : NetEndState) (memory : List ℕ) (whole : Option (List ℕ)) (take : NetTake) → FramesStand s → HearsWhole role s memory whole take → TakeStands take
 whole_stands role s memory None take stands is = subst TakeStands (sym is) stands

@@ -1,5 +1,5 @@
 -- Lists of groups are sets of addresses.
-use Rattle.std.proofs.Common.{◌≡◌, ℕ, zero, suc, ◌+◌, ◌<◌, ◌⊎◌, ◌↔◌, Bool, true, false, Some, None, List, [], ◌∷◌, ◌++◌, length, take, refl, sym, ap, ◌∙◌, arith}
+use Rattle.std.proofs.Common.{◌≡◌, ℕ, zero, suc, ◌+◌, ◌<◌, ◌↔◌, Bool, true, false, Some, None, List, [], ◌∷◌, ◌++◌, length, take, refl, sym, ap, ◌∙◌, arith}
 use Rattle.std.specs.Prelude.{◌&&◌, ◌||◌, ◌==◌, nat_eq, nat_le, not, slice_get, if◌then◌else◌}
 use Rattle.std.specs.Cmp.Lexicographic.{pointwise}
 use Rattle.std.proofs.lemmas.Bool.{and_parts, eq-eqb, eqb-true, leb-false, leb-true}
@@ -113,17 +113,11 @@ module _ (set count : ℕ) (seven groups : List (List ℕ)) where
   abbrev named : List (List ℕ)
   named = take count seven
 
-  refused_set : set_groups set named groups ≡ None → IsRefused set count seven groups
-  refused_set is = grind (arith, eqb-true, seven_none, none_some, above_one)
-
   pub why_refused : groups_after set count seven groups ≡ None → IsRefused set count seven groups
-  why_refused is = grind (arith, refused_set, leb-false)
-
-  set_refused : ((1 < set) ⊎ ((set ≡ 1) × (7 < length (with_groups groups named)))) → set_groups set named groups ≡ None
-  set_refused given = grind (arith, none_seven, eqb-true)
+  why_refused is = grind (arith, eqb-true, seven_none, none_some, above_one, leb-false)
 
   pub is_refused : IsRefused set count seven groups → groups_after set count seven groups ≡ None
-  is_refused why = grind (arith, leb-true, set_refused)
+  is_refused why = grind (arith, leb-true, none_seven, eqb-true)
 
   pub refused : (groups_after set count seven groups ≡ None) ↔ IsRefused set count seven groups
   refused = (why_refused, is_refused)
@@ -131,9 +125,5 @@ module _ (set count : ℕ) (seven groups : List (List ℕ)) where
   pub comes : (behind : List (List ℕ)) → groups_after set count seven groups ≡ Some behind → ComesOf set count seven groups behind
   comes behind is = by_test (nat_le count 7) is
     where
-      by_tests : (a b : Bool) → (set == 1) ≡ a → (set == 0) ≡ b
-          → (if a then at_most_seven (with_groups groups named) else if b then Some (without_groups groups named) else None) ≡ Some behind → ComesOf set count seven groups behind
-      by_tests a b one two here = grind (arith, eqb-true, seven_some, none_some)
-
       by_test : (b : Bool) → (if b then set_groups set named groups else None) ≡ Some behind → ComesOf set count seven groups behind
-      by_test b here = grind (arith, by_tests, none_some)
+      by_test b here = grind (arith, eqb-true, seven_some, none_some)

@@ -100,11 +100,6 @@ by_rule : (role : Role) (s : NetEndState) (at : Seen) (memory : List ℕ) (reach
     → RuleComes role rule s at memory reach o → Comes role s at memory reach o
 by_rule role s at memory reach rule o is comes = subst (λ (x : NetRule). RuleComes role x s at memory reach o) (sym is) comes
 
-slot_frame : (role : Role) (room : Bool) (s : NetEndState) (memory : List ℕ) (reach : Reach) (p : NetSession) (activity : Activity) (last : Option ℕ) (found : Fetched) (frame new : List ℕ) (t : NetLeft)
-    → found ≡ IsFrame frame new → t ≡ record { end = record s { session = Some (taken s p activity); last = frame }; own = memory; peer = new }
-    → SlotComes role room s memory reach p activity last found (out (Frame frame) t)
-slot_frame role room s memory reach p activity last found frame new t found_is is = grind (arith, same_out)
-
 step_comes : (role : Role) (s : NetEndState) (at : Seen) (memory : List ℕ) (reach : Reach) (a : NetAnswer) (t : NetLeft) → NetEndStep role s at memory reach a t
     → Comes role s at memory reach (out a t)
 step_comes role s at memory reach (Sent packet opens) t step =
@@ -112,7 +107,7 @@ step_comes role s at memory reach (Sent packet opens) t step =
     (room_held role at.room s memory reach step.held packet t.end.link opens t step.room step.packet step.opens_is step.is)
 step_comes role s at memory reach Blocked t step =
     rule_held role (port_rule role s at) s at memory reach t.end (out Blocked t) step.0 (blocked_held role at.room s memory reach t step.1 step.2)
-step_comes role s at memory reach a t step = grind (arith, by_rule, same_out, slot_frame, rule_fails)
+step_comes role s at memory reach a t step = grind (arith, by_rule, same_out, rule_fails)
 
 -- ONE OUTCOME
 puts_once : (k : LinkState) (one other : List ℕ) (behind past : LinkState) → PutsPacket k one behind → PutsPacket k other past → one ≡ other
@@ -121,11 +116,6 @@ puts_once k one other behind past puts also = grind arith
 held_once : (role : Role) (room : Bool) (s : NetEndState) (memory : List ℕ) (reach : Reach) (held : NetEndState) (o u : Outcome)
     → HeldComes role room s memory reach held o → HeldComes role room s memory reach held u → o ≡ u
 held_once role room s memory reach held o u comes also = grind (arith, puts_once)
-
-holds_once : (role : Role) (room : Bool) (rule : NetRule) (s : NetEndState) (memory : List ℕ) (reach : Reach) (one other : NetEndState) (o u : Outcome)
-    → net_holds rule s reach ≡ Some one → net_holds rule s reach ≡ Some other
-    → HeldComes role room s memory reach one o → HeldComes role room s memory reach other u → o ≡ u
-holds_once role room rule s memory reach one other o u holds also comes past = grind (arith, held_once, of_some)
 
 decoded_once : (role : Role) (s : NetEndState) (memory bytes : List ℕ) (one other : NetTake) → HearsWhole role s memory (Some bytes) one → HearsWhole role s memory (Some bytes) other → one ≡ other
 decoded_once role s memory bytes one other hears also = grind (arith, one_message)
@@ -143,8 +133,7 @@ bytes_once k bytes one other takes also = grind (arith, one_packet)
 
 takes_once : (role : Role) (s : NetEndState) (memory bytes : List ℕ) (one other : NetTake) → NetTakes role s memory bytes one → NetTakes role s memory bytes other → one ≡ other
 takes_once role s memory bytes one other takes also =
-    link_once role s memory takes.link one other takes.hears
-    (subst (λ (x : LinkTake). HearsLink role s memory x other) (sym (bytes_once s.link bytes takes.link also.link takes.takes also.takes)) also.hears)
+    link_once _ s _ _ _ _ takes.hears (rw (bytes_once _ _ _ _ takes.takes also.takes) also.hears)
 
 slot_once : (role : Role) (room : Bool) (s : NetEndState) (memory : List ℕ) (reach : Reach) (p : NetSession) (activity : Activity) (last : Option ℕ) (found : Fetched) (o u : Outcome)
     → SlotComes role room s memory reach p activity last found o → SlotComes role room s memory reach p activity last found u → o ≡ u
@@ -154,7 +143,7 @@ rule_once : (role : Role) (rule : NetRule) (s : NetEndState) (at : Seen) (memory
     → RuleComes role rule s at memory reach o → RuleComes role rule s at memory reach u → o ≡ u
 rule_once role (Takes packet) s at memory reach o u comes also =
     comes.2 ∙ ap (took role s memory reach packet) (takes_once role s memory packet comes.0 also.0 comes.1 also.1) ∙ sym also.2
-rule_once role rule s at memory reach o u comes also = grind (arith, slot_once, holds_once)
+rule_once role rule s at memory reach o u comes also = grind (arith, slot_once, held_once, of_some)
 
 -- two steps of one state have one answer, and leave the same
 pub step_once : (role : Role) (s : NetEndState) (at : Seen) (memory : List ℕ) (reach : Reach) (one other : NetAnswer) (t u : NetLeft)

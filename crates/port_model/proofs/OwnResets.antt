@@ -1,5 +1,5 @@
 -- A step of an end of a port never resets it for a cause that a script, a restart or a tick gives.
-use Rattle.std.proofs.Common.{◌≡◌, ℕ, zero, suc, Bool, false, Option, Some, None, List, refl, arith}
+use Rattle.std.proofs.Common.{◌≡◌, ℕ, zero, suc, Bool, Option, Some, None, List, refl, arith}
 use Rattle.std.specs.Prelude.{Result, ◌+◌, ◌*◌, ◌%◌, ◌==◌, if◌then◌else◌, ⊤}
 use Rattle.cookie_copy.specs.declared.fault.Access.TheVariants.{Read}
 use Rattle.cookie_copy.specs.declared.fault.CopyFault.{CopyFault}
@@ -23,7 +23,7 @@ use Rattle.port_model.specs.Fetching.{Fetched, IsFrame, NotReady, Refuses, copie
 use Rattle.port_model.specs.NetEndRule.{Fetches, NetRule, Takes}
 use Rattle.port_model.specs.NetEndState.{Activity, NetEndState, NetSession}
 use Rattle.port_model.specs.NetEndStep.{FetchFails, NetFails}
-use Rattle.port_model.specs.NetEndTaking.{GoesOn, HearsLink, HearsWhole, NetTake, NetTakes, Resets, by_handshake, first_undone, hears_message, in_session, opens_by_take, reads, refused, sid_first, slot_state, takes_ack, takes_done, takes_groups, takes_info, told}
+use Rattle.port_model.specs.NetEndTaking.{GoesOn, HearsLink, NetTake, NetTakes, Resets, by_handshake, first_undone, in_session, reads, sid_first, slot_state, takes_done}
 
 abbrev OwnTake : NetTake → Type 0
 OwnTake (GoesOn s opens memory) = ⊤
@@ -32,14 +32,8 @@ OwnTake (Resets cause) = IsOwn cause
 take_if : (b : Bool) (one other : NetTake) → OwnTake one → OwnTake other → OwnTake (if b then one else other)
 take_if b one other own rest = grind arith
 
-opens_own : (role : Role) (s : NetEndState) (memory : List ℕ) → OwnTake (opens_by_take role s memory)
-opens_own role s memory = grind arith
-
 handshake_take_own : (role : Role) (s : NetEndState) (memory : List ℕ) (take : HandshakeTake) → OwnHandshake take → OwnTake (by_handshake role s memory take)
-handshake_take_own role s memory take own = grind (arith, opens_own)
-
-info_own : (s : NetEndState) (p : NetSession) (memory : List ℕ) (seq ident start end : ℕ) → OwnTake (takes_info s p memory seq ident start end)
-info_own s p memory seq ident start end = grind (arith, take_if)
+handshake_take_own role s memory take own = grind arith
 
 fault_if : (b : Bool) (one other : Option Cause) → OwnFault one → OwnFault other → OwnFault (if b then one else other)
 fault_if b one other own rest = grind arith
@@ -53,38 +47,19 @@ undone_own slots memory number (suc count) =
 done_own : (s : NetEndState) (p : NetSession) (memory : List ℕ) (count : ℕ) (fault : Option Cause) → OwnFault fault → OwnTake (takes_done s p memory count fault)
 done_own s p memory count fault own = grind arith
 
-ack_own : (s : NetEndState) (p : NetSession) (memory : List ℕ) (ident start end : ℕ) → OwnTake (takes_ack s p memory ident start end)
-ack_own s p memory ident start end = grind (arith, take_if, done_own, undone_own)
-
-groups_own : (s : NetEndState) (p : NetSession) (memory : List ℕ) (set count : ℕ) (addresses : List (List ℕ)) (groups : Option (List (List ℕ)))
-    → OwnTake (takes_groups s p memory set count addresses groups)
-groups_own s p memory set count addresses groups = grind arith
-
-told_own : (s : NetEndState) (p : NetSession) (memory : List ℕ) → OwnTake (told s p memory)
-told_own s p memory = take_if p.telling (GoesOn _ false memory) (Resets the_cause.Order) tt refl
-
-refused_own : (p : NetSession) → OwnTake (refused p)
-refused_own p = take_if p.telling (Resets the_cause.Refused) (Resets the_cause.Order) refl refl
-
 in_own : (role : Role) (s : NetEndState) (p : NetSession) (memory : List ℕ) (message : Message) (subtype : Subtype) (b : MsgBody)
     → OwnTake (in_session role s p memory message subtype b)
 in_own role s p memory message subtype b =
-    grind (arith, info_own, ack_own, groups_own, told_own, refused_own, handshake_take_own, handshake_own)
+    grind (arith, take_if, done_own, undone_own, handshake_take_own, handshake_own)
 
 or_own : (fault : Option Cause) (rest : NetTake) → OwnFault fault → OwnTake rest → OwnTake (sid_first fault rest)
 or_own fault rest own own_rest = grind arith
 
-hears_own : (role : Role) (s : NetEndState) (memory : List ℕ) (session : Option NetSession) (message : Message) → OwnTake (hears_message role s memory session message)
-hears_own role s memory session message = grind (arith, handshake_take_own, handshake_own, or_own, sid_own, in_own)
-
 reads_own : (role : Role) (s : NetEndState) (memory : List ℕ) (d : Result Message TagFault) → OwnTake (reads role s memory d)
-reads_own role s memory d = grind (arith, hears_own)
-
-whole_own : (role : Role) (s : NetEndState) (memory : List ℕ) (whole : Option (List ℕ)) (take : NetTake) → HearsWhole role s memory whole take → OwnTake take
-whole_own role s memory whole take is = grind (arith, reads_own)
+reads_own role s memory d = grind (arith, handshake_take_own, handshake_own, or_own, sid_own, in_own)
 
 link_take_own : (role : Role) (s : NetEndState) (memory : List ℕ) (link : LinkTake) (take : NetTake) → OwnLink link → HearsLink role s memory link take → OwnTake take
-link_take_own role s memory link take own is = grind (arith, whole_own)
+link_take_own role s memory link take own is = grind (arith, reads_own)
 
 takes_own : (role : Role) (s : NetEndState) (memory bytes : List ℕ) (take : NetTake) → NetTakes role s memory bytes take → OwnTake take
 takes_own role s memory bytes take takes = link_take_own role s memory takes.link take (link_own s.link bytes takes.link takes.takes) takes.hears

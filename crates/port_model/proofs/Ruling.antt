@@ -8,15 +8,12 @@ use Rattle.ldc_link.specs.declared.phase.Role.TheVariants.{Initiator}
 use Rattle.ldc_link.specs.Putting.{owes}
 use Rattle.vio_tag.specs.declared.message.Message.{Message}
 use Rattle.channel_model.specs.Seeing.{Seen}
-use Rattle.port_model.specs.NetEndRule.{Announces, Idles, Joins, NetRule, Puts, Tells, fetches_first, in_session, port_rule, publishes, replies_first, says, takes_first, tells_first}
-use Rattle.port_model.specs.NetEndState.{Activity, GroupsReply, NetEndState, NetSession, unseen_in}
+use Rattle.port_model.specs.NetEndRule.{Announces, Idles, Joins, NetRule, Puts, Tells, fetches_first, port_rule, publishes, replies_first, says, takes_first, tells_first}
+use Rattle.port_model.specs.NetEndState.{GroupsReply, NetEndState, NetSession, unseen_in}
 use Rattle.port_model.specs.RuleFacts.{HasTime, IfOpen, IsFree, IsFreeIn, MayListen, RuleSays}
 
 open_in : (s : NetEndState) (p : NetSession) → s.session ≡ Some p → MayListen p → IfOpen s.session MayListen
 open_in s p is may = subst (λ (x : Option NetSession). IfOpen x MayListen) (sym is) may
-
-open_none : (s : NetEndState) → s.session ≡ None → IfOpen s.session MayListen
-open_none s is = subst (λ (x : Option NetSession). IfOpen x MayListen) (sym is) tt
 
 announces_says : (role : Role) (s : NetEndState) (at : Seen) (p : NetSession) → HasTime s at p → (less asking : Bool) → nat_lt p.seen p.published ≡ less → p.asking ≡ asking
     → RuleSays role s at (if less && not asking then Announces p else Idles)
@@ -31,41 +28,26 @@ tells_says : (s : NetEndState) (at : Seen) (p : NetSession) → HasTime s at p �
     → RuleSays Initiator s at (if untold && not telling then Tells p else publishes p (slice_get s.frames (unseen_in p)))
 tells_says s at p time untold telling untold_2 telling_2 = grind (arith, publishes_says)
 
-time_says : (role : Role) (s : NetEndState) (at : Seen) (p : NetSession) → HasTime s at p
-    → RuleSays role s at (tells_first role p (publishes p (slice_get s.frames (unseen_in p))))
-time_says role s at p time = grind (arith, tells_says, publishes_says)
-
 listens_says : (role : Role) (s : NetEndState) (at : Seen) (p : NetSession) → IsFreeIn s at p → p.reply ≡ None → p.active ≡ None
     → (first : Option (List ℕ)) → at.first ≡ first
     → RuleSays role s at (takes_first first (tells_first role p (publishes p (slice_get s.frames (unseen_in p)))))
-listens_says role s at p free reply active first is = grind (arith, time_says, open_in)
-
-fetches_says : (role : Role) (s : NetEndState) (at : Seen) (p : NetSession) → IsFreeIn s at p → p.reply ≡ None → (activity : Option Activity) → p.active ≡ activity
-    → RuleSays role s at (fetches_first p activity (takes_first at.first (tells_first role p (publishes p (slice_get s.frames (unseen_in p))))))
-fetches_says role s at p free reply activity is = grind (arith, listens_says)
+listens_says role s at p free reply active first is = grind (arith, tells_says, publishes_says, open_in)
 
 replies_says : (role : Role) (s : NetEndState) (at : Seen) (p : NetSession) → IsFreeIn s at p → (reply : Option GroupsReply) → p.reply ≡ reply
     → RuleSays role s at (replies_first p reply (fetches_first p p.active (takes_first at.first (tells_first role p (publishes p (slice_get s.frames (unseen_in p)))))))
-replies_says role s at p free reply is = grind (arith, fetches_says)
+replies_says role s at p free reply is = grind (arith, listens_says)
 
 first_says : (role : Role) (s : NetEndState) (at : Seen) → IsFree s at → s.session ≡ None → (first : Option (List ℕ)) → at.first ≡ first
     → RuleSays role s at (takes_first first Idles)
-first_says role s at free closed first is = grind (arith, open_none)
-
-session_says : (role : Role) (s : NetEndState) (at : Seen) → IsFree s at → (session : Option NetSession) → s.session ≡ session → RuleSays role s at (in_session role s at session)
-session_says role s at free session is = grind (arith, first_says, replies_says)
+first_says role s at free closed first is = grind arith
 
 owed_says : (role : Role) (s : NetEndState) (at : Seen) → is_up at.state ≡ true → owes s.link ≡ false → (owed : Option Message) → s.handshake.owed ≡ owed
     → RuleSays role s at (says role s at owed)
-owed_says role s at up quiet owed is = grind (arith, session_says)
-
-puts_says : (role : Role) (s : NetEndState) (at : Seen) → is_up at.state ≡ true → (puts : Bool) → owes s.link ≡ puts
-    → RuleSays role s at (if puts then Puts else says role s at s.handshake.owed)
-puts_says role s at up puts is = grind (arith, owed_says)
+owed_says role s at up quiet owed is = grind (arith, first_says, replies_says)
 
 up_says : (role : Role) (s : NetEndState) (at : Seen) → (up : Bool) → is_up at.state ≡ up
     → RuleSays role s at (if up then (if owes s.link then Puts else says role s at s.handshake.owed) else Joins)
-up_says role s at up is = grind (arith, puts_says)
+up_says role s at up is = grind (arith, owed_says)
 
 -- each rule rests on this
 pub rule_says : (role : Role) (s : NetEndState) (at : Seen) → RuleSays role s at (port_rule role s at)
