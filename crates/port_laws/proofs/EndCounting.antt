@@ -86,8 +86,5 @@ said_published k message v = grind arith
 pub left_published : (left : Option (List ℕ)) (v : SessionLog) → (said_in left v).published ≡ v.published
 left_published left v = grind (arith, said_published)
 
-pub left_groups : (left : Option (List ℕ)) (v : SessionLog) → (said_in left v).groups ≡ v.groups
-left_groups left v = grind arith
-
 pub left_seen : (left : Option (List ℕ)) (v : SessionLog) → (said_in left v).seen ≡ v.seen
 left_seen left v = grind arith

@@ -269,9 +269,7 @@ fails_core : (role : Role) (s : NetEndState) (at : Seen) (memory : List ℕ) (re
     → port_rule role s at ≡ rule → NetFails role rule s memory reach cause packet → EndFails role (net_core role s) cause packet
 fails_core role s at memory reach (Takes bytes) cause packet fits is fails =
     packet_fails role s at memory bytes packet cause fits (says_of role s at (Takes bytes) is).0 fails.0 fails.1
-fails_core role s at memory reach (Fetches p activity) cause packet fits is fails =
-    slot_fails role s p packet cause fails.0 (says_of role s at (Fetches p activity) is).0.session
-fails_core role s at memory reach _ cause packet fits is fails = absurd fails
+fails_core role s at memory reach rule cause packet given is fails = grind (arith, slot_fails, says_of)
 
 -- IT STAYS
 pub stays_with : (role : Role) (s t : NetEndState) → t.link ≡ s.link → t.handshake ≡ s.handshake → t.address ≡ s.address → t.slots ≡ s.slots → is_some t.session ≡ is_some s.session

@@ -1,12 +1,12 @@
 -- The message of its session that an end of a port forms, and that it puts: what it says, and what the end notes of it.
-use Rattle.std.proofs.Common.{◌≡◌, ℕ, ◌+◌, ◌^◌, ◌<◌, Bool, true, false, Option, Some, None, List, [], ◌∷◌, ◌++◌, length, inl, inr, refl, sym, subst, ap, ◌∙◌, arith}
+use Rattle.std.proofs.Common.{◌≡◌, ℕ, ◌+◌, ◌^◌, ◌<◌, Bool, true, false, Option, Some, None, List, [], ◌∷◌, ◌++◌, inl, inr, refl, sym, subst, ap, ◌∙◌, arith, length}
 use Rattle.std.specs.Prelude.{◌%◌, is_none}
 use Rattle.std.proofs.lemmas.Bool.{leb-false}
 use Rattle.cookie_copy.specs.Reach.{Reach}
 use Rattle.ldc_link.specs.Calls.{Puts as PutsPacket}
 use Rattle.ldc_link.specs.declared.phase.Role.{Role}
 use Rattle.ldc_link.specs.declared.phase.Role.TheVariants.{Initiator}
-use Rattle.ldc_link.specs.LinkState.{LinkState, is_established, is_up}
+use Rattle.ldc_link.specs.LinkState.{LinkState, is_up, is_established}
 use Rattle.ldc_link.specs.Putting.{behind_put, owes}
 use Rattle.ldc_packet.specs.declared.packet.Subtype.TheVariants.{Ack, Info}
 use Rattle.ldc_queue.specs.Transcript.{Said, Turn}
@@ -17,7 +17,7 @@ use Rattle.vio_tag.specs.Spelling.{canonical}
 use Rattle.channel_model.specs.Ranges.{wrapped}
 use Rattle.channel_model.specs.Sayings.{half_said, said}
 use Rattle.channel_model.specs.Seeing.{Seen}
-use Rattle.channel_laws.proofs.EndCases.{PutControl, PutHandshake, PutMore, PutOwn, PutReady, PutWhat, end_put, put_down}
+use Rattle.channel_laws.proofs.EndCases.{PutOwn, PutWhat, end_put, put_down, PutControl, PutHandshake, PutMore, PutReady}
 use Rattle.channel_laws.proofs.EndResting.{held_handshake}
 use Rattle.channel_laws.proofs.EndStanding.{stands_step, last_none}
 use Rattle.channel_laws.specs.EndCore.{Waits}

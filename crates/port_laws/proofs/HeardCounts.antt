@@ -170,7 +170,6 @@ heard_counts role slots queue s l p memory bytes m t new hearing form spells doe
         (asks_counts role slots queue s t l p opened_here.of_log bytes seq start hearing.counts opened_here.counts hearing.idle (left_of_same (ap (λ (x : NetEndState). x.link) is)) place.place place.seq_is
         (ap (λ (x : NetEndState). x.slots) is) (ap (λ (x : NetEndState). x.frames) is) (ap (λ (x : NetEndState). x.next_id) is) (ap (λ (x : NetEndState). x.groups) is) (ap (λ (x : NetEndState). x.session) is))
     by_kind (Acks seq ident start end state kind body begins inside most undone stays is) =
-        let fields : SpellsBody bytes (DringData seq ident start end state) = subst (SpellsBody bytes) body spells.body in
         let stood : CountsStand s p = subst (λ (x : Option NetSession). IfOpen x (CountsStand s)) hearing.session hearing.stands.session in
         let range : range_of slots bytes ≡ range_length s.slots start end = grind arith in
         as_kind RangeAck (spoken_of bytes m Ack (DringData seq ident start end state) spells kind body)

@@ -75,7 +75,6 @@ tells_forms : (slots : ℕ) (s : NetEndState) (p : NetSession) (v : SessionLog) 
     → SessionCounts Initiator slots s.groups published gone None begun p v
     → Forms Initiator slots s p (record p { untold = false; telling = true }) v published gone (membership s.handshake.draft.sid s.groups) GroupsInfo
 tells_forms slots s p v published gone begun owed short groups untold counts =
-    let told : List ℕ = canonical (membership s.handshake.draft.sid s.groups) in
     record {
       owed = owed;
       short = membership_short s.handshake.draft.sid s.groups short;

@@ -22,7 +22,7 @@ use Rattle.channel_laws.specs.EndStep.{EndBegins, EndStays, EndStep}
 use Rattle.channel_laws.proofs.EndsAtRest.{none_waits}
 use Rattle.channel_laws.specs.LaneCore.{AnswerStands, CoreStands, CoreStep, move_of, reset_move, wire_after}
 use Rattle.port_model.specs.NetEndPutting.{net_holds}
-use Rattle.port_model.specs.NetEndRule.{Fetches, Idles, Joins, NetRule, Takes, port_rule}
+use Rattle.port_model.specs.NetEndRule.{Idles, Joins, NetRule, Takes, port_rule}
 use Rattle.port_model.specs.NetEndState.{NetEndState, joined_net_end}
 use Rattle.port_model.specs.NetEndStep.{Blocked, Frame, Given, Idle, Joined, Joining, NetAnswer, NetEndStep, NetFails, NetGives, NetJoins, NetLeft, Published, Reset, Sent, Took}
 use Rattle.port_model.specs.NetEvent.{Asked, Declines, Gives, Injects, Joins as JoinsGroup, Loses, NetEvent, Pokes, Steps, Ticked, on_wire}
@@ -61,10 +61,7 @@ fails_stand : (e : End) (s : NetLaneState) (rule : NetRule) (cause : Cause) (pac
 fails_stand e s (Takes bytes) cause packet is fails =
     let says = says_of (role_at e) (net_end e s) (seen_at e s) (Takes bytes) is in
     (up_of (state_of e s.wire.wire) says.0.up, carries_first e s.wire.wire bytes packet fails.0 says.1)
-fails_stand e s (Fetches p activity) cause packet is fails =
-    let says = says_of (role_at e) (net_end e s) (seen_at e s) (Fetches p activity) is in
-    (up_of (state_of e s.wire.wire) says.0.free.up, carries_none e s.wire.wire packet fails.0)
-fails_stand e s _ cause packet is fails = absurd fails
+fails_stand e s rule cause packet is fails = grind (arith, says_of, up_of, carries_none)
 
 answer_stands : (e : End) (s : NetLaneState) (answer : NetAnswer) (left : NetLeft)
     → NetEndStep (role_at e) (net_end e s) (seen_at e s) (memory_of e s) (reach_of e s) answer left
@@ -160,11 +157,7 @@ up_moves e s answer left fits step up =
 
 end_moves : (e : End) (s : NetLaneState) (answer : NetAnswer) (left : NetLeft) → NetFits (role_at e) (net_end e s)
     → NetEndStep (role_at e) (net_end e s) (seen_at e s) (memory_of e s) (reach_of e s) answer left → Moves e s answer left
-end_moves e s (Joined lost) left fits step =
-    let before = is_begun (state_of e s.wire.wire) in
-    let now = is_begun (state_of e (net_wire (Steps e (Joined lost)) s).wire) in
-    subst (λ (m : EndMove). EndStep (role_at e) (net_core_at (role_at e) before (net_end e s)) m (net_core_at (role_at e) now left.end)) (sym (moves_own e s (Joined lost) left step))
-    (joined_moves (role_at e) before now (net_end e s) left.end (ap (λ (x : NetLeft). x.end) step.2))
+end_moves e s (Joined lost) left fits step = grind (arith, moves_own, joined_moves)
 end_moves e s (Published id) left fits step = up_moves e s (Published id) left fits step (published_up e s id left step)
 end_moves e s (Frame frame) left fits step = up_moves e s (Frame frame) left fits step (frame_up e s frame left step)
 end_moves e s (Reset cause packet lost) left fits step = up_moves e s (Reset cause packet lost) left fits step (reset_up e s cause packet lost left step)

@@ -12,7 +12,7 @@ use Rattle.vio_tag.specs.declared.message.MsgBody.TheVariants.{DringData}
 use Rattle.vio_tag.specs.Form.{HasForm, IsWellFormed}
 use Rattle.vio_tag.specs.Spelling.{SpellsBody, SpellsMessage, envelope_code}
 use Rattle.dring.specs.Slots.{range_length}
-use Rattle.port_laws.proofs.MessageDoes.{Acks, Asks, Declines, MessageDoes, Names, TakeDoes, Told, message_does}
+use Rattle.port_laws.proofs.MessageDoes.{Acks, MessageDoes, TakeDoes, message_does, Asks, Declines, Names, Told}
 use Rattle.port_laws.specs.LetsGo.{InOrder, LetsGo, TakeLetsGo, TakeLetsNoneGo, acks}
 use Rattle.port_model.proofs.Refuting.{false_true}
 use Rattle.port_model.specs.EndLog.{acked_by}

@@ -13,7 +13,7 @@ use Rattle.vio_handshake.proofs.Places.{AllSaid, Deal, Place}
 use Rattle.channel_model.specs.Sayings.{heard, said}
 use Rattle.channel_laws.proofs.ConversingRuns.{HeardFrom, hears_now}
 use Rattle.channel_laws.proofs.EndStanding.{open_up}
-use Rattle.channel_laws.proofs.HandshakePlaces.{AtPlace, deal, open_place, place_open}
+use Rattle.channel_laws.proofs.HandshakePlaces.{AtPlace, deal, place_open}
 use Rattle.channel_laws.proofs.HandshakesPlaced.{Meets}
 use Rattle.channel_laws.proofs.Script.{last_or, said_at}
 use Rattle.channel_laws.specs.Sides.{Sides, other}
@@ -100,8 +100,6 @@ pub open_long : (asks answers : Offer) (role : Role) (s : Sides) → TwoEnds ask
 open_long asks answers role s two_ends up opened =
     let d = deal asks answers two_ends.meets.handshakes.sid in
     let at = mine_at asks answers role s two_ends up (open_up role s.mine.core s.mine.turns two_ends.mine opened) in
-    let last : at.place ≡ AllSaid = open_place true d role s.mine.core s.mine.turns two_ends.mine at opened in
-    let there = row_at d role s.mine.core.handshake s.mine.turns at in
     grind (arith, longer, said_at, six_said)
 
 -- before, at most five of the row

@@ -33,7 +33,7 @@ use Rattle.port_model.proofs.OwnResets.{net_resets_own}
 use Rattle.port_model.specs.FrameLaws.{SlotCause}
 use Rattle.port_model.specs.EndLog.{SessionLog, opened_log}
 use Rattle.port_model.specs.Fetching.{Fetched, IsFrame as IsFetched, NotReady, Refuses, fetched}
-use Rattle.port_model.specs.NetEndRule.{Fetches, NetRule, Takes, port_rule}
+use Rattle.port_model.specs.NetEndRule.{Fetches, NetRule, port_rule}
 use Rattle.port_model.specs.NetEndState.{Activity, NetEndState, NetSession}
 use Rattle.port_model.specs.NetEndStep.{FetchFails, Frame, NetFails, Published, Reset}
 use Rattle.port_model.specs.NetEndTaking.{ends_outside, first_undone}
@@ -125,8 +125,7 @@ found_says turns (Refuses why) activity slot cause fits fails = rw fails (slot_s
 fails_says : (turns : List Turn) (role : Role) (rule : NetRule) (s : NetEndState) (memory : List ℕ) (reach : Reach) (cause : Cause) → NetFails role rule s memory reach cause None → SaysSo turns cause None
 fails_says turns role (Fetches p activity) s memory reach cause fails =
     found_says turns (fetched s reach p.place) activity p.place cause (fetched_fits s reach p.place) fails.1
-fails_says turns role (Takes bytes) s memory reach cause fails = absurd (cc fails.0)
-fails_says turns role _ s memory reach cause fails = absurd fails
+fails_says turns role rule s memory reach cause fails = grind arith
 
 -- A RESET with one is for what the packet says
 pub opened_is : (e : End) (u : NetLaneState) → (end_of e (lane_core u)).is_open ≡ is_some (net_end e u).session

@@ -1,5 +1,5 @@
 -- Each run of a port with its out queue is one of two ends on a channel, in the same log.
-use Rattle.std.proofs.Common.{◌≡◌, Option, List, [], ◌∷◌, ◌++◌, refl, sym, subst, ap, ◌∙◌, arith}
+use Rattle.std.proofs.Common.{◌≡◌, ℕ, Option, Some, None, List, [], ◌∷◌, ◌++◌, refl, sym, subst, ap, ◌∙◌, arith}
 use Rattle.runs.specs.Lawful.{Lawful, log_append, log_of, run_lawful}
 use Rattle.runs.specs.Run.{Run, run_keeps, run_push}
 use Rattle.channel_model.specs.TranscriptLog.{TranscriptLog}
@@ -94,14 +94,32 @@ pub lawful_along : (shape : NetShape) (May : PortLog → PortEvent → Type 0)
     → May (log_of after (no_events shape) events) event)
     → (events : List PortEvent) (s : PortState) → Run PortStep (fresh_port shape) events s → Lawful May after (no_events shape) events
 lawful_along shape May law events s run =
-    (run_lawful PortStep May after (Behind shape) one_more (fresh_port shape) s (no_events shape) events (record { events = []; run = refl; log = refl }) run).0
-  where
-    one_more : (s : PortState) (l : PortLog) (event : PortEvent) (t : PortState) → Behind shape s l → PortStep s event t → May l event × Behind shape t (after l event)
-    one_more s l event t behind step = (
+    let one_more : (s : PortState) (l : PortLog) (event : PortEvent) (t : PortState) → Behind shape s l → PortStep s event t → May l event × Behind shape t (after l event) = λ s l event t behind step. (
       subst (λ (x : PortLog). May x event) (sym behind.log) (law behind.events s event t behind.run step),
       record {
         events = behind.events ++ event ∷ [];
         run = run_push PortStep (fresh_port shape) s t behind.events event behind.run step;
         log = ap (λ (x : PortLog). after x event) behind.log ∙ sym (log_append after (no_events shape) behind.events (event ∷ []));
       },
-    )
+    ) in
+    (run_lawful PortStep May after (Behind shape) one_more (fresh_port shape) s (no_events shape) events (record { events = []; run = refl; log = refl }) run).0
+
+-- the same where each event on the lane has it, and each frame that the queue receives
+pub lawful_on_lane : (shape : NetShape) (May : PortLog → PortEvent → Type 0)
+    → ((l : PortLog) (frame : List ℕ) → May l (Receives frame))
+    → ((events : List PortEvent) (s : PortState) (event : NetEvent) (t : PortState)
+    → Run PortStep (fresh_port shape) events s → PortStep s (OnLane event) t
+    → May (log_of after (no_events shape) events) (OnLane event))
+    → (events : List PortEvent) (s : PortState) → Run PortStep (fresh_port shape) events s
+    → Lawful May after (no_events shape) events
+lawful_on_lane shape May received law events s run = lawful_along shape May at_event events s run
+  where
+    at_event : (events : List PortEvent) (s : PortState) (event : PortEvent) (t : PortState)
+        → Run PortStep (fresh_port shape) events s → PortStep s event t → May (log_of after (no_events shape) events) event
+    at_event events s (OnLane event) t run step = law events s event t run step
+    at_event events s (Receives frame) t run step = received (log_of after (no_events shape) events) frame
+
+-- what holds with a value and without
+pub by_option : {X P : Type 0} (option : Option X) → ((x : X) → option ≡ Some x → P) → (option ≡ None → P) → P
+by_option {X} {P} (Some x) some none = some x refl
+by_option {X} {P} None some none = none refl

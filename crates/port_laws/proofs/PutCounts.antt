@@ -3,7 +3,6 @@ use Rattle.std.proofs.Common.{◌≡◌, ℕ, ◌+◌, ◌<◌, ◌≤◌, Bool,
 use Rattle.std.specs.Prelude.{◌&&◌, is_none, is_some, not}
 use Rattle.std.proofs.lemmas.Bool.{leb-false, leb-true}
 use Rattle.std.proofs.lemmas.List.{take_all}
-use Rattle.std.proofs.Math.Nat.{zero-mod}
 use Rattle.ldc_link.specs.declared.phase.Role.{Role}
 use Rattle.ldc_link.specs.declared.phase.Role.TheVariants.{Initiator, Responder}
 use Rattle.ldc_link.specs.LinkState.{LinkState, is_established, is_up}
@@ -22,28 +21,24 @@ use Rattle.channel_laws.proofs.LinkCases.{behind_part}
 use Rattle.channel_laws.proofs.TurnCases.{SaysLast, SaysMore}
 use Rattle.channel_laws.specs.Standing.{EndStands}
 use Rattle.port_model.proofs.Refuting.{false_true, none_some, true_false}
-use Rattle.port_model.specs.EndLog.{EndLog, SessionLog, change, opened_log, opens_log, said_in, said_kind, says_log}
+use Rattle.port_model.specs.EndLog.{EndLog, SessionLog, change, opens_log, said_in, said_kind, says_log}
 use Rattle.port_model.specs.NetEndPutting.{net_kind, net_opens, net_put, opened_by_put}
-use Rattle.port_model.specs.NetEndState.{NetEndState, NetSession, first_id, opened_net_end, opened_session}
+use Rattle.port_model.specs.NetEndState.{NetEndState, NetSession, first_id, opened_net_end}
 use Rattle.port_model.specs.Spoken.{Other, Spoken, spoken}
-use Rattle.port_laws.specs.Counted.{Counts, EndCounts, GuestCounts, HoldsRightly, NoneTold, SaysRightly, SessionCounts, UnsaidRight, left_of, unsaid}
+use Rattle.port_laws.specs.Counted.{Counts, EndCounts, HoldsRightly, SaysRightly, UnsaidRight, left_of, unsaid}
 use Rattle.port_laws.specs.NetCore.{net_core}
-use Rattle.port_laws.proofs.EndCounting.{OpenCounts, ShutCounts, empty_unsaid, open_counts, shut_counts, own_left}
+use Rattle.port_laws.proofs.EndCounting.{OpenCounts, empty_unsaid, open_counts, shut_counts, own_left}
 use Rattle.channel_laws.proofs.PacketsLeft.{opening_shut}
 use Rattle.channel_laws.specs.HandshakeFits.{OwedFits}
 use Rattle.port_laws.proofs.OwedSays.{OwesNoGroups, owed_other}
 
 -- A SESSION OPENS with nothing published, taken or told
-guest_opened : (role : Role) (base : ℕ) (groups : List (List ℕ)) (sid : ℕ) → NoneTold role groups → GuestCounts role (opened_session base) groups (opened_log sid)
-guest_opened role base groups sid none = grind (arith, true_false, false_true)
 
 pub opened_counts : (role : Role) (slots : ℕ) (queue : List (List ℕ)) (s : NetEndState) (l : EndLog) (sid : ℕ) → EndCounts role slots queue s l → s.session ≡ None → s.link.to_send ≡ []
     → EndCounts role slots queue (opened_net_end s) (opens_log true sid l)
 opened_counts role slots queue s l sid counts shut empty =
-    let gone : ShutCounts role s.groups l.published l.gone l.session = shut_counts role slots queue s l counts shut in
     let long : length (s.frames ++ queue) ≡ length (drop l.gone l.given) = ap length counts.frames in
     let base : l.gone ≡ first_id s + 0 = omega (arith, counts.ids, counts.gone, long, length-append s.frames queue, length-drop l.gone l.given) in
-    let there : SessionCounts role slots s.groups l.published l.gone None s.link.begun (opened_session (first_id s)) (opened_log sid) = grind (arith, zero-mod, guest_opened) in
     grind (arith, empty_unsaid)
 
 -- THE PACKET ENDS A MESSAGE, or none
@@ -189,7 +184,6 @@ put_handshake role slots queue held l turns packet sid counts stands owes no_gro
         ap (λ (r : Role). opened_by_put r (net_opens held) (put_end held)) role_is ∙ ap (λ (b : Bool). opened_by_put Initiator b (put_end held)) is in
         let none : (put_end held).link.to_send ≡ [] = sym (ap (λ (x : NetEndState). x.link.to_send) put_is) ∙ empty in
         let ended : ended_by (half_said turns) packet ≡ Some said = last_ended held.link turns packet last in
-        let gone : ShutCounts role held.groups l.published l.gone l.session = shut_counts role slots queue held l counts shut in
         let there : EndCounts role slots queue (put_end held) (says_log (Some said) l) = grind (arith, same_said, empty_unsaid, said_counts) in
         record {
           counts = subst (λ (b : Bool). EndCounts role slots queue (net_put role held) (opens_log b sid (says_log (ended_by (half_said turns) packet) l))) (sym is)

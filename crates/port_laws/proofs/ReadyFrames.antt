@@ -111,5 +111,4 @@ ready_most slots seen taken published frames memory ring = omega (arith, ready_m
     named : (i : ℕ) → i < slots → is_ready memory i ≡ true → (j : ℕ) × (taken ≤ j) × (j < taken + (published - taken)) × (j % slots ≡ i)
     named i below now =
         let j = turn_names slots seen i below in
-        let both = one i j.0 j.1 j.2 j.3 now in
-        (j.0, both.0, omega (arith, both.0, both.1), j.3)
+        let both = one i j.0 j.1 j.2 j.3 now in (j.0, both.0, omega (arith, both.0, both.1), j.3)

@@ -53,15 +53,14 @@ all_done slots memory number (suc count) done =
 
 pub ring_done : (slots seen taken published : ℕ) (frames : List (List ℕ)) (memory : List ℕ) (count : ℕ) → RingHolds slots seen taken published frames memory → seen + count ≡ taken
     → first_undone slots memory seen count ≡ None
-ring_done slots seen taken published frames memory count ring is = all_done slots memory seen count each
-  where
-    each : (j : ℕ) → seen ≤ j → j < seen + count → slot_state (j % slots) memory ≡ 4
-    each j from below =
-        let less : j < taken = omega (arith, below, is) in
-        let first = ring.taken_first in
-        let turn = ring.turn in
-        let there = some_frame frames (j - seen) (omega (arith, from, less, first, ring.held)) in
-        held_state memory (j % slots) 4 there.0 ((ring.each j from (omega (arith, less, first, turn))).done less there.0 there.1)
+ring_done slots seen taken published frames memory count ring is =
+    let each : (j : ℕ) → seen ≤ j → j < seen + count → slot_state (j % slots) memory ≡ 4 = λ j from below.
+    let less : j < taken = omega (arith, below, is) in
+    let first = ring.taken_first in
+    let turn = ring.turn in
+    let there = some_frame frames (j - seen) (omega (arith, from, less, first, ring.held)) in
+    held_state memory (j % slots) 4 there.0 ((ring.each j from (omega (arith, less, first, turn))).done less there.0 there.1) in
+    all_done slots memory seen count each
 
 -- TESTS that pass
 past : (b : Bool) (x y : NetTake) → b ≡ false → (if b then x else y) ≡ y

@@ -28,7 +28,7 @@ use Rattle.port_model.specs.NetEndPutting.{announcement, answers, cleared_by_put
 use Rattle.port_model.specs.Groups.{membership}
 use Rattle.port_model.specs.NetEndRule.{Announces, Fetches, NetRule, Publishes, Puts, Replies, Says, Tells, port_rule}
 use Rattle.port_model.specs.NetEndState.{Activity, GroupsReply, NetEndState, NetSession, unseen_in}
-use Rattle.port_model.specs.NetEndStep.{NetLeft, NetPublishes, NetSends, leaves, published, published_memory}
+use Rattle.port_model.specs.NetEndStep.{NetLeft, NetPublishes, NetSends, leaves, published}
 use Rattle.port_laws.specs.NetCore.{net_core}
 use Rattle.port_laws.specs.Remaining.{end_left, groups_left, put_weight, ready_slots, ready_weight, session_left}
 use Rattle.port_laws.proofs.EndMoves.{HeldCore, held_core, puts_behind, says_core}
@@ -192,9 +192,7 @@ pub publishes_lower : (role : Role) (slots : ℕ) (queue : List (List ℕ)) (s :
 publishes_lower role slots queue s l turns at memory reach id t acting room step =
     let p : NetSession = step.session in
     let says = says_of role s at (Publishes p step.frame) step.rule in
-    let is : s.session ≡ Some p = says.0.in_session.session in
     let within : unseen_in p < length s.frames = slice_get_within s.frames (unseen_in p) step.frame says.1 in
-    let new : List ℕ = published_memory (p.published % s.slots) step.frame memory in
     let slots_is : s.slots ≡ slots = acting.counts.slots_is in
     let some : 1 ≤ s.slots = omega (arith, slots_is, acting.slots_fit.some) in
     let ready = published_more s.slots (p.published % s.slots) step.frame memory (mod_below p.published s.slots some) (omega (arith, slots_is, acting.slots_fit.most)) (omega (arith, slots_is, room)) in

@@ -54,8 +54,7 @@ one_more slots k (suc n) memory new one within below =
 one_less : (slots k n : ℕ) (memory new : List ℕ) → OneSlot 64 slots k memory new → slot_state k new ≡ free_state → n ≤ slots → ready_slots n new ≤ ready_slots n memory
 one_less slots k zero memory new one free within = omega arith
 one_less slots k (suc n) memory new one free within =
-    let before = one_less slots k n memory new one free (omega (arith, within)) in
-    grind (arith, goes_on, cases_order)
+    let before = one_less slots k n memory new one free (omega (arith, within)) in grind (arith, goes_on, cases_order)
   where
     next : ready_slots n new ≤ ready_slots n memory → n ≢ k → ready_slots (suc n) new ≤ ready_slots (suc n) memory
     next before other = grind arith

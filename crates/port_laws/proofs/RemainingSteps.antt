@@ -25,7 +25,7 @@ use Rattle.port_model.proofs.Ruling.{says_of}
 use Rattle.port_model.specs.FramesStand.{FramesStand}
 use Rattle.port_model.specs.NetEndRule.{Joins, Publishes, port_rule}
 use Rattle.port_model.specs.NetEndState.{NetEndState, joined_net_end, unseen, with_frame}
-use Rattle.port_model.specs.NetEndStep.{Blocked, Idle, Joined, NetAnswer, NetLeft, Published, Sent, leaves}
+use Rattle.port_model.specs.NetEndStep.{Blocked, Joined, NetAnswer, NetLeft, Published, Sent, leaves}
 use Rattle.port_model.specs.NetEvent.{NetEvent, Steps}
 use Rattle.port_model.specs.NetLaneState.{IsNetShape, NetLaneState, NetShape, memory_of, net_end, reach_of, role_at, seen_at, with_left}
 use Rattle.port_model.specs.NetLaneStep.{EndSteps, net_wire}
@@ -84,13 +84,9 @@ first_sum : (role : Role) (slots n held packets : ℕ) (memory : List ℕ) → p
     → put_weight role * packets + session_left role slots held memory None ≡ first_left role held
 first_sum role slots n held packets memory is = grind arith
 
-pub joined_same : (role : Role) (begun : Bool) (s : NetEndState) (turns : List Turn) (memory : List ℕ) (more : ℕ) → EndStands role (net_core_at role begun s) turns
-    → up_left role more memory (joined_net_end role s) ≡ first_left role (length (joined_net_end role s).frames + more)
-joined_same role begun s turns memory more stands = grind (arith, first_sum)
-
 pub joined_left : (role : Role) (begun : Bool) (s : NetEndState) (turns : List Turn) (memory : List ℕ) (more : ℕ) → EndStands role (net_core_at role begun s) turns → FramesStand s
     → up_left role more memory (joined_net_end role s) ≡ first_left role (length s.frames + more - unseen s.session)
-joined_left role begun s turns memory more stands frames = grind (arith, held_in, joined_same, length-drop)
+joined_left role begun s turns memory more stands frames = grind (arith, held_in, first_sum, length-drop)
 
 abbrev pub joined_a : ChannelState → NetEndState → NetLaneState → NetLaneState
 joined_a x g u = record u {
@@ -194,12 +190,7 @@ lane_calm shape u l e Blocked t ready step calm =
     (end_acts shape e u l ready up) step.step.0 step.step.2 in
     let less = goes e u.lane (length u.queue) 0 step.left (seen_up e u.lane up) (ap (λ (x : NetLeft). x.peer) step.step.2 ∙ reach_memory e u.lane) lower in
     subst (λ (x : NetLaneState). remaining_of x (length u.queue) ≤ remaining_of u.lane (length u.queue)) (sym step.is) (omega (arith, less, on_wire e step.left u.lane (length u.queue)))
-lane_calm shape u l e Idle t ready step calm = omega (arith, ap (λ (x : NetLaneState). remaining_of x (length u.queue)) (idle_same e u.lane t step))
-  where
-    idle_same : (x : End) (v w : NetLaneState) → EndSteps x v Idle w → w ≡ v
-    idle_same A v w idle = idle.is ∙ ap (λ (y : NetLeft). record (with_left A y v) { wire = v.wire }) idle.step.1
-    idle_same B v w idle = idle.is ∙ ap (λ (y : NetLeft). record (with_left B y v) { wire = v.wire }) idle.step.1
-lane_calm shape u l e _ t ready step calm = absurd calm
+lane_calm shape u l e answer t ready step calm = grind arith
 
 -- ALONG EVERY RUN
 abbrev pub ready_here : (shape : NetShape) (events : List PortEvent) (s : PortState) (event : NetEvent) → IsNetShape shape → Run PortStep (fresh_port shape) events s

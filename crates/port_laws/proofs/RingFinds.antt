@@ -120,8 +120,7 @@ ring_finds s reach slots pages seen taken published frames reaches some both eno
               let there = at_frame less in
               let state : slot_state k reach.memory ≡ 2 = held_state reach.memory k 2 there.0 there.1 in
               let same : slice_index bytes 0 ≡ 2 = ap (λ (b : List ℕ). slice_index b 0) bytes_are ∙ state in
-              let wrong : true ≡ false = sym (ap (λ (n : ℕ). n == ready_state) same) ∙ is in
-              absurd (cc wrong))
+              let wrong : true ≡ false = sym (ap (λ (n : ℕ). n == ready_state) same) ∙ is in absurd (cc wrong))
           | inr past ↦ Waits (slice_index bytes 0)
               (starts ∙ ap (λ (b : Bool). if b then described s reach k (net_desc_of bytes) else NotReady (slice_index bytes 0)) is) past
         ]

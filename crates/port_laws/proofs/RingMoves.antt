@@ -257,8 +257,6 @@ one_freed slots seen taken published frames memory fits ring some =
           free = λ from. state_stays memory new (j % slots) stays ∙ here.free from;
         }
     at_slot j since before (inr past) =
-        let last = ring.taken_first in
-        let turn = ring.turn in
         let same : j ≡ seen + slots = omega (arith, before, past) in
         let place : j % slots ≡ seen % slots = ap (λ (n : ℕ). n % slots) same ∙ add-mod_right seen slots in
         grind (arith, there)
@@ -319,16 +317,15 @@ some_frame (one ∷ frames) (suc n) below = some_frame frames n (omega (arith, b
 -- so those that it names were taken
 acked_taken : (slots seen taken published count : ℕ) (frames : List (List ℕ)) (memory : List ℕ) → RingHolds slots seen taken published frames memory → seen + count ≤ published
     → first_undone slots memory seen count ≡ None → seen + count ≤ taken
-acked_taken slots seen taken published count frames memory ring within is = grind (arith, never, cases_lt)
-  where
-    never : taken < seen + count → seen + count ≤ taken
-    never less =
-        let first = ring.seen_first in
-        let there = some_frame frames (taken - seen) (omega (arith, ring.held, first, less, within)) in
-        let here = ring.each taken first (omega (arith, less, within, ring.turn)) in
-        let ready : slot_state (taken % slots) memory ≡ 2 = held_state memory (taken % slots) 2 there.0 (here.ready (omega arith) (omega (arith, less, within)) there.0 there.1) in
-        let done : slot_state (taken % slots) memory ≡ 4 = each_done slots memory seen count is taken first less in
-        absurd (omega (arith, ready, done))
+acked_taken slots seen taken published count frames memory ring within is =
+    let never : taken < seen + count → seen + count ≤ taken = λ less.
+    let first = ring.seen_first in
+    let there = some_frame frames (taken - seen) (omega (arith, ring.held, first, less, within)) in
+    let here = ring.each taken first (omega (arith, less, within, ring.turn)) in
+    let ready : slot_state (taken % slots) memory ≡ 2 = held_state memory (taken % slots) 2 there.0 (here.ready (omega arith) (omega (arith, less, within)) there.0 there.1) in
+    let done : slot_state (taken % slots) memory ≡ 4 = each_done slots memory seen count is taken first less in
+    absurd (omega (arith, ready, done)) in
+    grind (arith, never, cases_lt)
 
 pub ring_acked : (slots seen taken published count : ℕ) (frames : List (List ℕ)) (memory : List ℕ) → Fits slots memory → RingHolds slots seen taken published frames memory
     → seen + count ≤ published → first_undone slots memory seen count ≡ None → RingHolds slots (seen + count) taken published (drop count frames) (freed slots seen count memory)

@@ -28,7 +28,7 @@ use Rattle.port_model.specs.NetEndTaking.{GoesOn, NetTake, NetTakes, Resets}
 use Rattle.port_laws.specs.NetCore.{net_core}
 use Rattle.port_laws.specs.RingHolds.{RingHolds}
 use Rattle.port_laws.specs.RingStands.{RingIn}
-use Rattle.port_laws.proofs.MessageDoes.{Acks, Asks, Declines, MessageDoes, Names, Told}
+use Rattle.port_laws.proofs.MessageDoes.{Acks, MessageDoes, Asks, Declines, Names, Told}
 use Rattle.port_laws.proofs.RemainingEnds.{held_slots}
 use Rattle.port_laws.proofs.RingFetches.{Reaches, ring_fetched}
 use Rattle.port_laws.proofs.RingMoves.{Fits, ring_acked, ring_cleared, ring_published}

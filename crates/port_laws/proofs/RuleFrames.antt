@@ -33,7 +33,7 @@ use Rattle.port_model.specs.Spoken.{RangeAck, spoken, spoken_by}
 use Rattle.port_laws.specs.Counted.{ActiveCounts, EndCounts, PeerCounts, SaysRightly, unsaid}
 use Rattle.port_laws.proofs.EndCounting.{OpenCounts, left_published, left_seen, open_counts, shut_counts, open_empty}
 use Rattle.port_laws.proofs.PortCounts.{PortCounts, Ready, guest_acts, hub_acts, port_counts, queue_of, ready_before}
-use Rattle.port_laws.proofs.PortRuns.{lawful_along}
+use Rattle.port_laws.proofs.PortRuns.{lawful_on_lane}
 use Rattle.port_laws.proofs.PutCounts.{SaidRight}
 use Rattle.port_laws.proofs.StepCounts.{Acting, sent_right, took_here}
 use Rattle.port_laws.proofs.TookCounts.{TookCounts, free_empty}
@@ -171,7 +171,6 @@ active_here role slots queue s l p activity counts is active empty P holds = gri
 taking_event : (shape : NetShape) (u : PortState) (l : PortLog) (event : NetEvent) (t : NetLaneState) → Ready shape u l → NetLaneStep u.lane event t → TakingAt l (OnLane event)
 taking_event shape u l (Steps e (Frame frame)) t ready step =
     let says = says_of (role_at e) (net_end e u.lane) (seen_at e u.lane) (Fetches step.step.session step.step.activity) step.step.rule in
-    let acting = end_acts shape e u l ready says.0.free.up in
     grind (arith, fetched_fits, active_here, free_empty)
 taking_event shape u l _ t ready step = tt
 
@@ -191,13 +190,10 @@ guest_held slots s l counts = held_frames Initiator slots [] s l counts ∙ none
 pub along : (shape : NetShape) (May : PortLog → PortEvent → Type 0) → IsNetShape shape
     → ((s : PortState) (l : PortLog) (event : NetEvent) (t : PortState) → PortCounts shape s l → Ready shape (before event s) l → PortStep s (OnLane event) t → May l (OnLane event))
     → ((l : PortLog) (frame : List ℕ) → May l (Receives frame)) → (events : List PortEvent) (s : PortState) → Run PortStep (fresh_port shape) events s → Lawful May after (no_events shape) events
-along shape May is law received events s run = lawful_along shape May here events s run
-  where
-    here : (events : List PortEvent) (s : PortState) (event : PortEvent) (t : PortState) → Run PortStep (fresh_port shape) events s → PortStep s event t → May (log_of after (no_events shape) events) event
-    here events s (OnLane event) t run step =
-        let counts = port_counts shape events s is run in
-        law s (log_of after (no_events shape) events) event t counts (ready_before shape s (log_of after (no_events shape) events) event is counts) step
-    here events s (Receives frame) t run step = received (log_of after (no_events shape) events) frame
+along shape May is law received events s run =
+    lawful_on_lane shape May received (λ xs x event y ran step.
+    let counts = port_counts shape xs x is ran in law x _ event y counts (ready_before shape x _ event is counts) step)
+    events s run
 
 pub port_lost : (shape : NetShape) (events : List PortEvent) (s : PortState) → IsNetShape shape → Run PortStep (fresh_port shape) events s → Lawful LostAt after (no_events shape) events
 port_lost shape events s is run = along shape LostAt is (λ x l event t counts ready step. lost_event shape (before event x) l event t.lane ready step.1) (λ l frame. tt) events s run

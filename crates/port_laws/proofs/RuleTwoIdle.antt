@@ -15,7 +15,7 @@ use Rattle.port_model.specs.NetEndStep.{Idle}
 use Rattle.port_model.specs.NetEvent.{CalmTick, NetEvent, Steps}
 use Rattle.port_model.specs.NetLaneState.{IsNetShape, NetLaneState, NetShape, net_end, role_at, seen_at}
 use Rattle.port_model.specs.NetLaneStep.{EndSteps, NetLaneStep}
-use Rattle.port_model.specs.PortLog.{PortLog, after, idle_in, no_events}
+use Rattle.port_model.specs.PortLog.{PortLog, after, no_events}
 use Rattle.port_model.specs.PortState.{OnLane, PortEvent, PortState, PortStep, before, fresh_port}
 use Rattle.port_model.specs.RestLaws.{TwoIdleAt}
 use Rattle.port_laws.specs.NetCore.{lane_core}
@@ -43,11 +43,8 @@ pub record IdlesKept (s : PortState) (l : PortLog) : Type 0 where
 idle_stays : (e : End) (u t : NetLaneState) → EndSteps e u Idle t → port_rule (role_at e) (net_end e t) (seen_at e t) ≡ Idles
 idle_stays e u t step = grind arith
 
-last_idles : (u : NetLaneState) (event : NetEvent) (t : NetLaneState) → NetLaneStep u event t → (e : End) → idle_in event ≡ Some e → port_rule (role_at e) (net_end e t) (seen_at e t) ≡ Idles
-last_idles u event t step e is = grind (arith, idle_stays, none_some)
-
 idles_step : (s : PortState) (l : PortLog) (event : PortEvent) (t : PortState) → IdlesKept s l → PortStep s event t → IdlesKept t (after l event)
-idles_step s l event t kept step = grind (arith, last_idles)
+idles_step s l event t kept step = grind (arith, idle_stays, none_some)
 
 pub idles_kept : (shape : NetShape) (events : List PortEvent) (s : PortState) → Run PortStep (fresh_port shape) events s → IdlesKept s (log_of after (no_events shape) events)
 idles_kept shape events s run =

@@ -3,12 +3,11 @@ use Rattle.std.proofs.Common.{◌≡◌, ℕ, ◌+◌, ◌-◌, ◌<◌, ◌≤�
 use Rattle.std.specs.Prelude.{◌%◌, is_some, slice_get}
 use Rattle.std.proofs.lemmas.Bool.{eq-eqb}
 use Rattle.ldc_link.specs.declared.phase.Role.{Role}
-use Rattle.ldc_queue.specs.declared.end.ChannelState.{ChannelState}
 use Rattle.ldc_queue.specs.declared.end.ChannelState.TheVariants.{Up}
 use Rattle.ldc_queue.specs.declared.end.End.{End}
 use Rattle.ldc_queue.specs.declared.end.End.TheVariants.{A, B}
 use Rattle.ldc_queue.specs.Wire.{peer_of, state_of}
-use Rattle.runs.specs.Lawful.{Lawful, log_of}
+use Rattle.runs.specs.Lawful.{Lawful}
 use Rattle.runs.specs.Run.{Run}
 use Rattle.channel_model.specs.TranscriptLog.{transcript_of}
 use Rattle.channel_model.specs.WireAt.{IsUp}
@@ -25,18 +24,18 @@ use Rattle.port_model.specs.NetEvent.{NetEvent, Steps}
 use Rattle.port_model.specs.NetLaneState.{IsNetShape, NetLaneState, NetShape, memory_of, net_end, reach_of, role_at, seen_at}
 use Rattle.port_model.specs.NetLaneStep.{EndSteps, NetLaneStep}
 use Rattle.port_model.specs.PortLog.{PortLog, after, log_of_end, no_events}
-use Rattle.port_model.specs.PortState.{OnLane, PortEvent, PortState, PortStep, Receives, before, fresh_port}
+use Rattle.port_model.specs.PortState.{OnLane, PortEvent, PortState, PortStep, before, fresh_port}
 use Rattle.port_model.specs.RestLaws.{IsPublished, UnforgedAt, last_of}
 use Rattle.port_laws.specs.Counted.{EndCounts, unsaid}
 use Rattle.port_laws.specs.NetCore.{lane_core}
 use Rattle.port_laws.specs.RingHolds.{RingHolds}
-use Rattle.port_laws.specs.RingStands.{RingIn, taken_by, taken_in}
+use Rattle.port_laws.specs.RingStands.{taken_in}
 use Rattle.port_laws.proofs.EndCounting.{left_published, open_counts}
 use Rattle.port_laws.proofs.LogsStand.{EndLogStands, HeadIn, held_given}
 use Rattle.port_laws.proofs.PortCounts.{queue_of}
-use Rattle.port_laws.proofs.PortRuns.{lawful_along}
+use Rattle.port_laws.proofs.PortRuns.{lawful_on_lane}
 use Rattle.port_laws.proofs.PortTwoEnds.{PeerOpen, many_open}
-use Rattle.port_laws.proofs.RingActs.{Finds, end_reaches, peer_ring_of, place_is, seen_state, spoke_of}
+use Rattle.port_laws.proofs.RingActs.{Finds, end_reaches, place_is, seen_state, spoke_of}
 use Rattle.port_laws.proofs.RingEvents.{acts_up}
 use Rattle.port_laws.proofs.RingFetches.{Fetches as FetchesFrame, ring_fetched}
 use Rattle.port_laws.proofs.RingRuns.{Kept, finds_before, port_kept}
@@ -133,13 +132,7 @@ takes_published shape e u l frame t finds step =
     let p : NetSession = peer.0 in
     let frames : List (List ℕ) = (net_end (peer_of e) u.lane).frames in
     let memory : List ℕ = memory_of (peer_of e) u.lane in
-    let slots : l.shape.slots ≡ shape.slots = ap (λ (z : NetShape). z.slots) finds.ready.shape_is in
-    let taken : taken_by (state_of e u.lane.wire.wire) log.session ≡ v.taken = ap (λ (x : ChannelState). taken_by x log.session) up ∙ ap taken_in mine in
-    let held : RingIn l.shape.slots (taken_by (state_of e u.lane.wire.wire) log.session) (net_end (peer_of e) u.lane).session frames memory = peer_ring_of e u.lane l finds.rings peer_up in
-    let ring : RingHolds shape.slots p.seen v.taken p.published frames memory =
-    subst (λ (n : ℕ). RingHolds n p.seen v.taken p.published frames memory) slots
-    (subst (λ (n : ℕ). RingIn l.shape.slots n (Some p) frames memory) taken
-    (subst (λ (o : Option NetSession). RingIn l.shape.slots (taken_by (state_of e u.lane.wire.wire) log.session) o frames memory) peer.1 held)) in
+    let ring : RingHolds shape.slots p.seen v.taken p.published frames memory = grind arith in
     let here : RingHolds shape.slots p.seen v.taken p.published frames (reach_of e u.lane).memory =
     subst (RingHolds shape.slots p.seen v.taken p.published frames) (sym (reach_memory e u.lane)) ring in
     let place : q.place ≡ v.taken % shape.slots =
@@ -177,9 +170,6 @@ unforged_event shape s l (Steps e (Frame frame)) t is kept step = λ clean. fram
 unforged_event shape s l _ t is kept step = tt
 
 pub port_unforged : (shape : NetShape) (events : List PortEvent) (s : PortState) → IsNetShape shape → Run PortStep (fresh_port shape) events s → Lawful UnforgedAt after (no_events shape) events
-port_unforged shape events s is run = lawful_along shape UnforgedAt here events s run
-  where
-    here : (events : List PortEvent) (s : PortState) (event : PortEvent) (t : PortState) → Run PortStep (fresh_port shape) events s → PortStep s event t
-        → UnforgedAt (log_of after (no_events shape) events) event
-    here events s (OnLane event) t run step = unforged_event shape s (log_of after (no_events shape) events) event t is (port_kept shape events s is run) step.1
-    here events s (Receives frame) t run step = tt
+port_unforged shape events s is run =
+    lawful_on_lane shape UnforgedAt (λ l frame. tt)
+    (λ xs x event y ran step. unforged_event shape x _ event y is (port_kept shape xs x is ran) step.1) events s run

@@ -136,7 +136,6 @@ step_counts role slots queue s l turns at memory reach Blocked t counts stands a
 step_counts role slots queue s l turns at memory reach Idle t counts stands acts step = subst (LeftCounts role slots queue l) (sym step.1) counts
 step_counts role slots queue s l turns at memory reach (Published id) t counts stands acts step =
     let says = says_of role s at (Publishes step.session step.frame) step.rule in
-    let acting : Acting role slots queue s l turns = acts says.0.in_session.free.up in
     grind (arith, published_counts, free_empty)
 step_counts role slots queue s l turns at memory reach (Frame frame) t counts stands acts step =
     let says = says_of role s at (Fetches step.session step.activity) step.rule in

@@ -28,7 +28,7 @@ use Rattle.port_model.specs.NetEndState.{GroupsReply, NetEndState, NetSession, w
 use Rattle.port_model.specs.NetEndTaking.{GoesOn, NetTake, active, hears_message, in_session, replying}
 use Rattle.port_model.specs.Spoken.{addresses_of, count_of, set_of, seven_of}
 use Rattle.port_laws.proofs.HearsIn.{HearsOne, OwnRead, decodes_as, own_read}
-use Rattle.port_laws.proofs.MessageDoes.{Acks, Asks, Declines, MessageDoes, Names, Told}
+use Rattle.port_laws.proofs.MessageDoes.{Acks, Asks, MessageDoes, Names, Told, Declines}
 use Rattle.port_laws.proofs.Outbox.{MessageFits, is_groups}
 use Rattle.port_laws.proofs.PeerOpens.{TwoEnds}
 use Rattle.port_laws.proofs.GroupsExchanged.{ReplyAgrees}
@@ -45,13 +45,12 @@ fitting_long role sid bytes given given_2 = grind arith
 pub next_read : (asks answers : Offer) (role r : Role) (s : Sides) (bytes : List ℕ) (sid : ℕ) → (two_ends : TwoEnds asks answers role s) → s.mine.state ≡ Up → s.mine.core.is_open ≡ true → s.theirs.state ≡ Up
     → IsFront (heard s.mine.turns ++ bytes ∷ []) (said s.theirs.turns) → MessageFits r sid bytes → OwnRead bytes two_ends.meets.handshakes.sid
 next_read asks answers role r s bytes sid two_ends up opened other_up front fits =
+    let by_code : (code : ℕ) → envelope_at bytes ≡ code → (code ≡ 0x0042) ⊎ (code ≡ 0x0101) → (envelope_at bytes ≡ 0x0042) ⊎ (envelope_at bytes ≡ 0x0101) = λ code is given.
+    grind arith in
     let own = next_is_own asks answers role s bytes two_ends up opened other_up front in
     let envelope : envelope_at bytes ≡ envelope_code own.message.body = ap envelope_at own.is ∙ envelope_reads own.message own.body in
     own_read (deal asks answers two_ends.meets.handshakes.sid) bytes own two_ends.meets.handshakes.small
     (fitting_long r sid bytes fits (by_code (envelope_code own.message.body) envelope (own_code own.message.body own.body)))
-  where
-    by_code : (code : ℕ) → envelope_at bytes ≡ code → (code ≡ 0x0042) ⊎ (code ≡ 0x0101) → (envelope_at bytes ≡ 0x0042) ⊎ (envelope_at bytes ≡ 0x0101)
-    by_code code is given = grind arith
 
 -- so it is taken as the session does
 pub record InSession (role : Role) (s : NetEndState) (p : NetSession) (memory : List ℕ) (message : Message) (take : NetTake) : Type 0 where

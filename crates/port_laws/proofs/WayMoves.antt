@@ -1,5 +1,5 @@
 -- What is said and heard keeps what is on the way, whichever end says and hears it.
-use Rattle.std.proofs.Common.{◌≡◌, ℕ, ◌+◌, ◌-◌, ◌%◌, ◌<◌, ◌≤◌, ◌⊎◌, true, false, Option, Some, None, List, [], ◌∷◌, ◌++◌, inl, inr, refl, sym, ap, ◌∙◌, subst, arith, append_assoc}
+use Rattle.std.proofs.Common.{◌≡◌, ℕ, ◌+◌, ◌-◌, ◌%◌, ◌<◌, ◌≤◌, true, false, Option, Some, None, List, [], ◌∷◌, ◌++◌, inl, inr, refl, sym, ap, ◌∙◌, subst, arith, append_assoc}
 use Rattle.std.specs.Prelude.{⊤}
 use Rattle.std.proofs.lemmas.Bool.{cases_lt}
 use Rattle.std.proofs.lemmas.List.{append-nil, append_cancel_left}
@@ -107,34 +107,27 @@ swap_ways slots sa ha sb hb v w ways = record { going = ways.coming; coming = wa
 
 -- THE SLOTS OF AN ACK
 span_of : (n s d : ℕ) → 1 ≤ n → d < n → range_length n (s % n) ((s + d) % n) ≡ d + 1
-span_of n s d some small = by_wrap (cases_lt (s % n + d) n)
-  where
-    first : s % n < n
-    first = mod_below s n (omega (arith, some))
-
-    from : (s % n) % n ≡ s % n
-    from = mod-mod s n
-
-    last : (s + d) % n ≡ (s % n + d) % n
-    last = sym (mod-add-mod s n d)
-
-    by_wrap : (s % n + d < n) ⊎ (n ≤ s % n + d) → range_length n (s % n) ((s + d) % n) ≡ d + 1
-    by_wrap (inl within) =
-        let end : (s + d) % n ≡ s % n + d = last ∙ mod-eq_of_lt within in
-        let all : (s + d) % n + n - (s % n) % n ≡ d + n = omega (arith, end, from, first) in
-        ap (λ (m : ℕ). m % n + 1) all ∙ ap (λ (m : ℕ). m + 1) (add-mod_right d n ∙ mod-eq_of_lt small)
-    by_wrap (inr past) =
-        let rest : s % n + d ≡ s % n + d - n + n = omega (arith, past) in
-        let below : s % n + d - n < n = omega (arith, past, first, small) in
-        let end : (s + d) % n ≡ s % n + d - n = last ∙ ap (λ (m : ℕ). m % n) rest ∙ add-mod_right (s % n + d - n) n ∙ mod-eq_of_lt below in
-        let all : (s + d) % n + n - (s % n) % n ≡ d = omega (arith, end, from, first, past) in
-        ap (λ (m : ℕ). m % n + 1) all ∙ ap (λ (m : ℕ). m + 1) (mod-eq_of_lt small)
+span_of n s d some small =
+    let first : s % n < n = mod_below s n (omega (arith, some)) in
+    let from : (s % n) % n ≡ s % n = mod-mod s n in
+    let last : (s + d) % n ≡ (s % n + d) % n = sym (mod-add-mod s n d) in
+    elim (cases_lt (s % n + d) n) [
+      | inl within ↦
+          let end : (s + d) % n ≡ s % n + d = last ∙ mod-eq_of_lt within in
+          let all : (s + d) % n + n - (s % n) % n ≡ d + n = omega (arith, end, from, first) in
+          ap (λ (m : ℕ). m % n + 1) all ∙ ap (λ (m : ℕ). m + 1) (add-mod_right d n ∙ mod-eq_of_lt small)
+      | inr past ↦
+          let rest : s % n + d ≡ s % n + d - n + n = omega (arith, past) in
+          let below : s % n + d - n < n = omega (arith, past, first, small) in
+          let end : (s + d) % n ≡ s % n + d - n = last ∙ ap (λ (m : ℕ). m % n) rest ∙ add-mod_right (s % n + d - n) n ∙ mod-eq_of_lt below in
+          let all : (s + d) % n + n - (s % n) % n ≡ d = omega (arith, end, from, first, past) in
+          ap (λ (m : ℕ). m % n + 1) all ∙ ap (λ (m : ℕ). m + 1) (mod-eq_of_lt small)
+    ]
 
 pub span : (n seen taken : ℕ) (message : List ℕ) → 1 ≤ n → seen < taken → taken ≤ seen + n → start_of message ≡ seen % n → end_of message ≡ (taken - 1) % n → seen + range_of n message ≡ taken
 span n seen taken message some less turn start end =
     let last : taken - 1 ≡ seen + (taken - 1 - seen) = omega (arith, less) in
-    let long : range_of n message ≡ taken - 1 - seen + 1 = grind (arith, span_of) in
-    omega (arith, long, less)
+    let long : range_of n message ≡ taken - 1 - seen + 1 = grind (arith, span_of) in omega (arith, long, less)
 
 -- AN END SAYS a message of its session
 -- an INFO, where none was unanswered
@@ -178,8 +171,7 @@ plain_said slots v w now going coming message no_info no_ack asks answers mine t
 says_kind : (k : Spoken) (slots : ℕ) (v w : SessionLog) (groups going coming : List (List ℕ)) (message : List ℕ) → spoken message ≡ k → SaysRightly slots groups v message k
     → Way slots v w (infos_in going) (acks_in coming) → Way slots w v (infos_in coming) (acks_in going) → OneSaid slots v w (said_kind k message v) going coming message
 says_kind RangeInfo slots v w groups going coming message is right mine theirs =
-    let infos : infos_in (going ++ message ∷ []) ≡ infos_in going ++ message ∷ [] =
-    infos-append going (message ∷ []) ∙ ap (λ (k : Spoken). infos_in going ++ info_first k message []) is in
+    let infos = infos-append going (message ∷ []) ∙ ap (λ (k : Spoken). infos_in going ++ info_first k message []) is in
     let acks : acks_in (going ++ message ∷ []) ≡ acks_in going =
     acks-append going (message ∷ []) ∙ none_more (acks_in going) (acks_in (message ∷ [])) (ap (λ (k : Spoken). ack_first k message []) is) in
     let now : SessionLog = said_kind RangeInfo message v in
@@ -192,8 +184,7 @@ says_kind RangeInfo slots v w groups going coming message is right mine theirs =
 says_kind RangeAck slots v w groups going coming message is right mine theirs =
     let infos : infos_in (going ++ message ∷ []) ≡ infos_in going =
     infos-append going (message ∷ []) ∙ none_more (infos_in going) (infos_in (message ∷ [])) (ap (λ (k : Spoken). info_first k message []) is) in
-    let acks : acks_in (going ++ message ∷ []) ≡ acks_in going ++ message ∷ [] =
-    acks-append going (message ∷ []) ∙ ap (λ (k : Spoken). acks_in going ++ ack_first k message []) is in
+    let acks = acks-append going (message ∷ []) ∙ ap (λ (k : Spoken). acks_in going ++ ack_first k message []) is in
     let now : SessionLog = said_kind RangeAck message v in
     record {
       mine = way_as slots v now w w (infos_in going) (infos_in (going ++ message ∷ [])) (acks_in coming) (acks_in coming) (record { asking = refl; infos = refl; seen = refl }) (same_answers w) infos refl mine;

@@ -19,7 +19,6 @@ use Rattle.channel_model.specs.WireLog.{WireLog}
 use Rattle.channel_laws.specs.Sides.{sides_of, swapped}
 use Rattle.port_model.proofs.Refuting.{none_some, true_false}
 use Rattle.port_model.specs.EndLog.{EndLog, SessionLog, change, opened_log}
-use Rattle.port_model.specs.NetEndState.{NetSession}
 use Rattle.port_model.specs.NetEndStep.{Frame, Given, Joined, NetAnswer, NetLeft, Reset, Sent, Took}
 use Rattle.port_model.specs.NetEvent.{Asked, Gives, Injects, Loses, NetEvent, Pokes, Steps, Ticked, on_wire}
 use Rattle.port_model.specs.NetLaneState.{IsNetShape, NetLaneState, NetShape, memory_of, net_end, reach_of, role_at, seen_at}
@@ -27,7 +26,7 @@ use Rattle.port_model.specs.NetLaneStep.{EndSteps, NetLaneStep, moved_on}
 use Rattle.port_model.specs.PortLog.{PortLog, after, after_answer, after_given, log_of_end, no_events}
 use Rattle.port_model.specs.PortState.{OfQueue, OnLane, PortEvent, PortState, PortStep, Receives, before, fresh_port}
 use Rattle.port_laws.specs.NetCore.{lane_core}
-use Rattle.port_laws.specs.RingStands.{RingIn, taken_in}
+use Rattle.port_laws.specs.RingStands.{taken_in}
 use Rattle.port_laws.specs.WaysStand.{Ways, WaysStand, or_new}
 use Rattle.port_laws.proofs.EndCounting.{left_seen}
 use Rattle.port_laws.proofs.PortCounts.{PortCounts, before_queue, before_wire, queue_of}
@@ -49,13 +48,9 @@ use Rattle.port_laws.proofs.ReadyFrames.{by_value}
 pub new_taken : (log : Option SessionLog) → (or_new log).taken ≡ taken_in log
 new_taken log = grind arith
 
-turn_of : (slots taken seen : ℕ) (session : Option NetSession) (frames : List (List ℕ)) (memory : List ℕ) (p : NetSession) → session ≡ Some p → p.seen ≡ seen → RingIn slots taken session frames memory
-    → taken ≤ seen + slots
-turn_of slots taken seen session frames memory p is same ring = grind arith
-
 pub turn_at : (shape : NetShape) (e : End) (u : PortState) (l : PortLog) (v : SessionLog) → Finds shape u l → state_of e u.lane.wire.wire ≡ Up → state_of (peer_of e) u.lane.wire.wire ≡ Up
     → (log_of_end e l).session ≡ Some v → (or_new (log_of_end (peer_of e) l).session).taken ≤ v.seen + l.shape.slots
-turn_at shape e u l v finds up other is = grind (arith, both_open, end_counted, left_seen, turn_of, ring_of_end, new_taken)
+turn_at shape e u l v finds up other is = grind (arith, both_open, end_counted, left_seen, ring_of_end, new_taken)
 
 -- WHAT AN ANSWER FITS in a session
 right_in : (slots : ℕ) (groups : List (List ℕ)) (l : EndLog) (v : SessionLog) (ended : Option (List ℕ)) → l.session ≡ Some v
@@ -144,7 +139,6 @@ guest_first : (shape : NetShape) (u t : PortState) (l : PortLog) (packet : List 
 guest_first shape u t l packet left acts up other none =
     let few = (turned_at shape A u t l (Sent packet true) left acts tt).few none in
     let then_ = after l (OnLane (Steps A (Sent packet true))) in
-    let up_before = acts_up_at shape A u t l (Sent packet true) left acts tt in
     let other_before = peer_was_up shape A u t l (Sent packet true) left acts tt other in
     let hub_shut : l.hub.session ≡ None = hub_none shape u l acts.finds other_before none in
     let hub = open_both Responder shape.slots u.queue u.lane.hub l.hub acts.finds.ready.hub in
@@ -227,19 +221,12 @@ hub_plain shape u t l answer left acts goes up none = by_log then_.hub.session r
     heard_short _ few = omega (arith, few)
 
     said_same : (given : NetAnswer) → length (heard l.transcript.server) ≤ 5 → 6 ≤ length (heard (turns_now given l.transcript.server)) → Plain (said (turns_now given l.transcript.server))
-    said_same (Sent packet opens) few many = absurd (omega (arith, few, many))
-    said_same (Joined lost) few many = absurd (omega (arith, many))
-    said_same (Reset cause packet lost) few many = absurd (omega (arith, many))
-    said_same _ few many = was.said_plain
+    said_same given few many = grind (arith, was)
 
     by_log : (log : Option SessionLog) → then_.hub.session ≡ log → ClosedFits l.transcript.server l.transcript.client answer
     by_log None is =
         let plain = closed_plain (asks_of shape) (answers_of shape) Responder (swapped (sides_of (lane_core t.lane) then_.transcript)) (acts.two_ends.two_ends B) up (hub.shut is) in
-        record {
-          said_plain = subst (λ (xs : List Turn). Plain (said xs)) now plain.said_plain;
-          heard_plain = subst (λ (xs : List Turn). Plain (heard xs)) now plain.heard_plain;
-          front = front;
-        }
+        grind (arith, now, front)
     by_log (Some w) is =
         let some : then_.hub.session ≢ None = λ gone. none_some w (sym gone ∙ is) in
         let turned = turned_at shape B u t l answer left acts goes in
