@@ -1,0 +1,12 @@
+cd /tmp/h/scratch/ports
+while kill -0 11327 2>/dev/null; do sleep 1; done
+python3 shrink /tmp/h/ports port_model pm --put > pm.p1 2>&1
+n=0
+while read c s files; do
+  n=$((n+1))
+  echo "batch $n $(date +%T)"
+  python3 shrink /tmp/h/ports port_laws pl --helpers --clauses --fields --ends --inline --arms --once --holes --lets --steps 250000 --only-try --files "^proofs/($files)\\.antt\$" > pl.t$n 2>&1
+  cp -r pl pl.before.$n
+  python3 shrink /tmp/h/ports port_laws pl --put --files "^proofs/($files)\\.antt\$" > pl.p$n 2>&1
+done < batches.txt
+echo done > pipe.done
