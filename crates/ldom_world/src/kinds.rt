@@ -31,6 +31,7 @@ macro_rules! of_kind {
     };
 }
 
+#[tactic(auto, using(crate::proofs::NumbersStay::none_in_world))]
 impl<D: Store> World<D> {
     /// How many lanes of a kind there are.
     pub(crate) fn count_of(&self, kind: LaneKind) -> u32
