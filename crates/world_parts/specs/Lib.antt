@@ -1,5 +1,6 @@
 pub mod WorldEvents
 pub mod WorldKind
+pub mod Consoles
 pub mod WorldKinds
 pub mod Parts
 pub mod Declared

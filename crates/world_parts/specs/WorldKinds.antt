@@ -5,11 +5,13 @@ use Rattle.domain_laws.specs.world_laws.Settle.{SettleEntry}
 use Rattle.domain_script.specs.declared.fields.LaneKind.{LaneKind}
 use Rattle.domain_script.specs.declared.fields.LaneKind.TheVariants as kinds
 use Rattle.lane_kinds.specs.WorldMade.{KindMade}
+use Rattle.world_parts.specs.Consoles.{consoles_in_world}
 use Rattle.world_parts.specs.WorldKind.{WorldKind, disks_in_world, ports_in_world}
 
 abbrev pub in_world : LaneKind → WorldKind
 in_world kinds.Disk = disks_in_world
 in_world kinds.Port = ports_in_world
+in_world kinds.Console = consoles_in_world
 
 -- what a step leaves in the journal of a settle
 abbrev pub left_by : (kind : LaneKind) → ℕ → (in_world kind).Event → List SettleEntry
