@@ -1,8 +1,8 @@
 ghost use Rattle.std.specs.Prelude.{◌≡◌, ◌≢◌, ◌≤◌, ◌*◌, ◌⊎◌, ℕ, [], map, codes, string_bytes, ◌^◌};
-ghost use Rattle.std.specs.Prelude.{◌<◌, length, Some, List, IfSome, IsNone, OnErr, OnOk};
+ghost use Rattle.std.specs.Prelude.{◌<◌, length, Some, List, IfSome, IsErr, IsNone, OnErr, OnOk};
 ghost use Rattle.std.specs.List.{All};
 ghost use Rattle.std.specs.Io.KnownBytes.{Appends};
-ghost use Rattle.vio_io.specs.Causes.{Rose};
+ghost use Rattle.vio_io.specs.Causes.{Fails, Rose};
 ghost use Rattle.vio_io.specs.Given.{Gave};
 ghost use Rattle.domain_script.specs.declared.event.DiskDecl.{DiskDecl};
 ghost use Rattle.domain_script.specs.declared.event.Event.{Event};
@@ -281,9 +281,7 @@ fn write_report<K: Sink>(
         (report mode (declared_by names.now) lines journal.now.entries status.now)) }
     ensures err { OnErr result (WroteFront (K.written out.old) (K.written out.new)
         (report mode (declared_by names.now) lines journal.now.entries status.now)) }
-    ensures unfailed { OnOk result (K.faults out.new ≡ K.faults out.old) }
-    ensures count { K.faults out.old ≤ K.faults out.new }
-    ensures cause { OnErr result (Rose (K.faults out.old) (K.faults out.new)) }
+    ensures faults { Fails (IsErr result) (K.faults out.old) (K.faults out.new) }
 {
     write_text(journal, mode, names, out)?;
     write_end(journal, lines, status, out)
