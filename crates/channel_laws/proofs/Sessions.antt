@@ -41,7 +41,7 @@ use Rattle.channel_laws.specs.Sides.{Sides, sides_of, swapped}
 use Rattle.channel_laws.specs.Standing.{EndStands}
 use Rattle.channel_laws.specs.Utterances.{SaysEach}
 
--- THE TRANSCRIPT of a run is that of its log
+-- THE TALK of a run is that of its log
 pub transcript_is : (l : CoreLog) (events : List CoreEvent) → (log_of after l events).transcript ≡ log_of transcript_after l.transcript events
 transcript_is l [] = refl
 transcript_is l (event ∷ events) = transcript_is (after l event) events

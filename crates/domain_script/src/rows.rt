@@ -70,26 +70,26 @@ pub enum RowKind {
     Poke,
 }
 
-/// All of them, in the order in which a word is looked for: those of which scripts have many come first.
+/// All of them.
 const ROWS: [RowKind; 18] = [
+    RowKind::Disk,
+    RowKind::Net,
     RowKind::Write,
     RowKind::Read,
-    RowKind::Settle,
-    RowKind::Send,
     RowKind::Flush,
+    RowKind::Send,
+    RowKind::Join,
     RowKind::Step,
     RowKind::Round,
-    RowKind::Tick,
-    RowKind::Poke,
-    RowKind::Inject,
+    RowKind::Settle,
     RowKind::Reset,
-    RowKind::Lose,
     RowKind::Restart,
     RowKind::Stop,
     RowKind::Start,
-    RowKind::Join,
-    RowKind::Disk,
-    RowKind::Net,
+    RowKind::Lose,
+    RowKind::Tick,
+    RowKind::Inject,
+    RowKind::Poke,
 ];
 
 /// The name of a declared disk.

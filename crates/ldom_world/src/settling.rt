@@ -16,7 +16,6 @@ ghost use Rattle.recorded_lanes.specs.world_parts.WorldKinds.{in_world};
 ghost use Rattle.recorded_lanes.specs.world_parts.Lines.{IsLaneOf, number_of_kind};
 ghost use Rattle.recorded_lanes.specs.world_parts.Parts.{Fits, FitsSoFar};
 
-use crate::kinds::ports;
 use crate::world::World;
 use domain_script::{Lane, LaneKind, Side};
 use recorded_lanes::{Entry, Journal, LaneCall, Who};
@@ -303,7 +302,7 @@ impl<D: Store> World<D> {
         ensures few_ports { length self.now.second ≤ 8 }
     {
         // That there are at most eight ports is known by this call alone.
-        let _ports = ports::count(self);
+        let _ports = self.port_count();
         4096 + 64 * (self.disks.pending() + self.ports.pending())
     }
 }

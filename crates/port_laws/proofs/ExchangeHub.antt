@@ -1,16 +1,17 @@
 -- A step of the switch's end keeps what is known of all that is on the way between it and a guest in session.
 use Rattle.std.proofs.Common.{◌≡◌, ◌≢◌, ℕ, ◌<◌, ◌⊎◌, Bool, true, false, Option, Some, None, List, [], ◌∷◌, ◌++◌, inl, inr, refl, sym, subst, ap, ◌∙◌, arith}
-use Rattle.std.specs.Prelude.{is_some, Result, ⊤}
+use Rattle.std.specs.Prelude.{is_some, Result, Ok, Err, ⊤}
 use Rattle.std.proofs.lemmas.Bool.{eqb-true}
 use Rattle.cookie_copy.specs.Reach.{Reach}
 use Rattle.ldc_link.specs.declared.phase.Role.TheVariants.{Initiator, Responder}
+use Rattle.ldc_link.specs.LinkState.{cleared}
 use Rattle.ldc_link.specs.Taking.{Heard as HeardBy, LinkTake, TakesBytes, Unheard}
 use Rattle.ldc_queue.specs.declared.end.ChannelState.{ChannelState}
 use Rattle.ldc_queue.specs.declared.end.ChannelState.TheVariants.{Up}
 use Rattle.ldc_queue.specs.declared.end.End.TheVariants.{A, B}
 use Rattle.ldc_queue.specs.OneStream.{IsFront}
-use Rattle.ldc_queue.specs.Transcript.{Heard, Turn}
-use Rattle.vio_handshake.specs.Rules.{HandshakeTake}
+use Rattle.ldc_queue.specs.Transcript.{Heard, Said, Turn}
+use Rattle.vio_handshake.specs.Rules.{Faults, Goes as GoesTake, GoesOpen, HandshakeTake, handshake_take}
 use Rattle.vio_tag.specs.declared.message.Message.{Message}
 use Rattle.vio_tag.specs.declared.message.TagFault.{TagFault}
 use Rattle.vio_tag.specs.Spelling.{envelope_at}
@@ -26,9 +27,9 @@ use Rattle.port_model.proofs.Refuting.{none_some, true_false}
 use Rattle.port_model.proofs.Ruling.{says_of}
 use Rattle.port_model.specs.NetEndPutting.{holding, net_holds}
 use Rattle.port_model.specs.NetEndRule.{Announces, Fetches, NetRule, Publishes, Puts, Replies, Says, Takes, Tells, port_rule}
-use Rattle.port_model.specs.NetEndState.{NetEndState, NetSession}
+use Rattle.port_model.specs.NetEndState.{NetEndState, NetSession, opened_net_end}
 use Rattle.port_model.specs.NetEndStep.{Blocked, Frame, Idle, Joined, NetAnswer, NetEndStep, NetLeft, Published, Reset, Sent, Took, published, taken}
-use Rattle.port_model.specs.NetEndTaking.{GoesOn, HearsLink, HearsWhole, NetTakes, Resets, by_handshake, reads, risen}
+use Rattle.port_model.specs.NetEndTaking.{GoesOn, HearsLink, HearsWhole, NetTakes, Resets, by_handshake, hears_message, reads, risen}
 use Rattle.port_model.specs.NetEvent.{Steps}
 use Rattle.port_model.specs.NetLaneState.{NetShape, reach_of, seen_at}
 use Rattle.port_model.specs.PortLog.{PortLog, after}
@@ -91,7 +92,14 @@ module _ (shape : NetShape) (u t : PortState) (l : PortLog) (left : NetLeft) (p 
       opened = ap is_some session
 
       by_hears : Hears Responder u.lane.hub u.lane.hub_memory l.transcript.server packet (GoesOn left.end opens left.own) → Now (Heard packet ∷ l.transcript.server)
-      by_hears (inl none) = grind (arith, none.is)
+      by_hears (inl none) =
+          let took : GoesOn left.end opens left.own ≡ GoesOn (record u.lane.hub { link = none.link }) false u.lane.hub_memory = none.is in
+          let same : left.end ≡ record u.lane.hub { link = none.link } = cc took in
+          let here : Now l.transcript.server =
+          quiet_now q (ap (λ (x : NetEndState). x.session) same ∙ session) (ap (λ (x : NetEndState). x.groups) same) (ap (λ (x : NetEndState). x.handshake) same)
+          (ap (λ (x : NetEndState). x.link.to_send) same ∙ none.sends) refl in
+          subst (λ (xs : List (List ℕ)). ExchangeIn sid u.lane.guest.groups p (unheard (said l.transcript.client) xs ++ listed (unsaid u.lane.guest))
+          (outbox left.end l.transcript.server l.transcript.client) left.end.session left.end.groups) (sym none.messages) here
       by_hears (inr (inr refused)) = let never : GoesOn left.end opens left.own ≡ Resets refused.cause = refused.is in absurd (cc never)
       by_hears (inr (inl one)) = by_notes noted.1
         where
@@ -127,7 +135,10 @@ module _ (shape : NetShape) (u t : PortState) (l : PortLog) (left : NetLeft) (p 
 
           with_out : (known : List (List ℕ)) → left.end.groups ≡ known → left.end.handshake ≡ u.lane.hub.handshake → left.end.link.to_send ≡ u.lane.hub.link.to_send
               → ExchangeIn sid u.lane.guest.groups p asks (outbox u.lane.hub l.transcript.server l.transcript.client) left.end.session known → Now (Heard packet ∷ l.transcript.server)
-          with_out known groups handshake sends exchange = grind (arith, same_outbox)
+          with_out known groups handshake sends exchange =
+              subst (λ (xs : List (List ℕ)). ExchangeIn sid u.lane.guest.groups p asks (outbox left.end l.transcript.server l.transcript.client) left.end.session xs) (sym groups)
+              (subst (λ (xs : List (List ℕ)). ExchangeIn sid u.lane.guest.groups p asks xs left.end.session known)
+              (sym (same_outbox u.lane.hub left.end l.transcript.server l.transcript.client handshake sends)) exchange)
 
           by_notes : HubNotes (record u.lane.hub { link = one.link }) left.end q noted.0 one.bytes ⊎ HubLearns (record u.lane.hub { link = one.link }) left.end noted.0 one.bytes
               → Now (Heard packet ∷ l.transcript.server)
@@ -143,25 +154,32 @@ module _ (shape : NetShape) (u t : PortState) (l : PortLog) (left : NetLeft) (p 
 hub_in : (shape : NetShape) (u t : PortState) (l : PortLog) (answer : NetAnswer) (left : NetLeft) (p q : NetSession) → Acts shape B u t l answer left → Goes answer → u.lane.hub.session ≡ Some q
     → u.lane.guest.session ≡ Some p → Fresh [] u.lane.guest.groups → IsUp A u.lane.wire.wire → IsUp B u.lane.wire.wire → IsFront (heard (turns_now answer l.transcript.server)) (said l.transcript.client)
     → Between u.lane.guest u.lane.hub l.transcript.client l.transcript.server p → Between u.lane.guest left.end l.transcript.client (turns_now answer l.transcript.server) p
+hub_in shape u t l Idle left p q acts goes session guest fresh up other front was =
+    let same : left.end ≡ u.lane.hub = ap (λ (x : NetLeft). x.end) acts.step.1 in
+    quiet_now shape u t l left p q session fresh was q (ap (λ (x : NetEndState). x.session) same ∙ session) (ap (λ (x : NetEndState). x.groups) same) (ap (λ (x : NetEndState). x.handshake) same)
+    (ap (λ (x : NetEndState). x.link.to_send) same) refl
 hub_in shape u t l (Published id) left p q acts goes session guest fresh up other front was =
     let step = acts.step in
     let says = says_of Responder u.lane.hub (seen_at B u.lane) (Publishes step.session step.frame) step.rule in
     let same : left.end ≡ record u.lane.hub { session = Some (published step.session) } = ap (λ (x : NetLeft). x.end) step.is in
     let here : step.session ≡ q = one_session u.lane.hub.session step.session q says.0.in_session.session session in
-    grind (arith, quiet_now)
+    quiet_now shape u t l left p q session fresh was (published step.session) (ap (λ (x : NetEndState). x.session) same) (ap (λ (x : NetEndState). x.groups) same) (ap (λ (x : NetEndState). x.handshake) same)
+    (ap (λ (x : NetEndState). x.link.to_send) same) (ap (λ (x : NetSession). x.reply) here)
 hub_in shape u t l (Frame frame) left p q acts goes session guest fresh up other front was =
     let step = acts.step in
     let says = says_of Responder u.lane.hub (seen_at B u.lane) (Fetches step.session step.activity) step.rule in
     let same : left.end ≡ record u.lane.hub { session = Some (taken u.lane.hub step.session step.activity); last = frame } = ap (λ (x : NetLeft). x.end) step.is in
     let here : step.session ≡ q = one_session u.lane.hub.session step.session q says.0.session session in
-    grind (arith, quiet_now)
+    quiet_now shape u t l left p q session fresh was (taken u.lane.hub step.session step.activity) (ap (λ (x : NetEndState). x.session) same) (ap (λ (x : NetEndState). x.groups) same)
+    (ap (λ (x : NetEndState). x.handshake) same) (ap (λ (x : NetEndState). x.link.to_send) same) (ap (λ (x : NetSession). x.reply) here)
 hub_in shape u t l Blocked left p q acts goes session guest fresh up other front was =
     let acting = acting_at shape B u l acts.finds other in
     let agreed = hub_agreed shape u.lane l acts.finds.two_ends up (ap is_some guest) other (ap is_some session) in
     let small = (guest_sid shape u.lane l acts.finds.two_ends up (ap is_some guest)).small in
     let forms = forms_now shape u t l left p q session fresh was left.end acting
     (record { session = session; agreed = agreed; small = small; empty = λ quiet. free_empty Responder u.lane.hub l.transcript.server acting.ends quiet }) acts.step.0 in
-    rw forms.groups_are forms.exchange
+    subst (λ (xs : List (List ℕ)). ExchangeIn u.lane.guest.handshake.draft.sid u.lane.guest.groups p (outbox u.lane.guest l.transcript.client l.transcript.server)
+    (outbox left.end l.transcript.server l.transcript.client) left.end.session xs) (sym forms.groups_are) forms.exchange
 hub_in shape u t l (Sent packet opens) left p q acts goes session guest fresh up other front was =
     let step = acts.step in
     let acting = acting_at shape B u l acts.finds other in
@@ -171,13 +189,17 @@ hub_in shape u t l (Sent packet opens) left p q acts goes session guest fresh up
     (record { session = session; agreed = agreed; small = small; empty = λ quiet. free_empty Responder u.lane.hub l.transcript.server acting.ends quiet }) step.holds in
     let puts : PutsIt step.held left.end l.transcript.server packet =
     sends_own Responder shape.slots u.queue u.lane.hub l.hub l.transcript.server (seen_at B u.lane) u.lane.hub_memory (reach_of B u.lane) packet opens left forms.q acting step agreed.owed forms.session_is in
-    rw (puts.groups ∙ forms.groups_are, puts.session) (rw (outbox_put step.held left.end l.transcript.server
-    l.transcript.client packet puts (acts.finds.two_ends.front_a up)) forms.exchange)
+    subst (λ (xs : List (List ℕ)). ExchangeIn u.lane.guest.handshake.draft.sid u.lane.guest.groups p (outbox u.lane.guest l.transcript.client l.transcript.server)
+    (outbox left.end (Said packet ∷ l.transcript.server) l.transcript.client) left.end.session xs) (sym (puts.groups ∙ forms.groups_are))
+    (subst (λ (o : Option NetSession). ExchangeIn u.lane.guest.handshake.draft.sid u.lane.guest.groups p (outbox u.lane.guest l.transcript.client l.transcript.server)
+    (outbox left.end (Said packet ∷ l.transcript.server) l.transcript.client) o u.lane.hub.groups) (sym puts.session)
+    (subst (λ (xs : List (List ℕ)). ExchangeIn u.lane.guest.handshake.draft.sid u.lane.guest.groups p (outbox u.lane.guest l.transcript.client l.transcript.server) xs step.held.session u.lane.hub.groups)
+    (sym (outbox_put step.held left.end l.transcript.server l.transcript.client packet puts (acts.finds.two_ends.front_a up))) forms.exchange))
 hub_in shape u t l (Took packet opens) left p q acts goes session guest fresh up other front was =
     let says = says_of Responder u.lane.hub (seen_at B u.lane) (Takes packet) acts.step.0 in
     let listens : MayListen q = subst (λ (x : Option NetSession). IfOpen x MayListen) session says.2 in
     took_now shape u t l left p q session fresh was packet opens (acting_at shape B u l acts.finds other) acts.finds.two_ends up other listens.0 front acts.step.1
-hub_in shape u t l answer left p q acts goes session guest fresh up other front was = grind (arith, quiet_now)
+hub_in shape u t l _ left p q acts goes session guest fresh up other front was = absurd goes
 
 -- WITHOUT A SESSION
 pub record ShutLeft (s t : NetEndState) : Type 0 where
@@ -193,13 +215,25 @@ shut_took : (s t : NetEndState) (memory packet new : List ℕ) (opens : Bool) �
 shut_took s t memory packet new opens none takes = by_link takes.link takes.takes takes.hears
   where
     by_take : (r : NetEndState) → r.session ≡ None → r.groups ≡ s.groups → r.link.to_send ≡ s.link.to_send → (x : HandshakeTake) → GoesOn t opens new ≡ by_handshake Responder r memory x → ShutTook s t
-    by_take r shut groups sends x is = grind arith
+    by_take r shut groups sends (GoesTake h) is =
+        let same : t ≡ record r { handshake = h } = cc is in
+        record { groups = ap (λ (x : NetEndState). x.groups) same ∙ groups; reply = ap (λ (x : NetEndState). reply_in x.session) same ∙ ap reply_in shut; sends = ap (λ (x : NetEndState). x.link.to_send) same ∙ sends }
+    by_take r shut groups sends (GoesOpen h) is =
+        let same : t ≡ opened_net_end (record r { handshake = h }) = cc is in
+        record { groups = ap (λ (x : NetEndState). x.groups) same ∙ groups; reply = ap (λ (x : NetEndState). reply_in x.session) same; sends = ap (λ (x : NetEndState). x.link.to_send) same ∙ sends }
+    by_take r shut groups sends (Faults cause) is = absurd (cc is)
 
     by_decoded : (r : NetEndState) → r.session ≡ None → r.groups ≡ s.groups → r.link.to_send ≡ s.link.to_send → (d : Result Message TagFault) → GoesOn t opens new ≡ reads Responder r memory d → ShutTook s t
-    by_decoded r shut groups sends d is = grind (arith, by_take)
+    by_decoded r shut groups sends (Ok m) is =
+        by_take r shut groups sends (handshake_take r.handshake m) (is ∙ ap (λ (o : Option NetSession). hears_message Responder r memory o m) shut)
+    by_decoded r shut groups sends (Err fault) is = absurd (cc is)
 
     by_whole : (r : NetEndState) → r.session ≡ None → r.groups ≡ s.groups → r.link.to_send ≡ s.link.to_send → (whole : Option (List ℕ)) → HearsWhole Responder r memory whole (GoesOn t opens new) → ShutTook s t
-    by_whole r shut groups sends whole is = grind (arith, by_decoded)
+    by_whole r shut groups sends None is =
+        let took : GoesOn t opens new ≡ GoesOn r false memory = is in
+        let same : t ≡ r = cc took in
+        record { groups = ap (λ (x : NetEndState). x.groups) same ∙ groups; reply = ap (λ (x : NetEndState). reply_in x.session) same ∙ ap reply_in shut; sends = ap (λ (x : NetEndState). x.link.to_send) same ∙ sends }
+    by_whole r shut groups sends (Some bytes) hears = by_decoded (record r { link = cleared r.link }) shut groups sends hears.0 hears.2
 
     by_link : (link : LinkTake) → TakesBytes s.link packet link → HearsLink Responder s memory link (GoesOn t opens new) → ShutTook s t
     by_link (HeardBy k) took hears =
@@ -230,15 +264,21 @@ pub record ShutAfter (answer : NetAnswer) (s t : NetEndState) : Type 0 where
 
 pub shut_after : (s : NetEndState) (at : Seen) (memory : List ℕ) (reach : Reach) (answer : NetAnswer) (left : NetLeft) → s.session ≡ None → Goes answer → NetEndStep Responder s at memory reach answer left
     → ShutAfter answer s left.end
-shut_after s at memory reach Idle left none goes step = grind (arith, ap (λ (x : NetLeft). x.end) step.1)
+shut_after s at memory reach Idle left none goes step =
+    let same : left.end ≡ s = ap (λ (x : NetLeft). x.end) step.1 in
+    record {
+      left = record { groups = ap (λ (x : NetEndState). x.groups) same; reply = ap (λ (x : NetEndState). reply_in x.session) same ∙ ap reply_in none };
+      stays = ap (λ (x : NetEndState). x.session) same ∙ none;
+    }
 shut_after s at memory reach (Published id) left none goes step =
     none_some step.session (sym none ∙ (says_of Responder s at (Publishes step.session step.frame) step.rule).0.in_session.session)
 shut_after s at memory reach (Frame frame) left none goes step = none_some step.session (sym none ∙ (says_of Responder s at (Fetches step.session step.activity) step.rule).0.session)
 shut_after s at memory reach Blocked left none goes step =
     let held = shut_held s at reach (port_rule Responder s at) left.end none refl step.0 in record { left = record { groups = held.1; reply = ap reply_in held.0 }; stays = held.0 }
 shut_after s at memory reach (Sent packet opens) left none goes step =
-    let shut = shut_held s at reach (port_rule Responder s at) step.held none refl step.holds in
-    grind (arith, shut, ap (λ (x : NetLeft). x.end.session) step.is)
+    let held = shut_held s at reach (port_rule Responder s at) step.held none refl step.holds in
+    let session : left.end.session ≡ step.held.session = ap (λ (x : NetLeft). x.end.session) step.is in
+    record { left = record { groups = ap (λ (x : NetLeft). x.end.groups) step.is ∙ held.1; reply = ap reply_in (session ∙ held.0) }; stays = session ∙ held.0 }
 shut_after s at memory reach (Took packet opens) left none goes step =
     let took = shut_took s left.end memory packet left.own opens none step.1 in record { left = record { groups = took.groups; reply = took.reply }; stays = tt }
 shut_after s at memory reach _ left none goes step = absurd goes
@@ -264,7 +304,14 @@ asks_now shape u l (Reset cause packet lost) p now after_session goes none fits 
 asks_now shape u l (Took packet opens) p now after_session goes none fits exchange = by_ended (ended_by (half_heard l.transcript.server) packet) (heard_grown l.transcript.server packet)
   where
     by_ended : (o : Option (List ℕ)) → Grown o (heard l.transcript.server) (heard (Heard packet ∷ l.transcript.server)) → HeardAs u l p now after_session (heard (Heard packet ∷ l.transcript.server))
-    by_ended o is = grind (arith, low_rest, outbox_heard, hub_hears, not_low)
+    by_ended None is = subst (HeardAs u l p now after_session) (sym is) exchange
+    by_ended (Some m) is =
+        let front : IsFront (heard l.transcript.server ++ m ∷ []) (said l.transcript.client) = subst (λ (xs : List (List ℕ)). IsFront xs (said l.transcript.client)) is fits.front in
+        let low : EachLow (m ∷ []) = low_rest (heard l.transcript.server) (m ∷ []) (subst EachLow is fits.heard_plain.low) in
+        let first = outbox_heard u.lane.guest l.transcript.client l.transcript.server packet m is front in
+        hub_hears u.lane.guest.handshake.draft.sid u.lane.guest.groups p (outbox u.lane.guest l.transcript.client (Heard packet ∷ l.transcript.server)) now after_session after_session u.lane.hub.groups m
+        (not_low m low.0) refl
+        (subst (λ (xs : List (List ℕ)). ExchangeIn u.lane.guest.handshake.draft.sid u.lane.guest.groups p xs now after_session u.lane.hub.groups) first exchange)
 asks_now shape u l _ p now after_session goes none fits exchange = exchange
 
 -- A STEP
@@ -279,7 +326,8 @@ hub_exchange shape u t l answer left acts fresh exchange p up other some = as_no
     guest_some = ap (λ (x : NetEndState). x.session) (sym acts.now.peer_end) ∙ some
 
     in_log : l.guest.session ≢ None
-    in_log = grind (arith, guest_some, open_both, true_false)
+    in_log =
+        let both = open_both Initiator shape.slots [] u.lane.guest l.guest acts.finds.ready.guest in λ gone. true_false (sym (ap is_some guest_some) ∙ both.shut gone)
 
     theirs : theirs_now answer u.lane.wire.wire.end_b u.lane.wire.wire.end_a ≡ Up
     theirs = sym (ap (λ (w : WireLog). w.wire.end_a) acts.now.wire ∙ (wire_now B u.lane answer).theirs) ∙ up
@@ -303,7 +351,11 @@ hub_exchange shape u t l answer left acts fresh exchange p up other some = as_no
     front = subst (λ (xs : List Turn). IsFront (heard xs) (said l.transcript.client)) turns (subst (λ (xs : List Turn). IsFront (heard then_.transcript.server) (said xs)) same (acts.two_ends.front other))
 
     as_now : Between u.lane.guest left.end l.transcript.client (turns_now answer l.transcript.server) p → Between t.lane.guest t.lane.hub then_.transcript.client then_.transcript.server p
-    as_now one = rw (turns, same, acts.now.peer_end, acts.now.end) one
+    as_now one =
+        subst (λ (xs : List Turn). Between t.lane.guest t.lane.hub then_.transcript.client xs p) (sym turns)
+        (subst (λ (xs : List Turn). Between t.lane.guest t.lane.hub xs (turns_now answer l.transcript.server) p) (sym same)
+        (subst (λ (x : NetEndState). Between x t.lane.hub l.transcript.client (turns_now answer l.transcript.server) p) (sym acts.now.peer_end)
+        (subst (λ (x : NetEndState). Between u.lane.guest x l.transcript.client (turns_now answer l.transcript.server) p) (sym acts.now.end) one)))
 
     was : Between u.lane.guest u.lane.hub l.transcript.client l.transcript.server p
     was = exchange p guest_before up_before guest_some

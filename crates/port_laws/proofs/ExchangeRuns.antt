@@ -26,6 +26,7 @@ use Rattle.port_laws.proofs.GroupsExchanged.{guest_joins}
 use Rattle.port_laws.proofs.ExchangeGuest.{Between, ExchangeStands, guest_exchange}
 use Rattle.port_laws.proofs.ExchangeHub.{hub_exchange}
 use Rattle.port_laws.proofs.WayRuns.{KeptWays, acts_of, never_alone, ways_step}
+use Rattle.port_laws.proofs.Outbox.{outbox}
 
 -- THE GROUPS of a guest are repeated nowhere
 fresh_event : (u : NetLaneState) (l : PortLog) (event : NetEvent) (t : NetLaneState) → u.guest.groups ≡ l.members → NetLaneStep u event t → Fresh [] l.members → Fresh [] (after l (OnLane event)).members
@@ -46,7 +47,8 @@ joined_exchange s (GroupsFull address) t hub client server q joins had is =
     subst (λ (x : NetEndState). Between x hub client server q) (sym joins.2) (had q (ap (λ (x : NetEndState). x.session) (sym joins.2) ∙ is))
 joined_exchange s (Member address) t hub client server q joins had is =
     let there = untold_some s.session q (ap (λ (x : NetEndState). x.session) (sym joins.3) ∙ is) in
-    rw joins.3 (guest_joins _ _ _ _ q _ _ _ _ there.2 there.3 there.4 (had there.0 there.1))
+    subst (λ (x : NetEndState). Between x hub client server q) (sym joins.3)
+    (guest_joins s.handshake.draft.sid s.groups address there.0 q (outbox s client server) (outbox hub server client) hub.session hub.groups there.2 there.3 there.4 (had there.0 there.1))
 
 -- AN EVENT
 lane_exchange : (shape : NetShape) (u t : PortState) (l : PortLog) (event : NetEvent) → OfQueue u event → Finds shape u l → NetLaneStep u.lane event t.lane → (moved_on l.wire (on_wire event)).forged ≡ false

@@ -1,5 +1,5 @@
 -- A step of either end of a port in session keeps what is known of all that is on the way.
-use Rattle.std.proofs.Common.{◌≡◌, ℕ, ◌^◌, ◌<◌, ◌≤◌, Option, Some, None, List, [], ◌∷◌, ◌++◌, length, refl, sym, subst, ap, ◌∙◌, arith, length-append, append_assoc, drop_at}
+use Rattle.std.proofs.Common.{◌≡◌, ℕ, ◌^◌, ◌<◌, ◌≤◌, Option, Some, None, List, [], ◌∷◌, ◌++◌, length, refl, sym, subst, ap, ◌∙◌, arith, length-append}
 use Rattle.std.proofs.lemmas.List.{append-nil, take_all}
 use Rattle.ldc_link.specs.declared.phase.Role.TheVariants.{Initiator, Responder}
 use Rattle.ldc_packet.specs.declared.packet.Subtype.TheVariants.{Info}
@@ -18,7 +18,7 @@ use Rattle.port_model.specs.Spoken.{addresses_of}
 use Rattle.port_laws.specs.Counted.{AreGroups, unsaid}
 use Rattle.port_laws.proofs.FormsOwn.{Formed, Kept, PutsIt, Ranged, Replied, Told}
 use Rattle.port_laws.proofs.OwnBytes.{membership_reads, seven_six}
-use Rattle.port_laws.proofs.Outbox.{SaysGroups, TellsSome, outbox, says_groups, unheard_more}
+use Rattle.port_laws.proofs.Outbox.{SaysGroups, TellsSome, first_unheard, outbox, says_groups, unheard_more}
 use Rattle.port_laws.proofs.ShortMessages.{seven_long}
 use Rattle.port_laws.proofs.GroupsExchanged.{RepliesAgree, ReplyAgrees, ExchangeIn, guest_ranges, guest_tells, hub_ranges, hub_replies, reply_in}
 
@@ -33,7 +33,7 @@ outbox_put held t mine theirs packet puts front = grind (arith, unheard_more, ap
 -- what is heard leaves the other's
 pub outbox_heard : (peer : NetEndState) (theirs mine : List Turn) (packet m : List ℕ) → heard (Heard packet ∷ mine) ≡ heard mine ++ m ∷ [] → IsFront (heard mine ++ m ∷ []) (said theirs)
     → outbox peer theirs mine ≡ m ∷ outbox peer theirs (Heard packet ∷ mine)
-outbox_heard peer theirs mine packet m is front = grind (arith, append_assoc, drop_at)
+outbox_heard peer theirs mine packet m is front = grind (arith, first_unheard)
 
 -- WHAT THE GUEST TELLS
 record Member (sid : ℕ) (groups : List (List ℕ)) : Type 0 where

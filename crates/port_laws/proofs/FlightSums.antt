@@ -185,7 +185,9 @@ event_few s t (OnChannel (Joined B lost)) known step spends clean few =
     (a_rests s.wire s.a t.a s.b step.a few)
 event_few s t (OnChannel (Reset A cause packet lost)) known step spends clean few =
     let none = resets_none (giver cause) Initiator s.a t.a cause packet step.a in
-    grind (arith, none, a_begins, anew_spent, resets_anew, b_rests)
+    a_begins s.wire s.a t.a t.b
+    (anew_spent Initiator s.a t.a known.ends.a.handshake known.a_rings none (resets_anew (giver cause) Initiator s.a t.a known.transcript.client cause packet known.ends.a step.a))
+    (b_rests s.wire s.a s.b t.b step.b few)
 event_few s t (OnChannel (Reset B cause packet lost)) known step spends clean few =
     let none = resets_none (giver cause) Responder s.b t.b cause packet step.b in
     b_begins s.wire t.a s.b t.b
@@ -203,7 +205,8 @@ event_few s t (OnChannel (Sent A packet opens)) known step spends clean few =
     (b_rests s.wire s.a s.b t.b step.b few)
 event_few s t (OnChannel (Sent B packet opens)) known step spends clean few =
     let says = says_spent Responder s.b t.b known.transcript.server packet opens known.ends.b step.b (λ role. absurd (cc role)) in
-    grind (arith, b_acts, length-append, a_rests)
+    b_acts s.wire (length (s.wire.wire.to_a ++ packet ∷ []) + length s.wire.wire.to_b) t.a s.b t.b step.stands.0 (omega (arith, says, length-append s.wire.wire.to_a (packet ∷ [])))
+    (a_rests s.wire s.a t.a s.b step.a few)
 event_few s t (OnChannel (Blocked A)) known step spends clean few =
     a_acts s.wire (length s.wire.wire.to_a + length s.wire.wire.to_b) s.a t.a t.b step.stands.0 (omega (arith, waits_spent Initiator s.a t.a known.transcript.client known.ends.a step.a))
     (b_rests s.wire s.a s.b t.b step.b few)

@@ -133,7 +133,14 @@ own_body sid bytes s (DringData seq ident start end state) of small long is =
     record {
       message = record { subtype = s; sid = sid; body = DringData (number_at 8 8 bytes) (number_at 8 16 bytes) (number_at 4 24 bytes) (number_at 4 28 bytes) (number_at 1 32 bytes) };
       form = tt;
-      spells = grind (arith, range_sid, simple_sid);
+      spells = record {
+        kind = ap type_at is ∙ tagged.kind;
+        subtype = ap subtype_at is ∙ tagged.subtype;
+        envelope = ap envelope_at is ∙ tagged.envelope;
+        sid = sym (ap sid_at is ∙ range_sid s sid seq ident start end state ∙ simple_sid s sid small);
+        long = long;
+        body = (refl, refl, refl, refl, refl);
+      };
       of = tt;
       sid_is = refl;
       long = long;
@@ -143,7 +150,14 @@ own_body sid bytes s (Mcast set count addresses) of small long is =
     record {
       message = record { subtype = s; sid = sid; body = Mcast (number_at 1 8 bytes) (number_at 1 9 bytes) (addresses_at 10 7 bytes) };
       form = tt;
-      spells = grind (arith, groups_sid, simple_sid);
+      spells = record {
+        kind = ap type_at is ∙ tagged.kind;
+        subtype = ap subtype_at is ∙ tagged.subtype;
+        envelope = ap envelope_at is ∙ tagged.envelope;
+        sid = sym (ap sid_at is ∙ groups_sid s sid set count addresses ∙ simple_sid s sid small);
+        long = long;
+        body = (refl, refl, refl);
+      };
       of = tt;
       sid_is = refl;
       long = long;
@@ -157,7 +171,8 @@ own_read d bytes own small long =
 
 pub decodes_as : (bytes : List ℕ) (m : Message) (decoded : Result Message TagFault) → IsWellFormed m → SpellsMessage bytes m → Decodes bytes decoded → decoded ≡ Ok m
 decodes_as bytes m (Ok d) form spells decodes = ap Ok (spelled_once bytes d m decodes.message.0 form decodes.message.1 spells)
-decodes_as bytes m (Err fault) form spells decodes = grind (arith, spelled_no_fault)
+decodes_as bytes m (Err fault) form spells decodes =
+    let never : Some fault ≡ None = sym decodes.fault ∙ spelled_no_fault bytes m form spells in absurd (cc never)
 
 -- THE HANDSHAKE of an end in session: both rings have the session's number
 pub record AllAgreed (h : Handshake) (sid : ℕ) : Type 0 where

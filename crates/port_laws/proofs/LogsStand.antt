@@ -124,8 +124,11 @@ pub record TablesStand (shape : NetShape) (s : NetLaneState) : Type 0 where
   pub guest : s.guest_table ≡ fresh_table shape
   pub hub : s.hub_table ≡ fresh_table shape
 
+tables_as : (shape : NetShape) (s t : NetLaneState) → t.guest_table ≡ s.guest_table → t.hub_table ≡ s.hub_table → TablesStand shape s → TablesStand shape t
+tables_as shape s t guest hub stands = record { guest = guest ∙ stands.guest; hub = hub ∙ stands.hub }
+
 pub tables_event : (shape : NetShape) (u : NetLaneState) (event : NetEvent) (t : NetLaneState) → NetLaneStep u event t → TablesStand shape u → TablesStand shape t
-tables_event shape u event t step = grind arith
+tables_event shape u event t step = grind (arith, tables_as)
 
 pub fresh_logs : (shape : NetShape) → LogsStand (no_events shape)
 fresh_logs shape = record { guest = record { head = tt; given = λ n frame get. absurd (cc get) }; hub = record { head = tt; given = λ n frame get. absurd (cc get) } }

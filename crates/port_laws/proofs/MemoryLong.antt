@@ -29,10 +29,10 @@ use Rattle.channel_model.specs.TranscriptLog.{transcript_of}
 use Rattle.port_model.proofs.Moving.{before_keeps}
 use Rattle.port_model.proofs.Ruling.{says_of}
 use Rattle.port_model.specs.Fetching.{slots_cookies}
-use Rattle.port_model.specs.NetEndPutting.{cleared_by_put, cleared_ring}
+use Rattle.port_model.specs.NetEndPutting.{cleared_by_put, cleared_ring, net_opens}
 use Rattle.port_model.specs.NetEndRule.{Publishes, Takes}
 use Rattle.port_model.specs.NetEndState.{NetEndState, NetSession, unseen_in}
-use Rattle.port_model.specs.NetEndStep.{Frame, NetAnswer, NetEndStep, NetLeft, Published, Took, published_memory}
+use Rattle.port_model.specs.NetEndStep.{Frame, Idle, NetAnswer, NetEndStep, NetLeft, Published, Sent, Took, published_memory}
 use Rattle.port_model.specs.NetEndTaking.{GoesOn, NetTake, Resets, freed}
 use Rattle.port_model.specs.NetEvent.{Asked, CalmTick, Declines, Gives, Injects, NetEvent, Pokes, Steps, Ticked}
 use Rattle.port_model.specs.NetLaneState.{IsNetShape, NetLaneState, NetShape, memory_of, net_end, reach_of, role_at, seen_at}
@@ -79,7 +79,8 @@ freed_long : (slots number count : ℕ) (memory : List ℕ) → 1 ≤ slots → 
 freed_long slots number zero memory some room = refl
 freed_long slots number (suc count) memory some room =
     let below = mod_below number slots (omega (arith, some)) in
-    let same = length-put_at (64 * (number % slots)) (free_state ∷ []) memory (omega (arith, below, room)) in
+    let same : length (put_at (64 * (number % slots)) (free_state ∷ []) memory) ≡ length memory =
+    length-put_at (64 * (number % slots)) (free_state ∷ []) memory (omega (arith, below, room)) in
     freed_long slots (number + 1) count (put_at (64 * (number % slots)) (free_state ∷ []) memory) some (omega (arith, same, room)) ∙ same
 
 cleared_long : (slots : ℕ) (memory : List ℕ) → 64 * slots ≤ length memory → length (cleared_ring slots memory) ≡ length memory
@@ -116,17 +117,24 @@ step_long role s turns at memory reach (Took packet opens) left some fits owns s
       written_long s.slots memory left.own some (omega (arith, few, room)) (take_written role s memory (GoesOn left.end opens left.own) (took_what role s turns memory packet (GoesOn left.end opens left.own) ends step.1)),
       ap length step.2,
     )
+step_long role s turns at memory reach (Sent packet opens) left some fits owns step =
+    let few = fits.few in
+    let room = fits.room in
+    subst (SameLong memory reach.memory) (sym step.is) (put_long role (net_opens step.held) s.slots memory (omega (arith, few, room)), refl)
+step_long role s turns at memory reach Idle left some fits owns step = subst (SameLong memory reach.memory) (sym step.1) (refl, refl)
 step_long role s turns at memory reach (Published id) left some fits owns step =
     let says = says_of role s at (Publishes step.session step.frame) step.rule in
     let is = (owns says.0.in_session.free.up).frames (unseen_in step.session) step.frame says.1 in
-    grind (arith, published_long, mod_below)
+    subst (SameLong memory reach.memory) (sym step.is)
+    (published_long s.slots (step.session.published % s.slots) step.frame memory fits (mod_below step.session.published s.slots (omega (arith, some))) is, refl)
 step_long role s turns at memory reach (Frame frame) left some fits owns step =
+    let found = found_frame s reach step.session.place frame step.new step.found in
     subst (SameLong memory reach.memory) (sym step.is) (
       refl,
-      ap length (found_frame s reach step.session.place frame step.new step.found).new_is
+      ap length found.new_is
           ∙ moved_long reach (slots_cookies s) (64 * step.session.place) (header 4 (net_desc_of (moved_in reach.table reach.memory (slots_cookies s) (64 * step.session.place) 64)).ack),
     )
-step_long role s turns at memory reach answer left some given owns step = grind (arith, put_long)
+step_long role s turns at memory reach _ left some fits owns step = subst (SameLong memory reach.memory) (sym step.2) (refl, refl)
 
 -- A LANE
 pub record LongMemory (slots : ℕ) (s : NetLaneState) : Type 0 where

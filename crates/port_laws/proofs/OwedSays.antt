@@ -21,7 +21,7 @@ use Rattle.vio_tag.specs.Spelling.{canonical}
 use Rattle.channel_laws.proofs.EndCases.{NoMessage, PutWhat, Rises, TookHandshake, TookOwn, TookWhat, end_put, end_took}
 use Rattle.channel_laws.proofs.EndResting.{held_handshake}
 use Rattle.channel_laws.proofs.EndStanding.{fresh_end_stands, held_stands, stands_step}
-use Rattle.channel_laws.proofs.HandshakeCases.{RowTaken, row_sent}
+use Rattle.channel_laws.proofs.HandshakeCases.{RowSent, RowTaken, row_sent}
 use Rattle.channel_laws.proofs.Lifting.{EndsAll, ends_run}
 use Rattle.channel_laws.specs.EndCore.{Begins, EndCore, EndMove, Fails, Hears, Renews, Says as SaysPacket, Stays, Waits}
 use Rattle.channel_laws.specs.EndStep.{EndSays, EndStep}
@@ -67,6 +67,9 @@ Owes h = OwesNoGroups h.owed
 row_owes : (h t : Handshake) (message : Message) (opens : Bool) → IsWellFormed message → Owes h → RowTaken h message t opens → Owes t
 row_owes h t message opens form owes given = grind (arith, declined_groups)
 
+sent_owes : (h t : Handshake) (opens : Bool) → RowSent h t opens → Owes t
+sent_owes h t opens given = grind arith
+
 begun_owes : (role : Role) (h : Handshake) → Owes (begun role (joined_handshake h))
 begun_owes role h = grind arith
 
@@ -77,7 +80,7 @@ took_owes role c t turns packet opens now owes (TookOwn message took own same sh
 took_owes role c t turns packet opens now owes (TookHandshake message took handshake is_open) = row_owes c.handshake t.handshake message opens took.form owes handshake.row
 
 put_owes : (role : Role) (held t : EndCore) (turns : List Turn) (packet : List ℕ) (opens : Bool) → Owes held.handshake → PutWhat role held turns packet opens t → Owes t.handshake
-put_owes role held t turns packet opens owes given = grind (arith, begun_owes, row_sent)
+put_owes role held t turns packet opens owes given = grind (arith, begun_owes, sent_owes, row_sent)
 
 pub record EndOwes (role : Role) (c : EndCore) (turns : List Turn) : Type 0 where
   pub stands : EndStands role c turns

@@ -1,5 +1,5 @@
 -- Along every run of a port both ends are counted by its log as they count themselves.
-use Rattle.std.proofs.Common.{◌≡◌, ℕ, ◌+◌, ◌≤◌, Bool, true, false, Option, Some, List, [], ◌∷◌, ◌++◌, length, drop, refl, sym, subst, ap, ◌∙◌, arith, append_assoc, length-append}
+use Rattle.std.proofs.Common.{◌≡◌, ℕ, ◌+◌, ◌≤◌, Bool, true, false, Option, Some, None, List, [], ◌∷◌, ◌++◌, length, drop, refl, sym, subst, ap, ◌∙◌, arith, append_assoc, length-append}
 use Rattle.std.specs.Prelude.{is_some, nat_lt, ⊤}
 use Rattle.std.proofs.lemmas.Bool.{and_parts, ltb-true}
 use Rattle.std.proofs.lemmas.List.{append-nil, drop-append-le}
@@ -137,7 +137,8 @@ hub_acts shape u l ready up = grind (arith, acts_of, slots_fit, up_begun)
 
 pub ready_before : (shape : NetShape) (s : PortState) (l : PortLog) (event : NetEvent) → IsNetShape shape → PortCounts shape s l → Ready shape (before event s) l
 ready_before shape s l event is counts =
-    let transcript = spoken_behind shape counts.events ∙ sym (ap (λ (x : PortLog). x.transcript) counts.log) in
+    let transcript : transcript_behind (port_events counts.events) ≡ l.transcript =
+    spoken_behind shape counts.events ∙ sym (ap (λ (x : PortLog). x.transcript) counts.log) in
     let all : EndsAll EndFits (port_core s) (transcript_behind (port_events counts.events)) =
     fits_run shape.entries (port_offer Initiator shape.address shape.slots) (port_offer Responder shape.address shape.slots) (port_events counts.events) (port_core s)
     (sizes_fit shape is) (fresh_port_core shape counts.events s counts.run) in
@@ -171,8 +172,11 @@ one_more (group ∷ groups) address are six = (are.0, one_more groups address ar
 behind_more : (told : Option (List (List ℕ))) (groups : List (List ℕ)) (address : List ℕ) → IsBehind told groups → IsBehind told (groups ++ address ∷ [])
 behind_more told groups address is = grind (arith, length-append)
 
+named_behind : (told : Option (List (List ℕ))) (groups : List (List ℕ)) (address : List ℕ) → told ≡ Some groups → IsBehind told (groups ++ address ∷ [])
+named_behind told groups address is = subst (λ (x : Option (List (List ℕ))). IsBehind x (groups ++ address ∷ [])) (sym is) (omega (arith, length-append groups (address ∷ [])))
+
 behind_either : (b : Bool) (p : NetSession) (groups : List (List ℕ)) (address : List ℕ) (v : SessionLog) → p.untold ≡ b → GroupCounts p groups v → IsBehind v.membership (groups ++ address ∷ [])
-behind_either b p groups address v is counts = grind (arith, behind_more, length-append)
+behind_either b p groups address v is counts = grind (arith, behind_more, named_behind)
 
 right_more : (slots : ℕ) (groups : List (List ℕ)) (address : List ℕ) (v : SessionLog) (message : List ℕ) (k : Spoken) → SaysRightly slots groups v message k
     → SaysRightly slots (groups ++ address ∷ []) v message k
@@ -184,9 +188,17 @@ unsaid_more slots groups address begun v left right = grind (arith, right_more)
 
 member_counts : (slots : ℕ) (groups : List (List ℕ)) (address : List ℕ) (published gone : ℕ) (left : Option (List ℕ)) (begun : Bool) (session : Option NetSession) (log : Option SessionLog)
     → Counts Initiator slots groups published gone left begun session log → Counts Initiator slots (groups ++ address ∷ []) published gone left begun (untold session) log
+member_counts slots groups address published gone left begun None None counts = counts
 member_counts slots groups address published gone left begun (Some p) (Some v) counts = record {
   right = unsaid_more slots groups address begun v left counts.right;
-  ring = grind arith;
+  ring = record {
+    all = counts.ring.all;
+    left = counts.ring.left;
+    here = counts.ring.here;
+    seen = counts.ring.seen;
+    infos = counts.ring.infos;
+    asking = counts.ring.asking;
+  };
   peer = record { seq = counts.peer.seq; place = counts.peer.place; active = counts.peer.active };
   guest = record {
     named = λ is. true_false is;
@@ -196,7 +208,7 @@ member_counts slots groups address published gone left begun (Some p) (Some v) c
   };
   reply = counts.reply;
 }
-member_counts slots groups address published gone left begun session log counts = grind arith
+member_counts slots groups address published gone left begun _ _ counts = absurd counts
 
 joins_counts : (slots : ℕ) (s : NetEndState) (joining : Joining) (t : NetEndState) (l : EndLog) → EndCounts Initiator slots [] s l → NetJoins s joining t → EndCounts Initiator slots [] t l
 joins_counts slots s joining t l counts joins = grind (arith, length-append, one_more, member_counts)

@@ -1,6 +1,7 @@
 -- What each step of an end leaves of the rings and of what its log says, in plain fields: the end that acts, and its peer.
 use Rattle.std.proofs.Common.{◌≡◌, ◌≢◌, ℕ, ◌+◌, ◌≤◌, Bool, true, false, Option, Some, None, List, [], ◌∷◌, length, refl, sym, subst, arith}
 use Rattle.std.specs.Prelude.{⊤}
+use Rattle.cookie_copy.specs.Faults.{is_up}
 use Rattle.cookie_copy.specs.Reach.{Reach}
 use Rattle.ldc_link.specs.declared.phase.Role.{Role}
 use Rattle.ldc_queue.specs.declared.end.ChannelState.{ChannelState}
@@ -12,6 +13,7 @@ use Rattle.channel_model.specs.Messages.{ended_by, opening_sid}
 use Rattle.channel_model.specs.Sayings.{half_heard, half_said, heard}
 use Rattle.channel_model.specs.Seeing.{Seen}
 use Rattle.channel_model.specs.TranscriptLog.{TranscriptLog, transcript_of}
+use Rattle.port_model.proofs.Refuting.{false_true}
 use Rattle.port_model.proofs.Ruling.{says_of}
 use Rattle.port_model.specs.EndLog.{EndLog, SessionLog, change, heard_in, heard_kind, hears_log, more_published, more_taken as one_taken, opens_log, said_in, said_kind, says_log}
 use Rattle.port_model.specs.NetEndState.{NetEndState, NetSession}
@@ -25,7 +27,7 @@ use Rattle.port_laws.specs.RingStands.{RingIn, taken_by, taken_in}
 use Rattle.port_laws.proofs.PeerOpens.{row}
 use Rattle.port_laws.proofs.RingSteps.{Owns, TakesOf, more_taken, opens_by, own_ring, peer_ring}
 use Rattle.port_laws.proofs.SessionsHeard.{Spoke, SpokeIn, frame_spoke, published_spoke, sent_opens, sent_spoke, took_opens, took_spoke}
-use Rattle.port_laws.proofs.LaneMoves.{holds_up, up_of}
+use Rattle.port_laws.proofs.LaneMoves.{holds_up}
 
 -- BOTH CHANNEL ENDS and what was said, after an answer
 abbrev pub mine_now : NetAnswer → ChannelState → ChannelState
@@ -59,10 +61,13 @@ pub record TurnsNow (e : End) (l : TranscriptLog) (answer : NetAnswer) : Type 0 
 pub turns_at : (e : End) (l : TranscriptLog) (answer : NetAnswer) → TurnsNow e l answer
 turns_at e l answer = grind arith
 
+pub up_is : (x : ChannelState) → is_up x ≡ true → x ≡ Up
+up_is x is = grind (arith, false_true)
+
 -- AN END THAT ACTS is up, but where it joins
 pub acts_up : (role : Role) (s : NetEndState) (at : Seen) (memory : List ℕ) (reach : Reach) (answer : NetAnswer) (left : NetLeft) → NetEndStep role s at memory reach answer left
     → (x : ChannelState) → at.state ≡ x → mine_now answer x ≡ x → x ≡ Up
-acts_up role s at memory reach answer left step x is now = grind (arith, up_of, says_of, holds_up)
+acts_up role s at memory reach answer left step x is now = grind (arith, up_is, says_of, holds_up)
 
 -- it doesn't begin anew
 abbrev pub Goes : NetAnswer → Type 0
@@ -117,7 +122,10 @@ own_stands role slots x y log s turns at memory reach answer left owns same none
   where
     goes : (given : NetAnswer) → (opens_by given ≡ true → x ≡ Up → taken_by y log ≡ 0) → NetEndStep role s at memory reach given left → x ≡ Up
         → RingIn slots (taken_by y log) left.end.session left.end.frames left.own
-    goes given nothing moves up = grind (arith, own_ring)
+    goes given nothing moves up =
+        subst (λ (n : ℕ). RingIn n (taken_by y log) left.end.session left.end.frames left.own) same
+        (own_ring role (taken_by y log) s turns at memory reach given left (owns up) (λ is. nothing is up) moves
+        (subst (λ (n : ℕ). RingIn n (taken_by y log) s.session s.frames memory) (sym same) (ring up)))
 
     by_answer : (given : NetAnswer) → (opens_by given ≡ true → x ≡ Up → taken_by y log ≡ 0) → NetEndStep role s at memory reach given left → mine_now given x ≡ Up
         → RingIn slots (taken_by (theirs_now given x y) log) left.end.session left.end.frames left.own
@@ -158,17 +166,21 @@ took_case : (role : Role) (slots : ℕ) (turns : List Turn) (packet : List ℕ) 
     → SpokeIn role (Heard packet ∷ turns) (after_answer slots turns (Took packet opens) l).session
 took_case role slots turns packet true log l is shut turned spoke =
     took_opens role turns packet (turned.few (shut refl)) (turned.many (some_not _))
-took_case role slots turns packet false None l is shut turned spoke = rw is tt
+took_case role slots turns packet false None l is shut turned spoke =
+    subst (λ (o : Option SessionLog). SpokeIn role (Heard packet ∷ turns) (change (heard_in slots (ended_by (half_heard turns) packet)) o)) (sym is) tt
 took_case role slots turns packet false (Some v) l is shut turned spoke =
-    rw is (took_spoke role slots turns packet v spoke (turned.six (some_not v)))
+    subst (λ (o : Option SessionLog). SpokeIn role (Heard packet ∷ turns) (change (heard_in slots (ended_by (half_heard turns) packet)) o)) (sym is)
+    (took_spoke role slots turns packet v spoke (turned.six (some_not v)))
 
 sent_case : (role : Role) (slots : ℕ) (turns : List Turn) (packet : List ℕ) (opens : Bool) (log : Option SessionLog) (l : EndLog) → l.session ≡ log → (opens ≡ true → log ≡ None)
     → Turned role turns (Said packet ∷ turns) log (after_answer slots turns (Sent packet opens) l).session → SpokeIn role turns log
     → SpokeIn role (Said packet ∷ turns) (after_answer slots turns (Sent packet opens) l).session
 sent_case role slots turns packet true log l is shut turned spoke =
     sent_opens role turns packet (turned.few (shut refl)) (turned.many (some_not _))
-sent_case role slots turns packet false None l is shut turned spoke = rw is tt
-sent_case role slots turns packet false (Some v) l is shut turned spoke = rw is (sent_spoke role turns packet v spoke)
+sent_case role slots turns packet false None l is shut turned spoke =
+    subst (λ (o : Option SessionLog). SpokeIn role (Said packet ∷ turns) (change (said_in (ended_by (half_said turns) packet)) o)) (sym is) tt
+sent_case role slots turns packet false (Some v) l is shut turned spoke =
+    subst (λ (o : Option SessionLog). SpokeIn role (Said packet ∷ turns) (change (said_in (ended_by (half_said turns) packet)) o)) (sym is) (sent_spoke role turns packet v spoke)
 
 work_case : (role : Role) (turns : List Turn) (f : SessionLog → SessionLog) (log : Option SessionLog) → ((v : SessionLog) → log ≡ Some v → Spoke role turns v → Spoke role turns (f v)) → SpokeIn role turns log
     → SpokeIn role turns (change f log)

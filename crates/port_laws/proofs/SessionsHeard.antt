@@ -1,16 +1,16 @@
 -- What an end's log says of its open session, by what the end said and heard: its sid is that of the sixth message that the initiator says, and
 -- a frame is taken only once a message of the session was heard.
-use Rattle.std.proofs.Common.{◌≡◌, ℕ, zero, suc, ◌+◌, ◌≤◌, Bool, Option, Some, None, List, [], ◌∷◌, ◌++◌, length, sym, ap, ◌∙◌, subst, arith, length-append}
+use Rattle.std.proofs.Common.{◌≡◌, ℕ, zero, suc, ◌+◌, ◌≤◌, Bool, Option, Some, None, List, [], ◌∷◌, ◌++◌, length, refl, sym, ap, ◌∙◌, subst, arith, length-append}
 use Rattle.std.specs.Prelude.{◌&&◌, slice_get, ⊤}
 use Rattle.ldc_link.specs.declared.phase.Role.{Role}
 use Rattle.ldc_link.specs.declared.phase.Role.TheVariants.{Initiator, Responder}
 use Rattle.ldc_queue.specs.Fragments.{Fragment, fragment_at, is_part}
 use Rattle.ldc_queue.specs.Transcript.{Heard, Said, Turn}
 use Rattle.channel_model.specs.Messages.{ended_by, opening_sid, sid_in, sid_of, whole_with}
-use Rattle.channel_model.specs.Sayings.{half_heard, half_said, heard, said, whole_past}
+use Rattle.channel_model.specs.Sayings.{half_heard, half_said, heard, said, whole_by, whole_past}
 use Rattle.port_model.proofs.Refuting.{none_some}
 use Rattle.port_model.specs.EndLog.{SessionLog, heard_in, heard_kind, opened_log, said_in, said_kind}
-use Rattle.port_model.specs.Spoken.{RangeInfo, Spoken}
+use Rattle.port_model.specs.Spoken.{GroupsNack, Other, RangeInfo, Spoken}
 use Rattle.port_laws.proofs.PeerOpens.{row}
 
 -- A SESSION of the log
@@ -33,8 +33,11 @@ abbrev pub Grown : Option (List ℕ) → List (List ℕ) → List (List ℕ) →
 Grown None before now = now ≡ before
 Grown (Some message) before now = now ≡ before ++ message ∷ []
 
+grown_by : (stop : Bool) (message : List ℕ) (messages : List (List ℕ)) → Grown (whole_with stop message) messages (whole_by stop message messages)
+grown_by stop message messages = grind arith
+
 grown : (b : Bool) (part : Fragment) (half : List ℕ) (messages : List (List ℕ)) → Grown (whole_with (b && part.stop) (half ++ part.bytes)) messages (whole_past b part half messages)
-grown b part half messages = grind arith
+grown b part half messages = grind (arith, grown_by)
 
 pub heard_grown : (turns : List Turn) (packet : List ℕ) → Grown (ended_by (half_heard turns) packet) (heard turns) (heard (Heard packet ∷ turns))
 heard_grown turns packet = grown (is_part packet) (fragment_at packet) (half_heard turns) (heard turns)
@@ -51,9 +54,10 @@ get_more (one ∷ messages) more zero message get = get
 get_more (one ∷ messages) more (suc n) message get = get_more messages more n message get
 
 pub get_last : (messages : List (List ℕ)) (n : ℕ) (message : List ℕ) → length messages ≡ n → slice_get (messages ++ message ∷ []) n ≡ Some message
+get_last [] zero message is = refl
 get_last [] (suc n) message is = absurd (omega (arith, is))
+get_last (one ∷ messages) zero message is = absurd (omega (arith, is))
 get_last (one ∷ messages) (suc n) message is = get_last messages n message (omega (arith, is))
-get_last messages n message is = grind arith
 
 grown_get : (o : Option (List ℕ)) (before now : List (List ℕ)) (n : ℕ) (message : List ℕ) → Grown o before now → slice_get before n ≡ Some message → slice_get now n ≡ Some message
 grown_get o before now n message is get = grind (arith, get_more)
@@ -148,7 +152,12 @@ kind_spoke RangeInfo role slots turns now o message v spoke grows is six = recor
   quiet = λ none. absurd (omega (arith, none));
   many = λ some. omega (arith, six, ap length is, length-append (heard turns) (message ∷ []));
 }
-kind_spoke k role slots turns now o message v spoke grows is six = grind (arith, same_spoke, length-append)
+kind_spoke GroupsNack role slots turns now o message v spoke grows is six =
+    same_spoke role turns now o v v spoke grows (omega (arith, ap length is, length-append (heard turns) (message ∷ []))) (record { sid = refl; asked = refl; taken = refl })
+kind_spoke Other role slots turns now o message v spoke grows is six =
+    same_spoke role turns now o v v spoke grows (omega (arith, ap length is, length-append (heard turns) (message ∷ []))) (record { sid = refl; asked = refl; taken = refl })
+kind_spoke k role slots turns now o message v spoke grows is six =
+    same_spoke role turns now o v (heard_kind slots k message v) spoke grows (omega (arith, ap length is, length-append (heard turns) (message ∷ []))) (record { sid = refl; asked = refl; taken = refl })
 
 ended_spoke : (ended : Option (List ℕ)) (role : Role) (slots : ℕ) (turns now : List Turn) (o : Option (List ℕ)) (v : SessionLog) → Spoke role turns v → Grown o (row role turns) (row role now)
     → Grown ended (heard turns) (heard now) → 6 ≤ length (heard turns) → Spoke role now (heard_in slots ended v)

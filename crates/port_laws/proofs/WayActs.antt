@@ -37,8 +37,10 @@ open_acts slots turns others (Took packet false) l v w is some goes fits ways =
     (hears_ways slots ended (said turns) (heard turns) (heard (Heard packet ∷ turns)) (said others) (heard others) fits.1.0 v w some fits.2 ways (heard_grown turns packet) fits.1.1)
 open_acts slots turns others Blocked l v w is some goes fits ways = subst (λ (o : Option SessionLog). Between slots turns others (or_new o) w) (sym is) ways
 open_acts slots turns others Idle l v w is some goes fits ways = subst (λ (o : Option SessionLog). Between slots turns others (or_new o) w) (sym is) ways
-open_acts slots turns others (Published id) l v w is some goes fits ways = rw is (published_ways _ _ _ _ _ v w ways)
-open_acts slots turns others (Frame frame) l v w is some goes fits ways = rw is (frame_ways _ _ _ _ _ v w fits ways)
+open_acts slots turns others (Published id) l v w is some goes fits ways =
+    subst (λ (o : Option SessionLog). Between slots turns others (or_new (change more_published o)) w) (sym is) (published_ways slots (said turns) (heard turns) (said others) (heard others) v w ways)
+open_acts slots turns others (Frame frame) l v w is some goes fits ways =
+    subst (λ (o : Option SessionLog). Between slots turns others (or_new (change more_taken o)) w) (sym is) (frame_ways slots (said turns) (heard turns) (said others) (heard others) v w fits ways)
 open_acts slots turns others (Joined lost) l v w is some goes fits ways = absurd goes
 open_acts slots turns others (Reset cause packet lost) l v w is some goes fits ways = absurd goes
 

@@ -1,5 +1,5 @@
 -- Along every run of a port that nobody forged, what is on the way between its ends agrees with what both count.
-use Rattle.std.proofs.Common.{◌≡◌, ◌≢◌, ℕ, ◌+◌, ◌≤◌, true, false, Option, Some, None, List, [], ◌∷◌, length, refl, sym, ap, ◌∙◌, subst, arith}
+use Rattle.std.proofs.Common.{◌≡◌, ◌≢◌, ℕ, ◌+◌, ◌≤◌, Bool, true, false, Option, Some, None, List, [], ◌∷◌, length, refl, sym, ap, ◌∙◌, subst, arith}
 use Rattle.std.specs.Prelude.{is_some, ⊤}
 use Rattle.ldc_link.specs.declared.phase.Role.TheVariants.{Initiator, Responder}
 use Rattle.ldc_queue.specs.declared.end.ChannelState.{ChannelState}
@@ -19,6 +19,7 @@ use Rattle.channel_model.specs.WireLog.{WireLog}
 use Rattle.channel_laws.specs.Sides.{sides_of, swapped}
 use Rattle.port_model.proofs.Refuting.{none_some, true_false}
 use Rattle.port_model.specs.EndLog.{EndLog, SessionLog, change, opened_log}
+use Rattle.port_model.specs.NetEndState.{NetSession}
 use Rattle.port_model.specs.NetEndStep.{Frame, Given, Joined, NetAnswer, NetLeft, Reset, Sent, Took}
 use Rattle.port_model.specs.NetEvent.{Asked, Gives, Injects, Loses, NetEvent, Pokes, Steps, Ticked, on_wire}
 use Rattle.port_model.specs.NetLaneState.{IsNetShape, NetLaneState, NetShape, memory_of, net_end, reach_of, role_at, seen_at}
@@ -26,7 +27,7 @@ use Rattle.port_model.specs.NetLaneStep.{EndSteps, NetLaneStep, moved_on}
 use Rattle.port_model.specs.PortLog.{PortLog, after, after_answer, after_given, log_of_end, no_events}
 use Rattle.port_model.specs.PortState.{OfQueue, OnLane, PortEvent, PortState, PortStep, Receives, before, fresh_port}
 use Rattle.port_laws.specs.NetCore.{lane_core}
-use Rattle.port_laws.specs.RingStands.{taken_in}
+use Rattle.port_laws.specs.RingStands.{RingIn, taken_in}
 use Rattle.port_laws.specs.WaysStand.{Ways, WaysStand, or_new}
 use Rattle.port_laws.proofs.EndCounting.{left_seen}
 use Rattle.port_laws.proofs.PortCounts.{PortCounts, before_queue, before_wire, queue_of}
@@ -42,21 +43,27 @@ use Rattle.port_laws.proofs.StepCounts.{sent_right}
 use Rattle.port_laws.proofs.WayActs.{AnswerFits, ClosedFits, closed_acts, first_ways, open_acts}
 use Rattle.port_laws.proofs.WayMoves.{Plain, RightIn, swap_ways}
 use Rattle.port_laws.proofs.WayPlain.{BothPlain, closed_plain, open_heard, open_said}
-use Rattle.port_laws.proofs.ReadyFrames.{by_value}
 
 -- THE FRAMES THAT THE PEER TOOK are at most a turn of the ring
 pub new_taken : (log : Option SessionLog) → (or_new log).taken ≡ taken_in log
 new_taken log = grind arith
 
+turn_of : (slots taken seen : ℕ) (session : Option NetSession) (frames : List (List ℕ)) (memory : List ℕ) (p : NetSession) → session ≡ Some p → p.seen ≡ seen → RingIn slots taken session frames memory
+    → taken ≤ seen + slots
+turn_of slots taken seen session frames memory p is same ring = grind arith
+
 pub turn_at : (shape : NetShape) (e : End) (u : PortState) (l : PortLog) (v : SessionLog) → Finds shape u l → state_of e u.lane.wire.wire ≡ Up → state_of (peer_of e) u.lane.wire.wire ≡ Up
     → (log_of_end e l).session ≡ Some v → (or_new (log_of_end (peer_of e) l).session).taken ≤ v.seen + l.shape.slots
-turn_at shape e u l v finds up other is = grind (arith, both_open, end_counted, left_seen, ring_of_end, new_taken)
+turn_at shape e u l v finds up other is = grind (arith, both_open, end_counted, left_seen, turn_of, ring_of_end, new_taken)
 
 -- WHAT AN ANSWER FITS in a session
 right_in : (slots : ℕ) (groups : List (List ℕ)) (l : EndLog) (v : SessionLog) (ended : Option (List ℕ)) → l.session ≡ Some v
     → SaidRight slots groups l ended → RightIn slots groups v ended
 right_in slots groups l v None is right = tt
 right_in slots groups l v (Some message) is right = right message v refl is
+
+not_opens : (opens : Bool) → (opens ≡ true → ⊥) → opens ≡ false
+not_opens opens not = grind arith
 
 fits_at : (shape : NetShape) (e : End) (u t : PortState) (l : PortLog) (answer : NetAnswer) (left : NetLeft) (v : SessionLog) → Acts shape e u t l answer left → state_of (peer_of e) u.lane.wire.wire ≡ Up
     → (log_of_end e l).session ≡ Some v → IsFront (heard (turns_now answer (transcript_of e l.transcript))) (said (transcript_of (peer_of e) l.transcript))
@@ -75,7 +82,7 @@ fits_at shape e u t l answer left v acts other is front = by_answer answer acts 
         let right = sent_right (role_at e) shape.slots (queue_of e u) (net_end e u.lane) (log_of_end e l) (transcript_of e l.transcript) (seen_at e u.lane) (memory_of e u.lane) (reach_of e u.lane) packet opens
         left acting moves.step in
         let slots : shape.slots ≡ l.shape.slots = sym (ap (λ (z : NetShape). z.slots) moves.finds.ready.shape_is) in (
-          by_value opens (never (Sent packet opens) moves),
+          not_opens opens (never (Sent packet opens) moves),
           (
             moves.step.held.groups,
             subst (λ (n : ℕ). RightIn n moves.step.held.groups v (ended_by (half_said (transcript_of e l.transcript)) packet)) slots
@@ -83,7 +90,7 @@ fits_at shape e u t l answer left v acts other is front = by_answer answer acts 
           ),
         )
     by_answer (Took packet opens) moves ahead = (
-      by_value opens (never (Took packet opens) moves),
+      not_opens opens (never (Took packet opens) moves),
       ahead,
       turn_at shape e u l v moves.finds (acts_up_at shape e u t l (Took packet opens) left moves tt) other is,
     )
@@ -137,8 +144,10 @@ guest_first : (shape : NetShape) (u t : PortState) (l : PortLog) (packet : List 
     → Ways l.shape.slots (said (Said packet ∷ l.transcript.client)) (heard l.transcript.client) (said l.transcript.server) (heard l.transcript.server)
     (opened_log (opening_sid (half_said l.transcript.client) packet)) (or_new l.hub.session)
 guest_first shape u t l packet left acts up other none =
-    let few = (turned_at shape A u t l (Sent packet true) left acts tt).few none in
+    let turned = turned_at shape A u t l (Sent packet true) left acts tt in
+    let few = turned.few none in
     let then_ = after l (OnLane (Steps A (Sent packet true))) in
+    let up_before = acts_up_at shape A u t l (Sent packet true) left acts tt in
     let other_before = peer_was_up shape A u t l (Sent packet true) left acts tt other in
     let hub_shut : l.hub.session ≡ None = hub_none shape u l acts.finds other_before none in
     let hub = open_both Responder shape.slots u.queue u.lane.hub l.hub acts.finds.ready.hub in
@@ -166,11 +175,15 @@ guest_ways shape u t l answer left acts ways up other some =
     as_now : Now (turns_now answer l.transcript.client) l.transcript.server (after_answer l.shape.slots l.transcript.client answer l.guest).session
         → Ways l.shape.slots (said then_.transcript.client) (heard then_.transcript.client) (said then_.transcript.server) (heard then_.transcript.server) (or_new then_.guest.session) (or_new then_.hub.session)
     as_now one =
-        let turns = turns_at A l.transcript answer in rw (turns.mine, turns.theirs) one
+        let turns = turns_at A l.transcript answer in
+        subst (λ (xs : List Turn). Ways l.shape.slots (said xs) (heard xs) (said then_.transcript.server) (heard then_.transcript.server) (or_new then_.guest.session) (or_new then_.hub.session)) (sym turns.mine)
+        (subst (λ (xs : List Turn). Ways l.shape.slots (said (turns_now answer l.transcript.client)) (heard (turns_now answer l.transcript.client)) (said xs) (heard xs) (or_new then_.guest.session) (or_new then_.hub.session))
+        (sym turns.theirs) one)
 
     front : IsFront (heard (turns_now answer l.transcript.client)) (said l.transcript.server)
     front =
-        let turns = turns_at A l.transcript answer in rw turns.mine at (rw turns.theirs at (acts.two_ends.front_a up))
+        let turns = turns_at A l.transcript answer in
+        subst (λ (xs : List Turn). IsFront (heard xs) (said l.transcript.server)) turns.mine (subst (λ (xs : List Turn). IsFront (heard then_.transcript.client) (said xs)) turns.theirs (acts.two_ends.front_a up))
 
     by_log : (log : Option SessionLog) → l.guest.session ≡ log → Goes answer
         → Ways l.shape.slots (said then_.transcript.client) (heard then_.transcript.client) (said then_.transcript.server) (heard then_.transcript.server) (or_new then_.guest.session) (or_new then_.hub.session)
@@ -183,7 +196,8 @@ guest_ways shape u t l answer left acts ways up other some =
         let turned = turned_at shape A u t l answer left acts goes in
         let opening = opening_sent l.shape.slots l.transcript.client answer l.guest is some (turned.few is) (turned.many some) in
         let same : answer ≡ Sent opening.0 true = opening.1 in
-        as_now (rw same (guest_first shape u t l opening.0 left (rw same at acts) up other is))
+        as_now (subst (λ (given : NetAnswer). Now (turns_now given l.transcript.client) l.transcript.server (after_answer l.shape.slots l.transcript.client given l.guest).session) (sym same)
+        (guest_first shape u t l opening.0 left (subst (λ (given : NetAnswer). Acts shape A u t l given left) same acts) up other is))
 
 -- A STEP OF THE SWITCH'S END
 pub hub_plain : (shape : NetShape) (u t : PortState) (l : PortLog) (answer : NetAnswer) (left : NetLeft) → Acts shape B u t l answer left → Goes answer → IsUp B t.lane.wire.wire → l.hub.session ≡ None
@@ -221,12 +235,19 @@ hub_plain shape u t l answer left acts goes up none = by_log then_.hub.session r
     heard_short _ few = omega (arith, few)
 
     said_same : (given : NetAnswer) → length (heard l.transcript.server) ≤ 5 → 6 ≤ length (heard (turns_now given l.transcript.server)) → Plain (said (turns_now given l.transcript.server))
-    said_same given few many = grind (arith, was)
+    said_same (Sent packet opens) few many = absurd (omega (arith, few, many))
+    said_same (Joined lost) few many = absurd (omega (arith, many))
+    said_same (Reset cause packet lost) few many = absurd (omega (arith, many))
+    said_same _ few many = was.said_plain
 
     by_log : (log : Option SessionLog) → then_.hub.session ≡ log → ClosedFits l.transcript.server l.transcript.client answer
     by_log None is =
         let plain = closed_plain (asks_of shape) (answers_of shape) Responder (swapped (sides_of (lane_core t.lane) then_.transcript)) (acts.two_ends.two_ends B) up (hub.shut is) in
-        grind (arith, now, front)
+        record {
+          said_plain = subst (λ (xs : List Turn). Plain (said xs)) now plain.said_plain;
+          heard_plain = subst (λ (xs : List Turn). Plain (heard xs)) now plain.heard_plain;
+          front = front;
+        }
     by_log (Some w) is =
         let some : then_.hub.session ≢ None = λ gone. none_some w (sym gone ∙ is) in
         let turned = turned_at shape B u t l answer left acts goes in
@@ -283,9 +304,10 @@ hub_ways shape u t l answer left acts ways other up some = by_log l.hub.session 
     as_now : Now l.transcript.client (turns_now answer l.transcript.server) (after_answer l.shape.slots l.transcript.server answer l.hub).session
         → Ways l.shape.slots (said then_.transcript.client) (heard then_.transcript.client) (said then_.transcript.server) (heard then_.transcript.server) (or_new then_.guest.session) (or_new then_.hub.session)
     as_now one =
-        swap_ways l.shape.slots (said then_.transcript.server) (heard then_.transcript.server) (said
-        then_.transcript.client) (heard then_.transcript.client) (or_new then_.hub.session) (or_new then_.guest.session)
-        (rw (now, same) one)
+        swap_ways l.shape.slots (said then_.transcript.server) (heard then_.transcript.server) (said then_.transcript.client) (heard then_.transcript.client) (or_new then_.hub.session) (or_new then_.guest.session)
+        (subst (λ (xs : List Turn). Ways l.shape.slots (said xs) (heard xs) (said then_.transcript.client) (heard then_.transcript.client) (or_new then_.hub.session) (or_new then_.guest.session)) (sym now)
+        (subst (λ (xs : List Turn). Ways l.shape.slots (said (turns_now answer l.transcript.server)) (heard (turns_now answer l.transcript.server)) (said xs) (heard xs) (or_new then_.hub.session) (or_new then_.guest.session))
+        (sym same) one))
 
     by_log : (log : Option SessionLog) → l.hub.session ≡ log
         → Ways l.shape.slots (said then_.transcript.client) (heard then_.transcript.client) (said then_.transcript.server) (heard then_.transcript.server) (or_new then_.guest.session) (or_new then_.hub.session)

@@ -125,8 +125,7 @@ has_memory _ side of_disk = tt
 module _ (names : NamesState) (w : DomainState) (disks : length w.first.lanes ≡ length names.disks)
     (ports : length w.second ≡ length names.ports) where
   same_number : (kind : LaneKind) → number_of_kind kind w ≡ count_of kind names
-  same_number kinds.Disk = disks
-  same_number _ = grind arith
+  same_number kind = grind arith
 
   within : (kind : LaneKind) (k : ℕ) → k < count_of kind names → k < number_of_kind kind w
   within kind k less = omega (arith, less, same_number kind)
