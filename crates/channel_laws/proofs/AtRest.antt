@@ -10,14 +10,14 @@ use Rattle.ldc_queue.specs.Fragments.{fragments_in}
 use Rattle.ldc_queue.specs.Messages.{whole_in}
 use Rattle.ldc_queue.specs.Numbered.{numbered}
 use Rattle.ldc_queue.specs.OneStream.{OneWay, live}
-use Rattle.ldc_queue.specs.Transcript.{Turn, numbered_heard, numbered_said}
+use Rattle.ldc_queue.specs.Transcript.{Utterance, numbered_heard, numbered_said}
 use Rattle.vio_handshake.specs.declared.session.Offer.{Offer}
 use Rattle.channel_model.proofs.SameSayings.{heard_is, said_is}
 use Rattle.channel_model.specs.Sayings.{heard, said}
 use Rattle.channel_laws.proofs.HandshakePlaces.{deal, place_open}
 use Rattle.channel_laws.proofs.HandshakesPlaced.{Meets}
 use Rattle.channel_laws.proofs.Lifting.{BothStand}
-use Rattle.channel_laws.proofs.WhoseTurn.{both_done}
+use Rattle.channel_laws.proofs.WhoOwes.{both_done}
 use Rattle.channel_laws.specs.Conversing.{Converse}
 use Rattle.channel_laws.specs.LinkPlaces.{LinksAt}
 use Rattle.channel_laws.specs.Sides.{Sides}
@@ -53,7 +53,7 @@ pub record HeardAll (s : Sides) : Type 0 where
   pub to_theirs : said s.mine.turns ≡ heard s.theirs.turns
   pub to_mine : said s.theirs.turns ≡ heard s.mine.turns
 
-same_messages : (mine theirs : List Turn) → numbered_said mine ≡ numbered_heard theirs → said mine ≡ heard theirs
+same_messages : (mine theirs : List Utterance) → numbered_said mine ≡ numbered_heard theirs → said mine ≡ heard theirs
 same_messages mine theirs same = said_is mine ∙ ap (λ (xs : List (List ℕ)). whole_in [] (fragments_in xs)) same ∙ sym (heard_is theirs)
 
 pub heard_all : (s : Sides) → BothRest s → Converse Initiator s → LinksAt Initiator s → HeardAll s

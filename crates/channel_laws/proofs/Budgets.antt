@@ -6,7 +6,7 @@ use Rattle.ldc_link.specs.declared.phase.LinkPhase.TheVariants as phase
 use Rattle.ldc_link.specs.declared.phase.Role.{Role}
 use Rattle.ldc_link.specs.declared.phase.Role.TheVariants.{Initiator, Responder}
 use Rattle.ldc_link.specs.LinkState.{LinkState, first_phase, is_established}
-use Rattle.ldc_queue.specs.Transcript.{Turn}
+use Rattle.ldc_queue.specs.Transcript.{Utterance}
 use Rattle.vio_handshake.specs.declared.handshake.Handshake.{Handshake}
 use Rattle.vio_handshake.specs.Rules.{opens_by_put, handshake_sent}
 use Rattle.vio_handshake.specs.State.{handshake_up}
@@ -16,7 +16,7 @@ use Rattle.channel_laws.proofs.EndStanding.{held_stands, holds_some, last_none}
 use Rattle.channel_laws.proofs.HandshakeCases.{RowSent, row_sent}
 use Rattle.channel_laws.proofs.LinkCases.{ControlPut, behind_part, behind_ready}
 use Rattle.channel_laws.proofs.Short.{short_within}
-use Rattle.channel_laws.proofs.TurnCases.{SaysLast}
+use Rattle.channel_laws.proofs.UtteranceCases.{SaysLast}
 use Rattle.channel_laws.specs.Budget.{budget, budget_in, messages_left, one_more, one_owed, opening_left, owed_left}
 use Rattle.channel_laws.specs.EndCore.{EndCore, holds}
 use Rattle.channel_laws.specs.EndStep.{EndAnew, EndSays, EndStays, EndWaits, Holding, Holds}
@@ -43,7 +43,7 @@ sent_less : (h t : Handshake) (opens : Bool) (more now : ℕ) → now ≤ 256 �
 sent_less h t opens more now most less sent = grind arith
 
 -- ITS BOUND
-pub budget_small : (role : Role) (c : EndCore) (turns : List Turn) → EndStands role c turns → budget c ≤ 34000
+pub budget_small : (role : Role) (c : EndCore) (turns : List Utterance) → EndStands role c turns → budget c ≤ 34000
 budget_small role c turns stands = grind arith
 
 -- IT BEGINS
@@ -62,10 +62,10 @@ same_budget c t link handshake own more = grind arith
 pub stays_budget : (c t : EndCore) → EndStays c t → budget t ≤ budget c
 stays_budget c t stays = same_budget c t stays.link stays.handshake stays.own stays.more
 
-pub held_budget : (role : Role) (c held : EndCore) (turns : List Turn) (what : Holding) → EndStands role c turns → Holds c what held → budget held ≤ budget c
+pub held_budget : (role : Role) (c held : EndCore) (turns : List Utterance) (what : Holding) → EndStands role c turns → Holds c what held → budget held ≤ budget c
 held_budget role c held turns what stands is = grind (arith, short_within)
 
-pub waits_budget : (role : Role) (c t : EndCore) (turns : List Turn) → EndStands role c turns → EndWaits c t → budget t ≤ budget c
+pub waits_budget : (role : Role) (c t : EndCore) (turns : List Utterance) → EndStands role c turns → EndWaits c t → budget t ≤ budget c
 waits_budget role c t turns stands waits = held_budget role c t turns waits.what stands waits.holds
 
 -- IT PUTS a packet
@@ -77,18 +77,18 @@ up_budget : (held t : EndCore) (left : List ℕ) (h : Handshake) → held.link.p
     → length left + 257 * (owed_left t.own left h.owed + one_more h.role h.phase) + 60 * (opening_left h.role h.phase + t.more) + 1 ≤ messages_left held → budget t + 1 ≤ budget held
 up_budget held t left h at link is handshake less = grind arith
 
-ready_budget : (role : Role) (held t : EndCore) (turns : List Turn) → EndStands role held turns → held.link.phase ≡ phase.OwesRdx → t.link ≡ behind_ready held.link
+ready_budget : (role : Role) (held t : EndCore) (turns : List Utterance) → EndStands role held turns → held.link.phase ≡ phase.OwesRdx → t.link ≡ behind_ready held.link
     → t.handshake ≡ handshake_up held.handshake → t.more ≤ held.more → budget t + 1 ≤ budget held
 ready_budget role held t turns stands at link handshake more = grind arith
 
-last_budget : (held t : EndCore) (turns : List Turn) (packet : List ℕ) (h : Handshake) → held.link.phase ≡ phase.Established → t.link ≡ behind_part held.link
+last_budget : (held t : EndCore) (turns : List Utterance) (packet : List ℕ) (h : Handshake) → held.link.phase ≡ phase.Established → t.link ≡ behind_part held.link
     → SaysLast held.link turns packet → t.handshake ≡ h
     → one_owed h.owed + one_more h.role h.phase ≤ owed_left held.own held.link.to_send held.handshake.owed + one_more held.handshake.role held.handshake.phase
     → opening_left h.role h.phase + t.more ≤ opening_left held.handshake.role held.handshake.phase + held.more → budget t + 1 ≤ budget held
 last_budget held t turns packet h at link last handshake owed opening =
     up_budget held t [] h at link (sym (last_none held.link turns packet last)) handshake (omega (arith, last.some, owed, opening))
 
-put_budget : (role : Role) (held t : EndCore) (turns : List Turn) (packet : List ℕ) (opens : Bool) → EndStands role held turns → t.more ≤ 256 → (opens ≡ false → t.more ≤ held.more)
+put_budget : (role : Role) (held t : EndCore) (turns : List Utterance) (packet : List ℕ) (opens : Bool) → EndStands role held turns → t.more ≤ 256 → (opens ≡ false → t.more ≤ held.more)
     → (holds held.link ≡ true → holds t.link ≡ true → t.own ≡ held.own) → PutWhat role held turns packet opens t → budget t + 1 ≤ budget held
 put_budget role held t turns packet opens stands most more own (PutControl next gone link quiet handshake not is_open) =
     omega (arith, ap (λ (k : LinkState). budget_in k.phase (messages_left t)) link, control_budget held.link.phase next packet (messages_left t) (messages_left held) gone)
@@ -117,7 +117,7 @@ put_budget role held t turns packet opens stands most more own (PutHandshake is 
     last_budget held t turns packet (handshake_sent held.handshake) at link last handshake
     (omega (arith, sent.owed, ap (λ (b : Bool). owed_left b held.link.to_send held.handshake.owed) is ∙ owed_held held.link.to_send held.handshake.owed last.some)) sent.opening
 
-pub says_budget : (role : Role) (c t : EndCore) (turns : List Turn) (packet : List ℕ) (opens : Bool) → EndStands role c turns → EndSays role c packet opens t → budget t + 1 ≤ budget c
+pub says_budget : (role : Role) (c t : EndCore) (turns : List Utterance) (packet : List ℕ) (opens : Bool) → EndStands role c turns → EndSays role c packet opens t → budget t + 1 ≤ budget c
 says_budget role c t turns packet opens stands says =
     let holds_so = held_stands role c says.held turns says.what stands says.holds in
     omega (

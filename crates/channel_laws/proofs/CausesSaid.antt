@@ -8,7 +8,7 @@ use Rattle.ldc_packet.specs.Fault.{first_fault}
 use Rattle.ldc_packet.specs.Spelling.{ctrl_at, env_at, seqid_at, type_at}
 use Rattle.ldc_queue.specs.Fragments.{fragment_at, is_part}
 use Rattle.ldc_queue.specs.Numbered.{is_numbered}
-use Rattle.ldc_queue.specs.Transcript.{Turn}
+use Rattle.ldc_queue.specs.Transcript.{Utterance}
 use Rattle.vio_handshake.specs.Rules.{is_declined}
 use Rattle.vio_tag.proofs.Deciding.{some_result}
 use Rattle.vio_tag.proofs.NoFault.{spelled_no_fault}
@@ -27,7 +27,7 @@ use Rattle.channel_model.specs.Sayings.{count_heard, half_heard}
 use Rattle.channel_model.specs.WireAt.{GapOf, counts_next}
 use Rattle.channel_laws.proofs.LinkResets.{other_number}
 use Rattle.channel_laws.proofs.Resets.{by_message}
-use Rattle.channel_laws.proofs.TurnCases.{EndsBy}
+use Rattle.channel_laws.proofs.UtteranceCases.{EndsBy}
 use Rattle.channel_laws.specs.PacketCauses.{JudgesRightly, OwnSays, SomeSays, body_cause, decoded_cause, fault_cause, message_cause, mode_cause, names_mode, number_cause, packet_cause, part_cause}
 use Rattle.channel_laws.specs.Resetting.{SaysWhy}
 
@@ -50,20 +50,20 @@ whole_is true m bytes is = let same : m ≡ bytes = cc is in (refl, sym same)
 whole_is false m bytes is = absurd (cc is)
 
 -- WHAT A CAUSE SAYS
-abbrev SaysIfAny : List Turn → List ℕ → Option Cause → Type 0
+abbrev SaysIfAny : List Utterance → List ℕ → Option Cause → Type 0
 SaysIfAny turns packet None = ⊤
 SaysIfAny turns packet (Some cause) = PacketSays turns packet cause × GapOf turns cause (Some packet)
 
-says_if : (turns : List Turn) (packet : List ℕ) (b : Bool) (one : Cause) (rest : Option Cause) → (b ≡ true → SaysIfAny turns packet (Some one)) → SaysIfAny turns packet rest
+says_if : (turns : List Utterance) (packet : List ℕ) (b : Bool) (one : Cause) (rest : Option Cause) → (b ≡ true → SaysIfAny turns packet (Some one)) → SaysIfAny turns packet rest
     → SaysIfAny turns packet (if b then Some one else rest)
 says_if turns packet true one rest says others = says refl
 says_if turns packet false one rest says others = others
 
-by_why : (turns : List Turn) (packet : List ℕ) (cause : Cause) → SaysWhy turns packet cause → SaysIfAny turns packet (Some cause)
+by_why : (turns : List Utterance) (packet : List ℕ) (cause : Cause) → SaysWhy turns packet cause → SaysIfAny turns packet (Some cause)
 by_why turns packet cause why = (why.says, why.gap)
 
 -- THE MESSAGE that a packet ends
-module _ (own : Message → Option Cause) (rightly : JudgesRightly own) (turns : List Turn) (packet bytes : List ℕ) (sound : first_fault packet ≡ None) (ends : EndsBy turns packet bytes) where
+module _ (own : Message → Option Cause) (rightly : JudgesRightly own) (turns : List Utterance) (packet bytes : List ℕ) (sound : first_fault packet ≡ None) (ends : EndsBy turns packet bytes) where
   told : (cause : Cause) → MessageSays bytes cause → SaysIfAny turns packet (Some cause)
   told cause says = by_why turns packet cause (by_message turns packet bytes cause sound ends says)
 
@@ -104,7 +104,7 @@ module _ (own : Message → Option Cause) (rightly : JudgesRightly own) (turns :
   decoded_told sid (Ok one) decodes =
       sid_told (nat_eq sid one.sid) sid one refl (spelled_no_fault bytes one decodes.message.0 decodes.message.1) decodes.message.1
 
-message_told : (own : Message → Option Cause) → JudgesRightly own → (sid : ℕ) (turns : List Turn) (packet : List ℕ) (whole : Option (List ℕ)) → first_fault packet ≡ None
+message_told : (own : Message → Option Cause) → JudgesRightly own → (sid : ℕ) (turns : List Utterance) (packet : List ℕ) (whole : Option (List ℕ)) → first_fault packet ≡ None
     → ended_by (half_heard turns) packet ≡ whole → SaysIfAny turns packet (message_cause own sid whole)
 message_told own rightly sid turns packet None sound is = tt
 message_told own rightly sid turns packet (Some bytes) sound is =
@@ -113,13 +113,13 @@ message_told own rightly sid turns packet (Some bytes) sound is =
     decoded_told own rightly turns packet bytes sound (record { part = flags.0; stop = flags.1; is = of.1 }) sid (some_result bytes).0 (some_result bytes).1
 
 -- THE PACKET
-part_told : (turns : List Turn) (packet : List ℕ) (part comes : Bool) (rest : Option Cause) → first_fault packet ≡ None → is_part packet ≡ part
+part_told : (turns : List Utterance) (packet : List ℕ) (part comes : Bool) (rest : Option Cause) → first_fault packet ≡ None → is_part packet ≡ part
     → may_come (half_heard turns) (fragment_at packet) ≡ comes → SaysIfAny turns packet rest → SaysIfAny turns packet (part_cause part comes rest)
 part_told turns packet true true rest sound is may says = says
 part_told turns packet true false rest sound is may says = ((sound, record { part = is; broken = may }), tt)
 part_told turns packet false comes rest sound is may says = (sound, tt)
 
-mode_told : (turns : List Turn) (packet : List ℕ) (rest : Option Cause) → first_fault packet ≡ None → SaysIfAny turns packet rest
+mode_told : (turns : List Utterance) (packet : List ℕ) (rest : Option Cause) → first_fault packet ≡ None → SaysIfAny turns packet rest
     → SaysIfAny turns packet (mode_cause (names_mode packet) (env_at packet) rest)
 mode_told turns packet rest sound says =
     says_if turns packet (names_mode packet && not (nat_eq (env_at packet) 1)) (the_cause.Mode (env_at packet)) rest
@@ -142,18 +142,18 @@ mode_told turns packet rest sound says =
     kind_of (inl is) = inl (eqb-true (ctrl_at packet) 2 is)
     kind_of (inr is) = inr (eqb-true (ctrl_at packet) 3 is)
 
-number_told : (turns : List Turn) (packet : List ℕ) (rest : Option Cause) → first_fault packet ≡ None → SaysIfAny turns packet rest
+number_told : (turns : List Utterance) (packet : List ℕ) (rest : Option Cause) → first_fault packet ≡ None → SaysIfAny turns packet rest
     → SaysIfAny turns packet (number_cause (is_numbered packet) (counts_next (count_heard turns)) (seqid_at packet) rest)
 number_told turns packet rest sound says = grind arith
 
-fault_told : (turns : List Turn) (packet : List ℕ) (fault : Option PacketFault) (rest : Option Cause) → first_fault packet ≡ fault → (first_fault packet ≡ None → SaysIfAny turns packet rest)
+fault_told : (turns : List Utterance) (packet : List ℕ) (fault : Option PacketFault) (rest : Option Cause) → first_fault packet ≡ fault → (first_fault packet ≡ None → SaysIfAny turns packet rest)
     → SaysIfAny turns packet (fault_cause fault rest)
 fault_told turns packet (Some fault) rest is says = (is, tt)
 fault_told turns packet None rest is says = says is
 
-packet_told : (own : Message → Option Cause) → JudgesRightly own → (sid : ℕ) (turns : List Turn) (packet : List ℕ) → SaysIfAny turns packet (packet_cause own sid turns packet)
+packet_told : (own : Message → Option Cause) → JudgesRightly own → (sid : ℕ) (turns : List Utterance) (packet : List ℕ) → SaysIfAny turns packet (packet_cause own sid turns packet)
 packet_told own rightly sid turns packet = search (fault_told, number_told, mode_told, part_told, message_told)
 
-pub cause_said : (own : Message → Option Cause) (sid : ℕ) (turns : List Turn) (packet : List ℕ) (cause : Cause) → JudgesRightly own → packet_cause own sid turns packet ≡ Some cause
+pub cause_said : (own : Message → Option Cause) (sid : ℕ) (turns : List Utterance) (packet : List ℕ) (cause : Cause) → JudgesRightly own → packet_cause own sid turns packet ≡ Some cause
     → PacketSays turns packet cause × GapOf turns cause (Some packet)
 cause_said own sid turns packet cause rightly is = subst (SaysIfAny turns packet) is (packet_told own rightly sid turns packet)

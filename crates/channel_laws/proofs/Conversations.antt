@@ -18,7 +18,7 @@ use Rattle.ldc_queue.specs.declared.end.End.TheVariants.{A}
 use Rattle.ldc_queue.specs.Numbered.{is_numbered, numbered}
 use Rattle.ldc_queue.specs.QueueEvent.{Close, Join, Lose, Put, Take}
 use Rattle.ldc_queue.specs.QueueLog.{WaitsLongest, lost_behind, lost_past}
-use Rattle.ldc_queue.specs.Transcript.{Turn}
+use Rattle.ldc_queue.specs.Transcript.{Utterance}
 use Rattle.ldc_queue.specs.Wire.{peer_behind, queue_behind, upset}
 use Rattle.channel_model.specs.WireLog.{lossy_behind}
 use Rattle.channel_laws.proofs.Budgets.{anew_budget, budget_small, says_budget, stays_budget, waits_budget}
@@ -26,7 +26,7 @@ use Rattle.channel_laws.proofs.EndCases.{PutControl, PutMore, PutOwn, PutReady, 
 use Rattle.channel_laws.proofs.EndStanding.{held_stands, stands_step}
 use Rattle.channel_laws.proofs.FewLost.{below_turn, few_begins, few_lost, few_lower, few_peer_lost, few_peer_put, few_peer_took, few_put, few_took, first_length, first_unnumbered, live_lower, live_small, unnumbered-append, up_budget, up_puts, up_takes}
 use Rattle.channel_laws.proofs.LinkCases.{ControlPut, LinkHeard, behind_part, canonical_is, put_quiet, ready_loud}
-use Rattle.channel_laws.proofs.TurnCases.{SaysPart}
+use Rattle.channel_laws.proofs.UtteranceCases.{SaysPart}
 use Rattle.channel_laws.specs.Budget.{budget}
 use Rattle.channel_laws.specs.Conversing.{AreFew, Converse, controls, live_budget, live_puts, live_takes, puts_left, queue_log, takes_left, unless, unnumbered}
 use Rattle.channel_laws.specs.EndCore.{EndCore, Hears}
@@ -90,7 +90,7 @@ control_advances before next bytes of put_holds = grind arith
 numbered_advances : (b : Bool) (before after : LinkPhase) → b ≡ true → puts_left after ≤ puts_left before → takes_left after ≤ takes_left before → PutAdvances b before after
 numbered_advances b before after is puts takes = record { puts = omega (arith, puts, with_number b is); takes = takes }
 
-put_ready : (held : EndCore) (turns : List Turn) (packet : List ℕ) → EndStands Initiator held turns → packet ≡ canonical (control Info held.link.put_next Rdx)
+put_ready : (held : EndCore) (turns : List Utterance) (packet : List ℕ) → EndStands Initiator held turns → packet ≡ canonical (control Info held.link.put_next Rdx)
     → is_numbered packet ≡ true
 put_ready held turns packet stands spelled =
     (ready_loud packet Info (canonical_is packet Info held.link.put_next Rdx tt (omega (arith, stands.link.follows.puts), tt) spelled)).0
@@ -98,7 +98,7 @@ put_ready held turns packet stands spelled =
 part_advances : (held t : EndCore) (packet : List ℕ) → t.link ≡ behind_part held.link → SaysPart held.link packet → PutAdvances (is_numbered packet) held.link.phase t.link.phase
 part_advances held t packet link part = grind arith
 
-put_advances : (held t : EndCore) (turns : List Turn) (packet : List ℕ) (opens : Bool) → EndStands Initiator held turns → PutWhat Initiator held turns packet opens t
+put_advances : (held t : EndCore) (turns : List Utterance) (packet : List ℕ) (opens : Bool) → EndStands Initiator held turns → PutWhat Initiator held turns packet opens t
     → PutAdvances (is_numbered packet) held.link.phase t.link.phase
 put_advances held t turns packet opens stands (PutControl next gone link quiet handshake not is_open) =
     subst (λ (p : LinkPhase). PutAdvances (is_numbered packet) held.link.phase p) (sym (ap (λ (k : LinkState). k.phase) link))

@@ -21,7 +21,7 @@ use Rattle.ldc_queue.specs.Messages.{whole_in}
 use Rattle.ldc_queue.specs.Numbered.{numbered}
 use Rattle.ldc_queue.specs.OneStream.{IsFront, OneStream, live}
 use Rattle.ldc_queue.specs.Transcript as turn
-use Rattle.ldc_queue.specs.Transcript.{Turn, numbered_heard, numbered_said}
+use Rattle.ldc_queue.specs.Transcript.{Utterance, numbered_heard, numbered_said}
 use Rattle.ldc_queue.specs.Wire.{peer_of}
 use Rattle.vio_handshake.specs.declared.session.Offer.{Offer}
 use Rattle.channel_model.proofs.SameSayings.{heard_is, said_is}
@@ -61,7 +61,7 @@ packets_of : (s : LaneCore) (transcript : TranscriptLog) (e : End) → Converse 
 packets_of s transcript A c up = heard_front (queue_log (sides_of s transcript) c.lost_mine c.lost_theirs) A c.stream up
 packets_of s transcript B c up = heard_front (queue_log (sides_of s transcript) c.lost_mine c.lost_theirs) B c.stream up
 
-pub messages_in_front : (mine theirs : List Turn) → IsFront (numbered_heard mine) (numbered_said theirs) → IsFront (heard mine) (said theirs)
+pub messages_in_front : (mine theirs : List Utterance) → IsFront (numbered_heard mine) (numbered_said theirs) → IsFront (heard mine) (said theirs)
 messages_in_front mine theirs front = search (heard_is, said_is, messages_front)
 
 pub messages_of : (s : LaneCore) (transcript : TranscriptLog) (e : End) → Converse Initiator (sides_of s transcript) → IsUp e s.wire.wire → IsFront (heard (transcript_of e transcript)) (said (transcript_of (peer_of e) transcript))
@@ -88,7 +88,7 @@ nothing_front : (xs ys : List (List ℕ)) → [] ≡ xs ++ ys → xs ≡ []
 nothing_front [] ys is = refl
 nothing_front (x ∷ xs) ys is = absurd (cc is)
 
-pub record HeardFrom (s : Sides) (now : List Turn) : Type 0 where
+pub record HeardFrom (s : Sides) (now : List Utterance) : Type 0 where
   pub front : IsFront (heard now) (said s.theirs.turns)
   pub none : (s.theirs.state ≡ Up → ⊥) → heard now ≡ []
 

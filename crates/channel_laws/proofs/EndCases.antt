@@ -5,7 +5,7 @@ use Rattle.std.proofs.lemmas.Bool.{leb-true}
 use Rattle.ldc_packet.specs.declared.packet.Body.TheVariants.{Rdx}
 use Rattle.ldc_packet.specs.declared.packet.Subtype.TheVariants.{Info}
 use Rattle.ldc_packet.specs.Spelling.{canonical as packet_bytes}
-use Rattle.ldc_queue.specs.Transcript.{Heard as Heard_, Turn}
+use Rattle.ldc_queue.specs.Transcript.{Heard as Heard_, Utterance}
 use Rattle.ldc_link.specs.declared.phase.LinkPhase.{LinkPhase}
 use Rattle.ldc_link.specs.declared.phase.LinkPhase.TheVariants as phase
 use Rattle.ldc_link.specs.declared.phase.Role.{Role}
@@ -28,13 +28,13 @@ use Rattle.channel_laws.proofs.Apart.{true_is_false}
 use Rattle.channel_laws.proofs.HandshakeCases.{HandshakeTook, goes_took, never_opens, opens_took}
 use Rattle.channel_laws.proofs.LinkCases.{ControlGone, ControlHeard, ControlPut, ControlTaken, LinkHeard, LinkPut, PartGone, PartHeard, ReadyGone, ReadyHeard, behind_part, behind_ready, canonical_is, link_heard, link_put, put_quiet, ready_loud}
 use Rattle.channel_laws.proofs.PutSayings.{control_kind}
-use Rattle.channel_laws.proofs.TurnCases.{EndsBy, HearsOn, SaysLast, SaysMore, SaysNothing, SaysPart, hears_on, says_last, says_more, says_nothing, says_part}
+use Rattle.channel_laws.proofs.UtteranceCases.{EndsBy, HearsOn, SaysLast, SaysMore, SaysNothing, SaysPart, hears_on, says_last, says_more, says_nothing, says_part}
 use Rattle.channel_laws.specs.EndCore.{EndCore}
 use Rattle.channel_laws.specs.EndStep.{EndHears, EndSays, HandshakeTakes, HearsDecoded, HearsWhole, IsOwn, kind_of, opened_by, risen_at}
 use Rattle.channel_laws.specs.Standing.{EndStands, IsPhaseOf}
 
 -- A MESSAGE that became whole by the packet
-pub record TookMessage (c : EndCore) (turns : List Turn) (packet : List ℕ) (now : LinkState) (message : Message) : Type 0 where
+pub record TookMessage (c : EndCore) (turns : List Utterance) (packet : List ℕ) (now : LinkState) (message : Message) : Type 0 where
   pub up : is_up c.link ≡ true
   pub stays : is_up now ≡ true
   pub bytes : List ℕ
@@ -45,7 +45,7 @@ pub record TookMessage (c : EndCore) (turns : List Turn) (packet : List ℕ) (no
   pub spells : SpellsMessage bytes message
 
 -- WHAT WAS HEARD: no message became whole; or a responder's link came up; or a message of the session did; or one of its handshake
-pub data TookWhat (role : Role) (c : EndCore) (turns : List Turn) (packet : List ℕ) (opens : Bool) (t : EndCore) (now : LinkState) : Type 0 where
+pub data TookWhat (role : Role) (c : EndCore) (turns : List Utterance) (packet : List ℕ) (opens : Bool) (t : EndCore) (now : LinkState) : Type 0 where
   NoMessage : is_up now ≡ is_up c.link → heard (Heard_ packet ∷ turns) ≡ heard turns → t.handshake ≡ c.handshake → opens ≡ false → t.is_open ≡ c.is_open
       → TookWhat role c turns packet opens t now
   Rises : role ≡ Responder → is_up c.link ≡ false → is_up now ≡ true → heard (Heard_ packet ∷ turns) ≡ heard turns → t.handshake ≡ handshake_up c.handshake → opens ≡ false
@@ -55,7 +55,7 @@ pub data TookWhat (role : Role) (c : EndCore) (turns : List Turn) (packet : List
   TookHandshake : (message : Message) → TookMessage c turns packet now message → HandshakeTook c.handshake message t.handshake opens → t.is_open ≡ (opens || c.is_open)
       → TookWhat role c turns packet opens t now
 
-pub record EndTook (role : Role) (c : EndCore) (turns : List Turn) (packet : List ℕ) (opens : Bool) (t : EndCore) : Type 0 where
+pub record EndTook (role : Role) (c : EndCore) (turns : List Utterance) (packet : List ℕ) (opens : Bool) (t : EndCore) : Type 0 where
   pub now : LinkState
   pub takes : TakesBytes c.link packet (Heard now)
   pub how : LinkHeard c.link packet now
@@ -70,12 +70,12 @@ pub put_down : (before : LinkPhase) (bytes : List ℕ) (next : LinkPhase) → Co
 put_down before bytes next put = grind arith
 
 -- A LINK that heard a packet stays up where it was, and nothing is whole by it where it wasn't
-pub record HearsUp (k m : LinkState) (turns : List Turn) (bytes : List ℕ) : Type 0 where
+pub record HearsUp (k m : LinkState) (turns : List Utterance) (bytes : List ℕ) : Type 0 where
   pub on : HearsOn turns bytes m.whole
   pub quiet : is_up k ≡ false → m.whole ≡ None
   pub up : is_up k ≡ true → is_up m ≡ true
 
-pub link_hears : (k m : LinkState) (turns : List Turn) (bytes : List ℕ) → k.whole ≡ None → Follows k turns → TakesBytes k bytes (Heard m) → HearsUp k m turns bytes
+pub link_hears : (k m : LinkState) (turns : List Utterance) (bytes : List ℕ) → k.whole ≡ None → Follows k turns → TakesBytes k bytes (Heard m) → HearsUp k m turns bytes
 link_hears k m turns bytes none follows takes = by_how (link_heard k m bytes takes)
   where
     on : HearsOn turns bytes m.whole
@@ -126,7 +126,7 @@ handshake_takes Responder h was opens message (GoesOpen g) t role_is is takes = 
 )
 handshake_takes role h was opens message (Faults cause) t role_is is takes = absurd takes
 
-by_decoded : (role : Role) (c : EndCore) (turns : List Turn) (packet bytes : List ℕ) (opens : Bool) (t : EndCore) (now : LinkState) (d : Result Message TagFault) → EndStands role c turns
+by_decoded : (role : Role) (c : EndCore) (turns : List Utterance) (packet bytes : List ℕ) (opens : Bool) (t : EndCore) (now : LinkState) (d : Result Message TagFault) → EndStands role c turns
     → is_up c.link ≡ true → is_up now ≡ true → now.whole ≡ Some bytes → HearsOn turns packet (Some bytes) → Decodes bytes d
     → HearsDecoded role c.handshake c.is_open d opens t → TookWhat role c turns packet opens t now
 by_decoded role c turns packet bytes opens t now (Ok message) stands up stays whole on decodes hears =
@@ -148,14 +148,14 @@ by_decoded role c turns packet bytes opens t now (Ok message) stands up stays wh
     ]
 by_decoded role c turns packet bytes opens t now (Err fault) stands up stays whole on decodes hears = absurd hears
 
-by_whole : (role : Role) (c : EndCore) (turns : List Turn) (packet : List ℕ) (opens : Bool) (t : EndCore) (now : LinkState) (whole : Option (List ℕ)) → EndStands role c turns
+by_whole : (role : Role) (c : EndCore) (turns : List Utterance) (packet : List ℕ) (opens : Bool) (t : EndCore) (now : LinkState) (whole : Option (List ℕ)) → EndStands role c turns
     → is_up c.link ≡ true → is_up now ≡ true → now.whole ≡ whole → HearsOn turns packet whole → HearsWhole role c.handshake c.is_open whole opens t
     → TookWhat role c turns packet opens t now
 by_whole role c turns packet opens t now None stands up stays whole on hears = NoMessage (stays ∙ sym up) on.messages hears.1 hears.0 hears.2
 by_whole role c turns packet opens t now (Some bytes) stands up stays whole on hears =
     by_decoded role c turns packet bytes opens t now hears.0 stands up stays whole on hears.1 hears.2
 
-pub end_took : (role : Role) (c t : EndCore) (turns : List Turn) (packet : List ℕ) (opens : Bool) → EndStands role c turns → EndHears role c packet opens t
+pub end_took : (role : Role) (c t : EndCore) (turns : List Utterance) (packet : List ℕ) (opens : Bool) → EndStands role c turns → EndHears role c packet opens t
     → EndTook role c turns packet opens t
 end_took role c t turns packet opens stands hears =
     record { now = hears.heard; takes = hears.takes; how = how; link = hears.link; what = by_how how }
@@ -202,7 +202,7 @@ end_took role c t turns packet opens stands hears =
 
 -- WHAT WAS SAID: a packet of the link's handshake; RDX, with which an initiator's link is up; a part that goes on; or the last of a message of
 -- the end's session or of its handshake
-pub data PutWhat (role : Role) (held : EndCore) (turns : List Turn) (packet : List ℕ) (opens : Bool) (t : EndCore) : Type 0 where
+pub data PutWhat (role : Role) (held : EndCore) (turns : List Utterance) (packet : List ℕ) (opens : Bool) (t : EndCore) : Type 0 where
   PutControl : (next : LinkPhase) → ControlPut held.link.phase packet next → t.link ≡ record held.link { phase = next } → SaysNothing turns packet
       → t.handshake ≡ held.handshake → opens ≡ false → t.is_open ≡ held.is_open → PutWhat role held turns packet opens t
   PutReady : role ≡ Initiator → held.link.phase ≡ phase.OwesRdx → packet ≡ packet_bytes (control Info held.link.put_next Rdx) → t.link ≡ behind_ready held.link → SaysNothing turns packet
@@ -222,7 +222,7 @@ opened_or : (role : Role) (h : Handshake) (was : Bool) → h.role ≡ role → o
 opened_or Initiator h was is = refl
 opened_or Responder h was is = sym (ap (λ (r : Role). opens_by_put r h.phase || was) is)
 
-pub end_put : (role : Role) (c t : EndCore) (turns : List Turn) (packet : List ℕ) (opens : Bool) → (says : EndSays role c packet opens t) → EndStands role says.held turns
+pub end_put : (role : Role) (c t : EndCore) (turns : List Utterance) (packet : List ℕ) (opens : Bool) → (says : EndSays role c packet opens t) → EndStands role says.held turns
     → PutWhat role says.held turns packet opens t
 end_put role c t turns packet opens says stands = by_how (link_put held.link t.link packet says.puts)
   where

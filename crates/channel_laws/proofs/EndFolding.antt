@@ -11,7 +11,7 @@ use Rattle.ldc_link.specs.Putting.{phase_behind_put}
 use Rattle.ldc_packet.specs.declared.packet.Body.TheVariants.{Rdx}
 use Rattle.ldc_packet.specs.declared.packet.Subtype.TheVariants.{Info}
 use Rattle.ldc_queue.specs.Fragments.{is_part}
-use Rattle.ldc_queue.specs.Transcript.{Heard as Heard_, Said as Said_, Turn}
+use Rattle.ldc_queue.specs.Transcript.{Heard as Heard_, Said as Said_, Utterance}
 use Rattle.vio_tag.proofs.Deciding.{some_result}
 use Rattle.vio_tag.proofs.Reading.{one_result, spelled_decodes}
 use Rattle.vio_tag.specs.declared.message.Message.{Message}
@@ -39,7 +39,7 @@ use Rattle.channel_laws.proofs.HandshakesPlaced.{envelope_reads, held_offer}
 use Rattle.channel_laws.proofs.Lifting.{EndsAll, ends_run}
 use Rattle.channel_laws.proofs.LinkCases.{LinkHeard, LinkPut, canonical_is, link_put, put_quiet, ready_loud}
 use Rattle.channel_laws.proofs.Sids.{loud_rdx, part_rdx, quiet_rdx, row_last, sent_last}
-use Rattle.channel_laws.proofs.TurnCases.{SaysLast, heard_none, heard_some, said_none, said_some}
+use Rattle.channel_laws.proofs.UtteranceCases.{SaysLast, heard_none, heard_some, said_none, said_some}
 use Rattle.channel_laws.specs.Cuts.{Carries}
 use Rattle.channel_laws.specs.EndCore.{Begins, EndCore, EndMove, Fails, Hears, Renews, Says, Stays, Waits, fresh_end}
 use Rattle.channel_laws.specs.EndFold.{EndFolds, behind_decoded, behind_heard, behind_said, decoded_of, down_with, handshake_of, is_of_session, moved_by, phase_heard, sent_unless, up_if, up_with}
@@ -113,7 +113,7 @@ joined_down : (role : Role) (offer : Offer) (h : Handshake) → h.role ≡ role 
 joined_down role offer h role_is offer_is = ap (λ (r : Role). downs r h.offer h.last_sid) role_is ∙ ap (λ (o : Offer). downs role o h.last_sid) offer_is
 
 -- A HANDSHAKE after one turn more
-module _ (role : Role) (offer : Offer) (last : ℕ) (turns : List Turn) (packet : List ℕ) where
+module _ (role : Role) (offer : Offer) (last : ℕ) (turns : List Utterance) (packet : List ℕ) where
   hears_so : (h g : Handshake) (ended : Option (List ℕ)) → is_rdx packet ≡ false → ended_by (half_heard turns) packet ≡ ended → h ≡ handshake_of role offer last turns
       → g ≡ behind_heard ended h → g ≡ handshake_of role offer last (Heard_ packet ∷ turns)
   hears_so h g ended apart ends is behind =
@@ -141,17 +141,17 @@ module _ (role : Role) (offer : Offer) (last : ℕ) (turns : List Turn) (packet 
       ∙ sym (ap (λ (b : Bool). up_if b (up_with role offer last) (behind_said (ended_by (half_said turns) packet) (handshake_of role offer last turns))) apart)
 
 -- AN END of these parts, with the same last sid
-pub record FoldsSo (role : Role) (c : EndCore) (turns : List Turn) : Type 0 where
+pub record FoldsSo (role : Role) (c : EndCore) (turns : List Utterance) : Type 0 where
   pub stands : EndStands role c turns
   pub folds : EndFolds role c turns
 
-same_last : (role : Role) (t : EndCore) (offer : Offer) (last : ℕ) (turns : List Turn) → t.offer ≡ offer → t.handshake.last_sid ≡ last → t.handshake ≡ handshake_of role offer last turns
+same_last : (role : Role) (t : EndCore) (offer : Offer) (last : ℕ) (turns : List Utterance) → t.offer ≡ offer → t.handshake.last_sid ≡ last → t.handshake ≡ handshake_of role offer last turns
     → t.handshake ≡ handshake_of role t.offer t.handshake.last_sid turns
 same_last role t offer last turns offered same is =
     is ∙ sym (ap (λ (o : Offer). handshake_of role o t.handshake.last_sid turns) offered ∙ ap (λ (n : ℕ). handshake_of role offer n turns) same)
 
 -- IT HEARS a packet
-hears_folds : (role : Role) (c t : EndCore) (turns : List Turn) (packet : List ℕ) (opens : Bool) → EndStands role c turns → EndFolds role c turns → EndHears role c packet opens t
+hears_folds : (role : Role) (c t : EndCore) (turns : List Utterance) (packet : List ℕ) (opens : Bool) → EndStands role c turns → EndFolds role c turns → EndHears role c packet opens t
     → EndFolds role t (Heard_ packet ∷ turns)
 hears_folds role c t turns packet opens stands folds hears = record {
   phase = ap (λ (x : LinkState). x.phase) took.link ∙ heard_phase c.link took.now packet took.how ∙ ap (λ (p : LinkPhase). phase_heard (is_part packet) p packet) folds.phase;
@@ -194,7 +194,7 @@ hears_folds role c t turns packet opens stands folds hears = record {
         took_message.spells (moves_to c.handshake t.handshake message handshake.takes) folds.handshake)
 
 -- IT SAYS a packet
-says_folds : (role : Role) (c t : EndCore) (turns : List Turn) (packet : List ℕ) (opens : Bool) → EndStands role c turns → EndFolds role c turns → EndSays role c packet opens t
+says_folds : (role : Role) (c t : EndCore) (turns : List Utterance) (packet : List ℕ) (opens : Bool) → EndStands role c turns → EndFolds role c turns → EndSays role c packet opens t
     → EndFolds role t (Said_ packet ∷ turns)
 says_folds role c t turns packet opens stands folds says = record {
   phase = link_phase_put held.link t.link packet (link_put held.link t.link packet says.puts) ∙ ap phase_behind_put (held_phase c held says.what says.holds ∙ folds.phase);
@@ -261,13 +261,13 @@ says_folds role c t turns packet opens stands folds says = record {
         (said_some turns packet bytes last_part.messages) was (sym (ap (λ (b : Bool). sent_unless b held.handshake) (owed_is held.own bytes own (whole last_part at)))))
 
 -- EACH MOVE
-begins_folds : (role : Role) (c t : EndCore) (turns : List Turn) → EndStands role c turns → EndBegins c t → EndFolds role t []
+begins_folds : (role : Role) (c t : EndCore) (turns : List Utterance) → EndStands role c turns → EndBegins c t → EndFolds role t []
 begins_folds role c t turns stands begins = grind arith
 
-held_folds : (role : Role) (c t : EndCore) (turns : List Turn) → EndFolds role c turns → t.link.phase ≡ c.link.phase → t.handshake ≡ c.handshake → t.offer ≡ c.offer → EndFolds role t turns
+held_folds : (role : Role) (c t : EndCore) (turns : List Utterance) → EndFolds role c turns → t.link.phase ≡ c.link.phase → t.handshake ≡ c.handshake → t.offer ≡ c.offer → EndFolds role t turns
 held_folds role c t turns folds link handshake offer = search
 
-folds_move : (role : Role) (c : EndCore) (move : EndMove) (t : EndCore) (turns : List Turn) → FoldsSo role c turns → EndStep role c move t → EndFolds role t (turns_after turns move)
+folds_move : (role : Role) (c : EndCore) (move : EndMove) (t : EndCore) (turns : List Utterance) → FoldsSo role c turns → EndStep role c move t → EndFolds role t (turns_after turns move)
 folds_move role c Begins t turns so step = begins_folds role c t turns so.stands step
 folds_move Initiator c Renews t turns so step = record {
   phase = ap (λ (k : LinkState). k.phase) step.link;
@@ -285,7 +285,7 @@ folds_move role c Waits t turns so step =
     held_folds role c t turns so.folds (held_phase c t step.what step.holds) (held_handshake c t step.what step.holds) (held_offer c t step.what step.holds)
 folds_move role c Stays t turns so step = held_folds role c t turns so.folds (ap (λ (k : LinkState). k.phase) step.link) step.handshake step.offer
 
-folds_step : (role : Role) (c : EndCore) (move : EndMove) (t : EndCore) (turns : List Turn) → FoldsSo role c turns → EndStep role c move t → FoldsSo role t (turns_after turns move)
+folds_step : (role : Role) (c : EndCore) (move : EndMove) (t : EndCore) (turns : List Utterance) → FoldsSo role c turns → EndStep role c move t → FoldsSo role t (turns_after turns move)
 folds_step role c move t turns so step = record { stands = stands_step role c move t turns so.stands step; folds = folds_move role c move t turns so step }
 
 -- ALONG EVERY RUN

@@ -2,7 +2,7 @@
 use Rattle.std.proofs.Common.{◌≡◌, ℕ, Bool, true, false, Option, Some, None, inl, inr, List, [], ◌∷◌, ◌++◌, refl, sym, ap, ◌∙◌, subst, arith}
 use Rattle.ldc_link.specs.declared.phase.Role.{Role}
 use Rattle.ldc_link.specs.declared.phase.Role.TheVariants.{Initiator, Responder}
-use Rattle.ldc_queue.specs.Transcript.{Heard, Turn}
+use Rattle.ldc_queue.specs.Transcript.{Heard, Utterance}
 use Rattle.map_table.specs.declared.cookie.Cookie.{Cookie}
 use Rattle.ldc_link.specs.LinkState.{LinkState}
 use Rattle.vio_handshake.specs.declared.handshake.Handshake.{Handshake}
@@ -212,21 +212,21 @@ up_rests : (role : Role) (h : Handshake) (now : List (List ℕ)) → h.role ≡ 
 up_rests role h now is = subst (λ (r : Role). RestsOn role (begun r (joined_handshake h)) now) (sym is) (begun_rests role h now is)
 
 -- EACH MOVE
-pub record StandsResting (role : Role) (c : EndCore) (turns : List Turn) : Type 0 where
+pub record StandsResting (role : Role) (c : EndCore) (turns : List Utterance) : Type 0 where
   pub stands : EndStands role c turns
   pub rests : RestsOn role c.handshake (heard turns)
 
 same_handshake : (role : Role) (h g : Handshake) (now : List (List ℕ)) → g ≡ h → RestsOn role h now → RestsOn role g now
 same_handshake role h g now is rests = subst (λ (x : Handshake). RestsOn role x now) (sym is) rests
 
-begins_rests : (role : Role) (c t : EndCore) (turns : List Turn) → EndStands role c turns → EndBegins c t → RestsOn role t.handshake []
+begins_rests : (role : Role) (c t : EndCore) (turns : List Utterance) → EndStands role c turns → EndBegins c t → RestsOn role t.handshake []
 begins_rests role c t turns stands begins =
     same_handshake role (joined_handshake c.handshake) t.handshake [] begins.handshake (record { role_is = stands.handshake.role_is; sid = tt; version = tt; own = tt; peer = tt })
 
 pub held_handshake : (c held : EndCore) (what : Holding) → Holds c what held → held.handshake ≡ c.handshake
 held_handshake c held what is = grind arith
 
-hears_rests : (role : Role) (c t : EndCore) (turns : List Turn) (packet : List ℕ) (opens : Bool) → StandsResting role c turns → EndHears role c packet opens t
+hears_rests : (role : Role) (c t : EndCore) (turns : List Utterance) (packet : List ℕ) (opens : Bool) → StandsResting role c turns → EndHears role c packet opens t
     → RestsOn role t.handshake (heard (Heard packet ∷ turns))
 hears_rests role c t turns packet opens all hears = by_what (end_took role c t turns packet opens all.stands hears).what
   where
@@ -247,7 +247,7 @@ hears_rests role c t turns packet opens all hears = by_what (end_took role c t t
     by_what (TookHandshake message took handshake is_open) =
         let both = grown message _ took in row_rests role c.handshake t.handshake message opens now both.0 both.1 handshake.sid handshake.row
 
-says_rests : (role : Role) (c t : EndCore) (turns : List Turn) (packet : List ℕ) (opens : Bool) → StandsResting role c turns → EndSays role c packet opens t
+says_rests : (role : Role) (c t : EndCore) (turns : List Utterance) (packet : List ℕ) (opens : Bool) → StandsResting role c turns → EndSays role c packet opens t
     → RestsOn role t.handshake (heard turns)
 says_rests role c t turns packet opens all says = by_what (end_put role c t turns packet opens says held)
   where
@@ -267,7 +267,7 @@ says_rests role c t turns packet opens all says = by_what (end_put role c t turn
         same_handshake role (handshake_sent says.held.handshake) t.handshake (heard turns) handshake
         (sent_rests role says.held.handshake (handshake_sent says.held.handshake) _ (heard turns) rests (row_sent says.held.handshake))
 
-rests_step : (role : Role) (c : EndCore) (move : EndMove) (t : EndCore) (turns : List Turn) → StandsResting role c turns → EndStep role c move t
+rests_step : (role : Role) (c : EndCore) (move : EndMove) (t : EndCore) (turns : List Utterance) → StandsResting role c turns → EndStep role c move t
     → RestsOn role t.handshake (heard (turns_after turns move))
 rests_step role c Begins t turns all step = begins_rests role c t turns all.stands step
 rests_step Initiator c Renews t turns all step =
@@ -281,10 +281,10 @@ rests_step role c (Says packet opens) t turns all step = says_rests role c t tur
 rests_step role c Waits t turns all step = same_handshake role c.handshake t.handshake (heard turns) (held_handshake c t step.what step.holds) all.rests
 rests_step role c Stays t turns all step = same_handshake role c.handshake t.handshake (heard turns) step.handshake all.rests
 
-pub resting_step : (role : Role) (c : EndCore) (move : EndMove) (t : EndCore) (turns : List Turn) → StandsResting role c turns → EndStep role c move t
+pub resting_step : (role : Role) (c : EndCore) (move : EndMove) (t : EndCore) (turns : List Utterance) → StandsResting role c turns → EndStep role c move t
     → StandsResting role t (turns_after turns move)
 resting_step role c move t turns all step = record { stands = stands_step role c move t turns all.stands step; rests = rests_step role c move t turns all step }
 
 -- AN OPEN SESSION
-pub open_rests : (role : Role) (c : EndCore) (turns : List Turn) → StandsResting role c turns → c.is_open ≡ true → OpenRests role c.handshake (heard turns)
+pub open_rests : (role : Role) (c : EndCore) (turns : List Utterance) → StandsResting role c turns → c.is_open ≡ true → OpenRests role c.handshake (heard turns)
 open_rests role c turns all is = grind arith

@@ -12,7 +12,7 @@ use Rattle.ldc_link.specs.LinkState.{LinkState, is_established, is_up, offered}
 use Rattle.ldc_link.specs.Putting.{begun_behind_put, behind_put, left_behind_put, owed_packet, owes, owes_control, with_link}
 use Rattle.ldc_packet.specs.declared.packet.Packet.{Packet}
 use Rattle.ldc_queue.specs.Messages.{is_empty}
-use Rattle.ldc_queue.specs.Transcript.{Turn}
+use Rattle.ldc_queue.specs.Transcript.{Utterance}
 use Rattle.vio_handshake.specs.declared.handshake.Handshake.{Handshake}
 use Rattle.vio_tag.specs.declared.message.Message.{Message}
 use Rattle.vio_tag.specs.Spelling.{canonical}
@@ -67,7 +67,7 @@ stuck_own Clear owed is = false_is_true is
 stuck_own _ owed is = refl
 
 -- what an end has to send, its link is up for
-pub some_holds : (role : Role) (c : EndCore) (turns : List Turn) → EndStands role c turns → 1 ≤ length c.link.to_send → holds c.link ≡ true
+pub some_holds : (role : Role) (c : EndCore) (turns : List Utterance) → EndStands role c turns → 1 ≤ length c.link.to_send → holds c.link ≡ true
 some_holds role c turns stands some = by_up (is_up c.link) refl
   where
     by_up : (b : Bool) → is_up c.link ≡ b → holds c.link ≡ true
@@ -92,14 +92,14 @@ none_sends t none = record {
 own_heard : (b : Blockage) (owed behind : Option Message) → owed ≡ None → is_stuck_with_own b owed ≡ is_stuck_with_own (hearing b) behind
 own_heard b owed behind none = grind arith
 
-stays_open : (role : Role) (c t : EndCore) (turns : List Turn) (packet : List ℕ) (opens : Bool) (now : LinkState) → TookWhat role c turns packet opens t now → c.is_open ≡ true
+stays_open : (role : Role) (c t : EndCore) (turns : List Utterance) (packet : List ℕ) (opens : Bool) (now : LinkState) → TookWhat role c turns packet opens t now → c.is_open ≡ true
     → t.is_open ≡ true
 stays_open role c t turns packet opens now (NoMessage up messages handshake shut is_open) opened = is_open ∙ opened
 stays_open role c t turns packet opens now (Rises role_is down up messages handshake shut is_open) opened = is_open ∙ opened
 stays_open role c t turns packet opens now (TookOwn message took own handshake shut is_open) opened = is_open ∙ opened
 stays_open role c t turns packet opens now (TookHandshake message took handshake is_open) opened = is_open ∙ ap (λ (b : Bool). opens || b) opened ∙ or_true opens
 
-hears_sends : (role : Role) (c t : EndCore) (turns : List Turn) (b : Blockage) (packet : List ℕ) (opens : Bool) → EndStands role c turns → EndSends c b → EndHears role c packet opens t
+hears_sends : (role : Role) (c t : EndCore) (turns : List Utterance) (b : Blockage) (packet : List ℕ) (opens : Bool) → EndStands role c turns → EndSends c b → EndHears role c packet opens t
     → EndSends t (hearing b)
 hears_sends role c t turns b packet opens stands sends hears = record {
   owing = λ now.
@@ -162,7 +162,7 @@ put_short k quiet few = in_phase k.phase quiet
     in_phase phase.Established none = drop_all 56 k.to_send few
     in_phase _ none = none refl
 
-says_sends : (role : Role) (c t : EndCore) (turns : List Turn) (b : Blockage) (packet : List ℕ) (opens : Bool) → EndStands role c turns → EndSends c b → EndSays role c packet opens t
+says_sends : (role : Role) (c t : EndCore) (turns : List Utterance) (b : Blockage) (packet : List ℕ) (opens : Bool) → EndStands role c turns → EndSends c b → EndSays role c packet opens t
     → EndSends t Clear
 says_sends role c t turns b packet opens stands sends says = record {
   owing = λ never. false_is_true never;
@@ -202,7 +202,7 @@ says_sends role c t turns b packet opens stands sends says = record {
     not_own false own is = own ∙ sym (and_false t.is_open)
 
 -- IT IS STUCK with what it holds
-own_again : (role : Role) (c : EndCore) (turns : List Turn) (b : Blockage) → EndStands role c turns → EndSends c b → holds c.link ≡ true
+own_again : (role : Role) (c : EndCore) (turns : List Utterance) (b : Blockage) → EndStands role c turns → EndSends c b → holds c.link ≡ true
     → c.own ≡ (c.is_open && is_stuck_with_own (stuck b) c.handshake.owed)
 own_again role c turns Clear stands sends held =
     let carries : CarriesOwed c.handshake.owed (half_said turns ++ c.link.to_send) =
@@ -222,7 +222,7 @@ offered_sends t k message b link up short own =
       own = own;
     }
 
-waits_sends : (role : Role) (c t : EndCore) (turns : List Turn) (b : Blockage) (what : Holding) → EndStands role c turns → EndSends c b → Holds c what t → EndSends t (stuck b)
+waits_sends : (role : Role) (c t : EndCore) (turns : List Utterance) (b : Blockage) (what : Holding) → EndStands role c turns → EndSends c b → Holds c what t → EndSends t (stuck b)
 waits_sends role c t turns b HoldsOn stands sends still =
     subst (λ (x : EndCore). EndSends x (stuck b)) (sym still.is) (record {
       owing = λ now. still.owing;
@@ -257,7 +257,7 @@ stays_sends c t b sends stays =
     }
 
 -- EACH MOVE
-pub sends_move : (role : Role) (c : EndCore) (move : EndMove) (t : EndCore) (turns : List Turn) (b : Blockage) → EndStands role c turns → EndSends c b → EndStep role c move t
+pub sends_move : (role : Role) (c : EndCore) (move : EndMove) (t : EndCore) (turns : List Utterance) (b : Blockage) → EndStands role c turns → EndSends c b → EndStep role c move t
     → EndSends t (blockage_after b move)
 sends_move role c Begins t turns b stands sends step = none_sends t (ap (λ (k : LinkState). k.to_send) step.link)
 sends_move role c Renews t turns b stands sends step = none_sends t (ap (λ (k : LinkState). k.to_send) step.link)
@@ -275,7 +275,7 @@ drop_front (byte ∷ half) left = drop_front half left
 rest_is : (half left message : List ℕ) → half ++ left ≡ message → left ≡ drop (length half) message
 rest_is half left message is = sym (drop_front half left) ∙ ap (λ (xs : List ℕ). drop (length half) xs) is
 
-module _ (role : Role) (c : EndCore) (turns : List Turn) (b : Blockage) (stands : EndStands role c turns) (sends : EndSends c b) where
+module _ (role : Role) (c : EndCore) (turns : List Utterance) (b : Blockage) (stands : EndStands role c turns) (sends : EndSends c b) where
   -- it has begun a message of which its link holds some, and none of which it holds nothing
   has : (half : List ℕ) → 1 ≤ length c.link.to_send → half_said turns ≡ half → has_begun half b ≡ true
   has [] some at = sends.fresh (stands.link.cuts.begun ∙ ap (λ (xs : List ℕ). not (is_empty xs)) at) some
@@ -314,7 +314,7 @@ shut_put : (kind : PutKind) (h : Handshake) → h.role ≡ Responder → put_ope
 shut_put EndsHandshake h is = ap (λ (r : Role). opens_by_put r h.phase) is
 shut_put _ h is = refl
 
-pub responder_never : (c t : EndCore) (turns : List Turn) (packet : List ℕ) → EndStands Responder c turns → EndSays Responder c packet true t → ⊥
+pub responder_never : (c t : EndCore) (turns : List Utterance) (packet : List ℕ) → EndStands Responder c turns → EndSays Responder c packet true t → ⊥
 responder_never c t turns packet stands says =
     let stood = held_stands Responder c says.held turns says.what stands says.holds in
     true_is_false (says.opens_is ∙ shut_put (kind_of says.held) says.held.handshake stood.handshake.role_is)

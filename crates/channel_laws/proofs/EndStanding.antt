@@ -14,7 +14,7 @@ use Rattle.ldc_link.specs.LinkState.{LinkState, cleared, fresh_link, is_establis
 use Rattle.ldc_link.specs.Putting.{owed_in, owes, part_owed}
 use Rattle.ldc_link.specs.Taking.{Heard, TakesBytes}
 use Rattle.ldc_queue.specs.Messages.{is_empty}
-use Rattle.ldc_queue.specs.Transcript.{Heard as Heard_, Said as Said_, Turn}
+use Rattle.ldc_queue.specs.Transcript.{Heard as Heard_, Said as Said_, Utterance}
 use Rattle.vio_handshake.specs.declared.handshake.Handshake.{Handshake}
 use Rattle.vio_handshake.specs.declared.handshake.Phase.{Phase}
 use Rattle.vio_handshake.specs.declared.handshake.Phase.TheVariants.{Down, Open}
@@ -30,7 +30,7 @@ use Rattle.channel_laws.proofs.EndCases.{EndTook, NoMessage, PutControl, PutMore
 use Rattle.channel_laws.proofs.HandshakeCases.{RowSent, RowTaken, row_sent}
 use Rattle.channel_laws.proofs.LinkCases.{ControlPut, LinkHeard, behind_part, behind_ready, link_heard}
 use Rattle.channel_laws.proofs.Short.{ComesShort, answered_short, message_comes, said_short, short_within}
-use Rattle.channel_laws.proofs.TurnCases.{SaysLast, SaysMore, SaysNothing}
+use Rattle.channel_laws.proofs.UtteranceCases.{SaysLast, SaysMore, SaysNothing}
 use Rattle.channel_laws.specs.Cuts.{Carries, Cuts, HoldsIts}
 use Rattle.channel_laws.specs.EndCore.{Begins, EndCore, EndMove, Fails, Hears, Renews, Says, Stays, Waits, fresh_end, holds}
 use Rattle.channel_laws.specs.EndStep.{EndBegins, EndHears, EndRenews, EndSays, EndStays, EndStep, Holding, Holds, HoldsOn, HoldsOwed, HoldsOwn, KeepsOwn}
@@ -63,7 +63,7 @@ opened_phase Open is = refl
 opened_phase _ is = false_is_true is
 
 -- an end of these parts
-pub stands_as : (role : Role) (c t : EndCore) (k : LinkState) (h : Handshake) (turns : List Turn) → t.link ≡ k → t.handshake ≡ h → t.offer ≡ c.offer → LinkStands role k turns
+pub stands_as : (role : Role) (c t : EndCore) (k : LinkState) (h : Handshake) (turns : List Utterance) → t.link ≡ k → t.handshake ≡ h → t.offer ≡ c.offer → LinkStands role k turns
     → HandshakeStands role c.offer h → t.is_open ≡ is_open_in h.phase → t.more ≤ 256 → (is_up k ≡ false → IsBelow k h turns) → HoldsIts t.own k h turns → EndStands role t turns
 stands_as role c t k h turns link handshake offer link_stands handshake_stands opened more below carries = grind arith
 
@@ -72,19 +72,19 @@ anew_stands : (role : Role) (c t : EndCore) (h : Handshake) → t.link ≡ fresh
     → h.owed ≡ None → HandshakeStands role c.offer h → EndStands role t []
 anew_stands role c t h link handshake offer closed more down owed stands = grind arith
 
-begins_stands : (role : Role) (c t : EndCore) (turns : List Turn) → EndStands role c turns → EndBegins c t → EndStands role t []
+begins_stands : (role : Role) (c t : EndCore) (turns : List Utterance) → EndStands role c turns → EndBegins c t → EndStands role t []
 begins_stands role c t turns stands begins =
     anew_stands role c t (joined_handshake c.handshake) (begins.link ∙ ap fresh_link stands.link.role_is) begins.handshake begins.offer begins.closed begins.more refl refl
     (record { role_is = stands.handshake.role_is; offer_is = stands.handshake.offer_is; few = stands.handshake.few; owed = tt })
 
-renews_stands : (role : Role) (c t : EndCore) (turns : List Turn) → EndStands role c turns → EndRenews role c t → EndStands role t []
+renews_stands : (role : Role) (c t : EndCore) (turns : List Utterance) → EndStands role c turns → EndRenews role c t → EndStands role t []
 renews_stands role c t turns stands renews = grind arith
 
 pub fresh_end_stands : (role : Role) (offer : Offer) → offer.count ≤ 14 → EndStands role (fresh_end role offer) []
 fresh_end_stands role offer few = grind arith
 
 -- IT GOES ON
-stays_stands : (role : Role) (c t : EndCore) (turns : List Turn) → EndStands role c turns → EndStays c t → EndStands role t turns
+stays_stands : (role : Role) (c t : EndCore) (turns : List Utterance) → EndStands role c turns → EndStays c t → EndStands role t turns
 stays_stands role c t turns stands stays = grind arith
 
 -- IT HOLDS a message: its link is up, and held nothing
@@ -92,19 +92,19 @@ up_unless : (b : Bool) → (b ≡ false → ⊥) → b ≡ true
 up_unless true never = refl
 up_unless false never = absurd (never refl)
 
-pub owing_up : (role : Role) (c : EndCore) (turns : List Turn) (message : Message) → EndStands role c turns → c.handshake.owed ≡ Some message → is_up c.link ≡ true
+pub owing_up : (role : Role) (c : EndCore) (turns : List Utterance) (message : Message) → EndStands role c turns → c.handshake.owed ≡ Some message → is_up c.link ≡ true
 owing_up role c turns message stands owed =
     up_unless (is_up c.link) (λ down. none_is_some (sym (stands.below down).owed ∙ owed))
 
-pub open_up : (role : Role) (c : EndCore) (turns : List Turn) → EndStands role c turns → c.is_open ≡ true → is_up c.link ≡ true
+pub open_up : (role : Role) (c : EndCore) (turns : List Utterance) → EndStands role c turns → c.is_open ≡ true → is_up c.link ≡ true
 open_up role c turns stands opened = grind arith
 
-offered_stands : (role : Role) (c held : EndCore) (turns : List Turn) (message : Message) → EndStands role c turns → is_up c.link ≡ true → owes c.link ≡ false
+offered_stands : (role : Role) (c held : EndCore) (turns : List Utterance) (message : Message) → EndStands role c turns → is_up c.link ≡ true → owes c.link ≡ false
     → length (canonical message) ≤ 256 → held.link ≡ offered (canonical message) c.link → held.handshake ≡ c.handshake → held.offer ≡ c.offer → held.is_open ≡ c.is_open
     → held.more ≤ c.more → (holds held.link ≡ true → Carries held.own c.handshake (canonical message)) → EndStands role held turns
 offered_stands role c held turns message stands up quiet long link handshake offer is_open more carries = grind arith
 
-pub held_stands : (role : Role) (c held : EndCore) (turns : List Turn) (what : Holding) → EndStands role c turns → Holds c what held → EndStands role held turns
+pub held_stands : (role : Role) (c held : EndCore) (turns : List Utterance) (what : Holding) → EndStands role c turns → Holds c what held → EndStands role held turns
 held_stands role c held turns HoldsOn stands still = subst (λ (x : EndCore). EndStands role x turns) (sym still.is) stands
 held_stands role c held turns (HoldsOwed message) stands offers =
     offered_stands role c held turns message stands (owing_up role c turns message stands offers.owed) offers.quiet
@@ -137,7 +137,7 @@ up_of role m is = grind arith
 pub heard_of : (role : Role) (k m : LinkState) (bytes : List ℕ) → IsPhaseOf role k.phase → LinkHeard k bytes m → IsPhaseOf role m.phase
 heard_of role k m bytes of heard = grind arith
 
-heard_link : (role : Role) (k m : LinkState) (turns : List Turn) (bytes : List ℕ) → TakesBytes k bytes (Heard m) → LinkHeard k bytes m → LinkStands role k turns
+heard_link : (role : Role) (k m : LinkState) (turns : List Utterance) (bytes : List ℕ) → TakesBytes k bytes (Heard m) → LinkHeard k bytes m → LinkStands role k turns
     → LinkStands role (cleared m) (Heard_ bytes ∷ turns)
 heard_link role k m turns bytes takes how stands =
     let same = heard_sending k m bytes how in
@@ -192,11 +192,11 @@ keeps_holding : (k m : LinkState) → m.to_send ≡ k.to_send → is_up m ≡ is
 keeps_holding k m left up is = ap (λ (b : Bool). b && not (is_empty k.to_send)) (sym up) ∙ ap (λ (xs : List ℕ). is_up m && not (is_empty xs)) (sym left) ∙ is
 
 -- what it holds stays, where its handshake stays
-same_carries : (c t : EndCore) (now : LinkState) (turns : List Turn) (packet : List ℕ) → SameSending c.link now → is_up now ≡ is_up c.link → KeepsOwn c t → t.link ≡ cleared now
+same_carries : (c t : EndCore) (now : LinkState) (turns : List Utterance) (packet : List ℕ) → SameSending c.link now → is_up now ≡ is_up c.link → KeepsOwn c t → t.link ≡ cleared now
     → HoldsIts c.own c.link c.handshake turns → HoldsIts t.own (cleared now) c.handshake (Heard_ packet ∷ turns)
 same_carries c t now turns packet same up keeps link carries is = grind arith
 
-hears_stands : (role : Role) (c t : EndCore) (turns : List Turn) (packet : List ℕ) (opens : Bool) → EndStands role c turns → EndHears role c packet opens t
+hears_stands : (role : Role) (c t : EndCore) (turns : List Utterance) (packet : List ℕ) (opens : Bool) → EndStands role c turns → EndHears role c packet opens t
     → EndStands role t (Heard_ packet ∷ turns)
 hears_stands role c t turns packet opens stands hears = by_what took.what
   where
@@ -253,7 +253,7 @@ hears_stands role c t turns packet opens stands hears = by_what took.what
             (keeps_own c.own c.handshake t.handshake (half_said turns ++ c.link.to_send) hears.may.owed (ap (λ (x : Handshake). x.draft) declined) (ap (λ (x : Handshake). x.phase) declined) here))
 
 -- IT SAYS a packet: what was said of its message and what is left of it
-quiet_cuts : (k m : LinkState) (turns : List Turn) (packet : List ℕ) → m.to_send ≡ k.to_send → m.begun ≡ k.begun → SaysNothing turns packet → Cuts k turns
+quiet_cuts : (k m : LinkState) (turns : List Utterance) (packet : List ℕ) → m.to_send ≡ k.to_send → m.begun ≡ k.begun → SaysNothing turns packet → Cuts k turns
     → Cuts m (Said_ packet ∷ turns)
 quiet_cuts k m turns packet left begun quiet cuts = grind arith
 
@@ -262,7 +262,7 @@ some_more [] [] some = absurd (omega (arith, some))
 some_more [] (byte ∷ part) some = refl
 some_more (byte ∷ half) part some = refl
 
-more_cuts : (k : LinkState) (turns : List Turn) (packet : List ℕ) → SaysMore k turns packet → Cuts k turns → Cuts (behind_part k) (Said_ packet ∷ turns)
+more_cuts : (k : LinkState) (turns : List Utterance) (packet : List ℕ) → SaysMore k turns packet → Cuts k turns → Cuts (behind_part k) (Said_ packet ∷ turns)
 more_cuts k turns packet more cuts =
     let long = leb-false (length k.to_send) 56 more.long in
     record {
@@ -276,10 +276,10 @@ no_more : (n : ℕ) (b : Bool) → nat_lt 56 n ≡ b → n ≤ 56 → b ≡ fals
 no_more n false is few = refl
 no_more n true is few = absurd (omega (arith, few, ltb-true 56 n is))
 
-pub last_none : (k : LinkState) (turns : List Turn) (packet : List ℕ) → SaysLast k turns packet → drop 56 k.to_send ≡ []
+pub last_none : (k : LinkState) (turns : List Utterance) (packet : List ℕ) → SaysLast k turns packet → drop 56 k.to_send ≡ []
 last_none k turns packet last = drop_all 56 k.to_send (leb-true (length k.to_send) 56 last.short)
 
-last_cuts : (k : LinkState) (turns : List Turn) (packet : List ℕ) → SaysLast k turns packet → Cuts (behind_part k) (Said_ packet ∷ turns)
+last_cuts : (k : LinkState) (turns : List Utterance) (packet : List ℕ) → SaysLast k turns packet → Cuts (behind_part k) (Said_ packet ∷ turns)
 last_cuts k turns packet last =
     let short = leb-true (length k.to_send) 56 last.short in
     record {
@@ -294,7 +294,7 @@ put_of role before next bytes of put = grind arith
 some_left : (n : ℕ) → nat_le n 56 ≡ false → 1 ≤ n
 some_left n long = omega (arith, leb-false n 56 long)
 
-says_stands : (role : Role) (c t : EndCore) (turns : List Turn) (packet : List ℕ) (opens : Bool) → EndStands role c turns → EndSays role c packet opens t
+says_stands : (role : Role) (c t : EndCore) (turns : List Utterance) (packet : List ℕ) (opens : Bool) → EndStands role c turns → EndSays role c packet opens t
     → EndStands role t (Said_ packet ∷ turns)
 says_stands role c t turns packet opens stands says = by_what (end_put role c t turns packet opens says holds_so)
   where
@@ -367,7 +367,7 @@ says_stands role c t turns packet opens stands says = by_what (end_put role c t 
         (λ is. absurd (holds_none (behind_part held.link) (last_none held.link turns packet last) is))
 
 -- EACH MOVE
-pub stands_step : (role : Role) (c : EndCore) (move : EndMove) (t : EndCore) (turns : List Turn) → EndStands role c turns → EndStep role c move t
+pub stands_step : (role : Role) (c : EndCore) (move : EndMove) (t : EndCore) (turns : List Utterance) → EndStands role c turns → EndStep role c move t
     → EndStands role t (turns_after turns move)
 stands_step role c Begins t turns stands step = begins_stands role c t turns stands step
 stands_step role c Renews t turns stands step = renews_stands role c t turns stands step

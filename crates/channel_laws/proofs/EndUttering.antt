@@ -7,7 +7,7 @@ use Rattle.ldc_link.specs.declared.phase.Role.TheVariants.{Initiator, Responder}
 use Rattle.ldc_link.specs.LinkState.{is_established}
 use Rattle.ldc_packet.specs.declared.packet.Subtype.{Subtype}
 use Rattle.ldc_queue.specs.OneStream.{IsFront}
-use Rattle.ldc_queue.specs.Transcript.{Said, Turn}
+use Rattle.ldc_queue.specs.Transcript.{Said, Utterance}
 use Rattle.map_table.specs.declared.cookie.Cookie.{Cookie}
 use Rattle.vio_handshake.specs.Attributes.{answered_attributes, said_attributes}
 use Rattle.vio_handshake.specs.declared.handshake.Handshake.{Handshake}
@@ -27,7 +27,7 @@ use Rattle.channel_laws.proofs.EndResting.{StandsResting, held_handshake, of_sid
 use Rattle.channel_laws.proofs.EndStanding.{fresh_end_stands, held_stands, holds_some}
 use Rattle.channel_laws.proofs.HandshakeCases.{AttributesAgreed, AttributesAsked, AttributesRefused, Declined, OneRingAgreed, Opened, PeerAgreed, ReadyAgreed, ReadyAsked, RingAgreed, RingAsked, RingRefused, RowSent, RowTaken, VersionAgreed, VersionAsked, VersionRefused, row_sent}
 use Rattle.channel_laws.proofs.Lifting.{EndsAll, ends_run}
-use Rattle.channel_laws.proofs.TurnCases.{SaysLast}
+use Rattle.channel_laws.proofs.UtteranceCases.{SaysLast}
 use Rattle.channel_laws.specs.Cuts.{Carries}
 use Rattle.channel_laws.specs.EndCore.{Begins, EndCore, fresh_end, EndMove, Fails, Hears, Renews, Says as Says_, Stays, Waits}
 use Rattle.channel_laws.specs.EndStep.{EndHears, EndSays, EndStep, IsOfSession}
@@ -276,14 +276,14 @@ carried_says role false h messages bytes utters carries =
 carried_says role true h messages bytes utters carries = (carries.message, carries.is, own_says role h carries.message carries.body carries.sid)
 
 -- EACH MOVE
-pub record EndSpeaks (role : Role) (c : EndCore) (turns : List Turn) : Type 0 where
+pub record EndSpeaks (role : Role) (c : EndCore) (turns : List Utterance) : Type 0 where
   pub knows : StandsResting role c turns
   pub utters : Utters role c.handshake (said turns)
 
 same_utters : (role : Role) (h g : Handshake) (before now : List (List ℕ)) → g ≡ h → now ≡ before → Utters role h before → Utters role g now
 same_utters role h g before now is same utters = subst (λ (x : Handshake). Utters role x now) (sym is) (subst (Utters role h) (sym same) utters)
 
-hears_utters : (role : Role) (c t : EndCore) (turns : List Turn) (packet : List ℕ) (opens : Bool) → EndSpeaks role c turns → EndHears role c packet opens t
+hears_utters : (role : Role) (c t : EndCore) (turns : List Utterance) (packet : List ℕ) (opens : Bool) → EndSpeaks role c turns → EndHears role c packet opens t
     → Utters role t.handshake (said turns)
 hears_utters role c t turns packet opens all hears = by_what took.what
   where
@@ -305,7 +305,7 @@ hears_utters role c t turns packet opens all hears = by_what took.what
             of_sid c.handshake message.sid handshake.sid
             (subst (λ (b : Bool). When b (c.handshake.sid ≡ Some c.handshake.draft.sid)) (ap (knows_sid c.handshake.phase) is ∙ known) all.knows.rests.sid)
 
-says_utters : (role : Role) (c t : EndCore) (turns : List Turn) (packet : List ℕ) (opens : Bool) → EndSpeaks role c turns → EndSays role c packet opens t
+says_utters : (role : Role) (c t : EndCore) (turns : List Utterance) (packet : List ℕ) (opens : Bool) → EndSpeaks role c turns → EndSays role c packet opens t
     → Utters role t.handshake (said (Said packet ∷ turns))
 says_utters role c t turns packet opens all says = by_what (end_put role c t turns packet opens says stands)
   where
@@ -340,7 +340,7 @@ says_utters role c t turns packet opens all says = by_what (end_put role c t tur
         (utters_behind role held.handshake (handshake_sent held.handshake) (said (Said packet ∷ turns))
         (sent_words role held.handshake (handshake_sent held.handshake) _ (said (Said packet ∷ turns)) stands.handshake.role_is (whole at last) (row_sent held.handshake)) (whole at last))
 
-utters_step : (role : Role) (c : EndCore) (move : EndMove) (t : EndCore) (turns : List Turn) → EndSpeaks role c turns → EndStep role c move t
+utters_step : (role : Role) (c : EndCore) (move : EndMove) (t : EndCore) (turns : List Utterance) → EndSpeaks role c turns → EndStep role c move t
     → Utters role t.handshake (said (turns_after turns move))
 utters_step role c Begins t turns all step = down_utters role t.handshake (ap (λ (h : Handshake). h.phase) step.handshake) (ap (λ (h : Handshake). h.owed) step.handshake)
 utters_step Initiator c Renews t turns all step = down_utters Initiator t.handshake (ap (λ (h : Handshake). h.phase) step.handshake) (ap (λ (h : Handshake). h.owed) step.handshake)
@@ -353,7 +353,7 @@ utters_step role c Waits t turns all step =
     same_utters role c.handshake t.handshake (said turns) (said turns) (held_handshake c t step.what step.holds) refl all.utters
 utters_step role c Stays t turns all step = same_utters role c.handshake t.handshake (said turns) (said turns) step.handshake refl all.utters
 
-pub speaks_step : (role : Role) (c : EndCore) (move : EndMove) (t : EndCore) (turns : List Turn) → EndSpeaks role c turns → EndStep role c move t
+pub speaks_step : (role : Role) (c : EndCore) (move : EndMove) (t : EndCore) (turns : List Utterance) → EndSpeaks role c turns → EndStep role c move t
     → EndSpeaks role t (turns_after turns move)
 speaks_step role c move t turns all step =
     record { knows = resting_step role c move t turns all.knows step; utters = utters_step role c move t turns all step }

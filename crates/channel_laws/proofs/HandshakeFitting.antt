@@ -3,7 +3,7 @@ use Rattle.std.proofs.Common.{◌≡◌, ℕ, Bool, true, None, List, refl, sym,
 use Rattle.runs.specs.Run.{Run}
 use Rattle.ldc_link.specs.declared.phase.Role.{Role}
 use Rattle.ldc_link.specs.declared.phase.Role.TheVariants.{Initiator, Responder}
-use Rattle.ldc_queue.specs.Transcript.{Turn}
+use Rattle.ldc_queue.specs.Transcript.{Utterance}
 use Rattle.map_table.specs.declared.cookie.Cookie.{Cookie}
 use Rattle.vio_tag.specs.declared.message.Message.{Message}
 use Rattle.vio_handshake.specs.Acceptance.{accepts_ring}
@@ -48,14 +48,14 @@ row_fits role offer h t message opens none fits taken = grind (arith, accepted_s
 
 -- ONE THAT IT PUT
 -- AN END, by its moves
-pub record EndFits (role : Role) (c : EndCore) (turns : List Turn) : Type 0 where
+pub record EndFits (role : Role) (c : EndCore) (turns : List Utterance) : Type 0 where
   pub stands : EndStands role c turns
   pub fits : HandshakeFits role c.offer c.handshake
 
 pub same_fits : (role : Role) (offer : Offer) (h t : Handshake) → HandshakeFits role offer h → t ≡ h → HandshakeFits role offer t
 same_fits role offer h t fits is = subst (HandshakeFits role offer) (sym is) fits
 
-took_fits : (role : Role) (c t : EndCore) (turns : List Turn) (packet : List ℕ) (opens : Bool) → c.handshake.owed ≡ None → HandshakeFits role c.offer c.handshake
+took_fits : (role : Role) (c t : EndCore) (turns : List Utterance) (packet : List ℕ) (opens : Bool) → c.handshake.owed ≡ None → HandshakeFits role c.offer c.handshake
     → (took : EndTook role c turns packet opens t) → HandshakeFits role c.offer t.handshake
 took_fits role c t turns packet opens none fits took = by_what took.what
   where
@@ -65,17 +65,17 @@ took_fits role c t turns packet opens none fits took = by_what took.what
     by_what (TookOwn message took own same shut is_open) = same_fits role c.offer c.handshake t.handshake fits same
     by_what (TookHandshake message took handshake is_open) = row_fits role c.offer c.handshake t.handshake message opens none fits handshake.row
 
-put_fits : (role : Role) (offer : Offer) (held t : EndCore) (turns : List Turn) (packet : List ℕ) (opens : Bool) → HandshakeFits role offer held.handshake
+put_fits : (role : Role) (offer : Offer) (held t : EndCore) (turns : List Utterance) (packet : List ℕ) (opens : Bool) → HandshakeFits role offer held.handshake
     → PutWhat role held turns packet opens t → HandshakeFits role offer t.handshake
 put_fits role offer held t turns packet opens fits what = grind arith
 
-says_fits : (role : Role) (c t : EndCore) (turns : List Turn) (packet : List ℕ) (opens : Bool) → EndFits role c turns → EndSays role c packet opens t → HandshakeFits role c.offer t.handshake
+says_fits : (role : Role) (c t : EndCore) (turns : List Utterance) (packet : List ℕ) (opens : Bool) → EndFits role c turns → EndSays role c packet opens t → HandshakeFits role c.offer t.handshake
 says_fits role c t turns packet opens end says =
     put_fits role c.offer says.held t turns packet opens
     (same_fits role c.offer c.handshake says.held.handshake end.fits (held_handshake c says.held says.what says.holds))
     (end_put role c t turns packet opens says (held_stands role c says.held turns says.what end.stands says.holds))
 
-move_fits : (role : Role) (c : EndCore) (move : EndMove) (t : EndCore) (turns : List Turn) → EndFits role c turns → EndStep role c move t → HandshakeFits role c.offer t.handshake
+move_fits : (role : Role) (c : EndCore) (move : EndMove) (t : EndCore) (turns : List Utterance) → EndFits role c turns → EndStep role c move t → HandshakeFits role c.offer t.handshake
 move_fits role c Begins t turns end step = same_fits role c.offer (joined_handshake c.handshake) t.handshake (joined_fits role c.offer c.handshake end.fits) step.handshake
 move_fits Initiator c Renews t turns end step = same_fits Initiator c.offer (joined_handshake c.handshake) t.handshake (joined_fits Initiator c.offer c.handshake end.fits) step.handshake
 move_fits Responder c Renews t turns end step = same_fits Responder c.offer (fresh_handshake Responder c.offer) t.handshake (fresh_fits Responder c.offer) step.handshake
@@ -87,7 +87,7 @@ move_fits role c Waits t turns end step = same_fits role c.offer c.handshake t.h
 move_fits role c Stays t turns end step = same_fits role c.offer c.handshake t.handshake end.fits step.handshake
 
 -- what an end offers is what its handshake does
-pub fits_step : (role : Role) (c : EndCore) (move : EndMove) (t : EndCore) (turns : List Turn) → EndFits role c turns → EndStep role c move t → EndFits role t (turns_after turns move)
+pub fits_step : (role : Role) (c : EndCore) (move : EndMove) (t : EndCore) (turns : List Utterance) → EndFits role c turns → EndStep role c move t → EndFits role t (turns_after turns move)
 fits_step role c move t turns end step =
     let now : EndStands role t (turns_after turns move) = stands_step role c move t turns end.stands step in
     let fits = move_fits role c move t turns end step in

@@ -8,7 +8,7 @@ use Rattle.ldc_link.specs.declared.phase.Role.TheVariants.{Initiator, Responder}
 use Rattle.ldc_link.specs.LinkState.{is_up}
 use Rattle.ldc_queue.specs.declared.end.ChannelState.TheVariants.{Up}
 use Rattle.ldc_queue.specs.OneStream.{IsFront}
-use Rattle.ldc_queue.specs.Transcript.{Turn}
+use Rattle.ldc_queue.specs.Transcript.{Utterance}
 use Rattle.vio_tag.proofs.Canonical.{canonical_spells}
 use Rattle.vio_tag.proofs.Same.{spelled_once}
 use Rattle.vio_tag.specs.declared.message.Message.{Message}
@@ -55,7 +55,7 @@ own_in d (one ∷ messages) rest bytes [] each is = absurd (cc is)
 own_in d (one ∷ messages) rest bytes (x ∷ more) each is = own_in d messages rest bytes more each.1 (let tails : more ≡ (messages ++ bytes ∷ []) ++ rest = cc is in tails)
 
 -- AT A PLACE
-pub record AtPlace (both : Bool) (d : Deal) (r : Role) (h : Handshake) (turns : List Turn) : Type 0 where
+pub record AtPlace (both : Bool) (d : Deal) (r : Role) (h : Handshake) (turns : List Utterance) : Type 0 where
   pub place : Place
   pub here : IsPlace both place
   pub is : h ≡ handshake_at both d r place
@@ -155,22 +155,22 @@ owes_not both d Responder n turn = ap (λ (w : Option Role). owed_by Responder w
 pub open_at : (both : Bool) (r : Role) (n : Place) → phase_at both r n ≡ Open → n ≡ AllSaid
 open_at both r n is = grind arith
 
-pub open_place : (both : Bool) (d : Deal) (r : Role) (c : EndCore) (turns : List Turn) → EndStands r c turns → (at : AtPlace both d r c.handshake turns) → c.is_open ≡ true
+pub open_place : (both : Bool) (d : Deal) (r : Role) (c : EndCore) (turns : List Utterance) → EndStands r c turns → (at : AtPlace both d r c.handshake turns) → c.is_open ≡ true
     → at.place ≡ AllSaid
 open_place both d r c turns stands at opened =
     open_at both r at.place (ap (λ (h : Handshake). h.phase) (sym at.is) ∙ opened_phase c.handshake.phase (sym stands.opened ∙ opened))
 
-pub place_open : (both : Bool) (d : Deal) (r : Role) (c : EndCore) (turns : List Turn) → EndStands r c turns → (at : AtPlace both d r c.handshake turns) → at.place ≡ AllSaid
+pub place_open : (both : Bool) (d : Deal) (r : Role) (c : EndCore) (turns : List Utterance) → EndStands r c turns → (at : AtPlace both d r c.handshake turns) → at.place ≡ AllSaid
     → c.is_open ≡ true
 place_open both d r c turns stands at last = grind arith
 
 -- ITS LINK COMES UP: it said and heard nothing
-pub begun_at : (both : Bool) (d : Deal) (r : Role) (h : Handshake) (turns : List Turn) → h.role ≡ r → h.offer ≡ (handshake_at both d r VersionSaid).offer → (r ≡ Responder → h.last_sid ≡ d.last)
+pub begun_at : (both : Bool) (d : Deal) (r : Role) (h : Handshake) (turns : List Utterance) → h.role ≡ r → h.offer ≡ (handshake_at both d r VersionSaid).offer → (r ≡ Responder → h.last_sid ≡ d.last)
     → (r ≡ Initiator → d.sid ≡ next_sid h) → IsPlace both VersionSaid → said turns ≡ [] → heard turns ≡ [] → AtPlace both d r (handshake_up h) turns
 begun_at both d r h turns role offer last sid here said_none heard_none = grind arith
 
 -- IT SAYS the message of its place
-pub says_at : (both : Bool) (d : Deal) (r : Role) (h : Handshake) (turns now : List Turn) (bytes : List ℕ) (message : Message) → (at : AtPlace both d r h turns)
+pub says_at : (both : Bool) (d : Deal) (r : Role) (h : Handshake) (turns now : List Utterance) (bytes : List ℕ) (message : Message) → (at : AtPlace both d r h turns)
     → h.owed ≡ Some message → bytes ≡ canonical message → said now ≡ said turns ++ bytes ∷ [] → heard now ≡ heard turns → AtPlace both d r (handshake_sent h) now
 says_at both d r h turns now bytes message at owed is said_now heard_now =
     elim (who r at.place) [
@@ -200,7 +200,7 @@ says_at both d r h turns now bytes message at owed is said_now heard_now =
     ]
 
 -- IT SAYS a message of its session
-pub says_own_at : (both : Bool) (d : Deal) (r : Role) (h g : Handshake) (turns now : List Turn) (bytes : List ℕ) → (at : AtPlace both d r h turns) → g ≡ h → at.place ≡ AllSaid
+pub says_own_at : (both : Bool) (d : Deal) (r : Role) (h g : Handshake) (turns now : List Utterance) (bytes : List ℕ) → (at : AtPlace both d r h turns) → g ≡ h → at.place ≡ AllSaid
     → IsOwn d bytes → said now ≡ said turns ++ bytes ∷ [] → heard now ≡ heard turns → AtPlace both d r g now
 says_own_at both d r h g turns now bytes at same last own said_now heard_now = record {
   place = at.place;
@@ -216,19 +216,19 @@ says_own_at both d r h g turns now bytes at same last own said_now heard_now = r
 }
 
 -- nothing is said or heard
-pub same_at : (both : Bool) (d : Deal) (r : Role) (h g : Handshake) (turns now : List Turn) → AtPlace both d r h turns → g ≡ h → said now ≡ said turns → heard now ≡ heard turns
+pub same_at : (both : Bool) (d : Deal) (r : Role) (h g : Handshake) (turns now : List Utterance) → AtPlace both d r h turns → g ≡ h → said now ≡ said turns → heard now ≡ heard turns
     → AtPlace both d r g now
 same_at both d r h g turns now at same said_now heard_now = grind arith
 
 -- WHAT THE OTHER SAID
-abbrev pub peer_said : (both : Bool) (d : Deal) (r : Role) (h : Handshake) (turns : List Turn) → AtPlace both d r h turns → PeerSaid both d r (said turns)
+abbrev pub peer_said : (both : Bool) (d : Deal) (r : Role) (h : Handshake) (turns : List Utterance) → AtPlace both d r h turns → PeerSaid both d r (said turns)
 peer_said both d r h turns at = record { place = at.place; more = at.mine; is = at.said_is; only = λ far. (at.only far).0 }
 
 -- IT HEARS the message of its place
 pub goes_alike : (h g : Handshake) (take answer : HandshakeTake) → take ≡ answer → GoesTo take h → GoesTo answer g → h ≡ g
 goes_alike h g take answer is to to_holds = grind arith
 
-pub place_bytes : (asks answers : Offer) (sid : ℕ) (r : Role) (h : Handshake) (turns now : List Turn) (bytes : List ℕ) (peer : List (List ℕ))
+pub place_bytes : (asks answers : Offer) (sid : ℕ) (r : Role) (h : Handshake) (turns now : List Utterance) (bytes : List ℕ) (peer : List (List ℕ))
     → (at : AtPlace asks.both_rings (deal asks answers sid) r h turns) → owner at.place ≡ Some (other r) → PeerSaid asks.both_rings (deal asks answers sid) (other r) peer
     → IsFront (heard now) peer → heard now ≡ heard turns ++ bytes ∷ [] → bytes ≡ bytes_at (deal asks answers sid) at.place
 place_bytes asks answers sid r h turns now bytes peer at turn peer_so front heard_now =
@@ -240,7 +240,7 @@ place_bytes asks answers sid r h turns now bytes peer at turn peer_so front hear
     hears_next both d (other r) at.place peer bytes at.here turn peer_so
     (subst (λ (xs : List (List ℕ)). IsFront xs peer) (heard_now ∙ ap (λ (xs : List (List ℕ)). xs ++ bytes ∷ []) was) front)
 
-pub hears_at : (asks answers : Offer) (sid : ℕ) (r : Role) (h g : Handshake) (turns now : List Turn) (bytes : List ℕ) (message : Message) (peer : List (List ℕ)) → Matches asks answers → sid < 2 ^ 32
+pub hears_at : (asks answers : Offer) (sid : ℕ) (r : Role) (h g : Handshake) (turns now : List Utterance) (bytes : List ℕ) (message : Message) (peer : List (List ℕ)) → Matches asks answers → sid < 2 ^ 32
     → (at : AtPlace asks.both_rings (deal asks answers sid) r h turns) → owner at.place ≡ Some (other r) → PeerSaid asks.both_rings (deal asks answers sid) (other r) peer
     → IsFront (heard now) peer → heard now ≡ heard turns ++ bytes ∷ [] → said now ≡ said turns → IsWellFormed message → SpellsMessage bytes message → GoesTo (handshake_take h message) g
     → AtPlace asks.both_rings (deal asks answers sid) r g now
@@ -270,7 +270,7 @@ hears_at asks answers sid r h g turns now bytes message peer fits small at turn 
     }
 
 -- it hears a message of its session
-pub own_heard : (both : Bool) (d : Deal) (r : Role) (h peer : Handshake) (turns peer_turns : List Turn) (bytes : List ℕ) → (at : AtPlace both d r h turns) → at.place ≡ AllSaid
+pub own_heard : (both : Bool) (d : Deal) (r : Role) (h peer : Handshake) (turns peer_turns : List Utterance) (bytes : List ℕ) → (at : AtPlace both d r h turns) → at.place ≡ AllSaid
     → AtPlace both d (other r) peer peer_turns → IsFront (heard turns ++ bytes ∷ []) (said peer_turns) → IsOwn d bytes
 own_heard both d r h peer turns peer_turns bytes at last peer_at front =
     let all : heard turns ++ bytes ∷ [] ≡ (script both d (other r) ++ at.theirs) ++ bytes ∷ [] =
@@ -280,7 +280,7 @@ own_heard both d r h peer turns peer_turns bytes at last peer_at front =
     (subst (λ (xs : List (List ℕ)). IsFront xs (said peer_turns)) all front) in
     own_in d at.theirs beyond.0 bytes peer_at.mine peer_at.mine_are beyond.1
 
-pub hears_own_at : (both : Bool) (d : Deal) (r : Role) (h g : Handshake) (turns now : List Turn) (bytes : List ℕ) → (at : AtPlace both d r h turns) → g ≡ h → at.place ≡ AllSaid
+pub hears_own_at : (both : Bool) (d : Deal) (r : Role) (h g : Handshake) (turns now : List Utterance) (bytes : List ℕ) → (at : AtPlace both d r h turns) → g ≡ h → at.place ≡ AllSaid
     → IsOwn d bytes → heard now ≡ heard turns ++ bytes ∷ [] → said now ≡ said turns → AtPlace both d r g now
 hears_own_at both d r h g turns now bytes at same last own heard_now said_now = record {
   place = at.place;

@@ -10,7 +10,7 @@ use Rattle.ldc_link.specs.LinkState.{LinkState, first_phase, is_established, is_
 use Rattle.ldc_queue.specs.declared.end.ChannelState.{ChannelState}
 use Rattle.ldc_queue.specs.declared.end.ChannelState.TheVariants.{Up}
 use Rattle.ldc_queue.specs.OneStream.{IsFront}
-use Rattle.ldc_queue.specs.Transcript.{Heard, Said, Turn}
+use Rattle.ldc_queue.specs.Transcript.{Heard, Said, Utterance}
 use Rattle.vio_tag.specs.declared.message.Message.{Message}
 use Rattle.vio_tag.specs.declared.message.MsgBody.{MsgBody}
 use Rattle.vio_tag.specs.Form.{HasForm}
@@ -32,7 +32,7 @@ use Rattle.channel_laws.proofs.EndStanding.{held_stands, holds_some, open_declin
 use Rattle.channel_laws.proofs.HandshakePlaces.{AtPlace, HandshakesAt, IsOwn, Matches, begun_at, deal, hears_at, hears_own_at, offer_in, open_at, open_place, owes_at, own_heard, peer_said, same_at, says_at, says_own_at, who}
 use Rattle.channel_laws.proofs.Lifting.{ActsKeep, BothStand}
 use Rattle.channel_laws.proofs.LinkPlaced.{first_links, links_keep, ready_at}
-use Rattle.channel_laws.proofs.TurnCases.{SaysLast}
+use Rattle.channel_laws.proofs.UtteranceCases.{SaysLast}
 use Rattle.channel_laws.specs.Conversing.{Converse}
 use Rattle.channel_laws.specs.Cuts.{Carries, CarriesOwed, CarriesOwn}
 use Rattle.channel_laws.specs.EndCore.{EndCore}
@@ -97,7 +97,7 @@ shut_handshakes : (asks answers : Offer) (role : Role) (s : Sides) (t : EndCore)
 shut_handshakes asks answers role s t begins at = grind arith
 
 -- an end at a place: its own offer and count of sids
-placed : (asks answers : Offer) (sid : ℕ) (role : Role) (s : Sides) (t : EndCore) (turns : List Turn) → HandshakesAt asks answers role s → t.offer ≡ s.mine.core.offer
+placed : (asks answers : Offer) (sid : ℕ) (role : Role) (s : Sides) (t : EndCore) (turns : List Utterance) → HandshakesAt asks answers role s → t.offer ≡ s.mine.core.offer
     → (at_sid : sid < 2 ^ 32)
     → (role ≡ Responder → t.handshake.last_sid ≡ 0)
     → (is_up t.link ≡ true → AtPlace asks.both_rings (deal asks answers sid) role t.handshake turns)
@@ -107,7 +107,7 @@ placed : (asks answers : Offer) (sid : ℕ) (role : Role) (s : Sides) (t : EndCo
 placed asks answers sid role s t turns at offer small last mine theirs waiting peer_waiting = grind arith
 
 -- at a place a responder's count of sids is none
-place_last : (both : Bool) (asks answers : Offer) (sid : ℕ) (role : Role) (h : Handshake) (turns : List Turn) → AtPlace both (deal asks answers sid) role h turns → role ≡ Responder
+place_last : (both : Bool) (asks answers : Offer) (sid : ℕ) (role : Role) (h : Handshake) (turns : List Utterance) → AtPlace both (deal asks answers sid) role h turns → role ≡ Responder
     → h.last_sid ≡ 0
 place_last both asks answers sid role h turns at is = ap (λ (x : Handshake). x.last_sid) at.is ∙ ap (last_at (deal asks answers sid)) is
 
@@ -136,7 +136,7 @@ put_handshakes asks answers role s t packet opens fits stands up says links at =
     held : EndCore
     held = says.held
 
-    now : List Turn
+    now : List Utterance
     now = Said packet ∷ s.mine.turns
 
     held_stands_so : EndStands role held s.mine.turns
@@ -279,7 +279,7 @@ link_place asks answers role s messages bytes stands at up front =
       | inr down ↦ absurd (none_after messages front.0 bytes (sym (stands.below down).said_none ∙ front.1))
     ]
 
-pub peer_place : (asks answers : Offer) (role : Role) (s : Sides) (now before : List Turn) (bytes : List ℕ) → EndStands (other role) s.theirs.core s.theirs.turns
+pub peer_place : (asks answers : Offer) (role : Role) (s : Sides) (now before : List Utterance) (bytes : List ℕ) → EndStands (other role) s.theirs.core s.theirs.turns
     → (at : HandshakesAt asks answers role s) → HeardFrom s now → heard now ≡ heard before ++ bytes ∷ []
     → AtPlace asks.both_rings (deal asks answers at.sid) (other role) s.theirs.core.handshake s.theirs.turns
 peer_place asks answers role s now before bytes stands at from grows =
@@ -310,7 +310,7 @@ took_handshakes asks answers role s t packet opens fits stands up first hears co
     c : EndCore
     c = s.mine.core
 
-    now : List Turn
+    now : List Utterance
     now = Heard packet ∷ s.mine.turns
 
     took_so : EndTook role c s.mine.turns packet opens t

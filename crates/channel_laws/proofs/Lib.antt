@@ -1,6 +1,6 @@
 pub mod Apart
 pub mod LinkCases
-pub mod TurnCases
+pub mod UtteranceCases
 pub mod HandshakeCases
 pub mod Short
 pub mod PutSayings
@@ -24,7 +24,7 @@ pub mod HandshakePlaces
 pub mod HandshakesPlaced
 pub mod Sessions
 pub mod NextPacket
-pub mod LinkTurns
+pub mod TakenInOrder
 pub mod PartsSaid
 pub mod PartsWaiting
 pub mod ManyWait
@@ -40,7 +40,7 @@ pub mod Opening
 pub mod OpeningRows
 pub mod OpeningOrder
 pub mod ToyRuns
-pub mod WhoseTurn
+pub mod WhoOwes
 pub mod AtRest
 pub mod EndFolding
 pub mod EndsAtRest

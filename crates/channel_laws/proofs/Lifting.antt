@@ -10,7 +10,7 @@ use Rattle.ldc_link.specs.LinkState.{fresh_link}
 use Rattle.ldc_queue.specs.declared.end.ChannelState.TheVariants.{Up}
 use Rattle.ldc_queue.specs.declared.end.End.{End}
 use Rattle.ldc_queue.specs.declared.end.End.TheVariants.{A, B}
-use Rattle.ldc_queue.specs.Transcript.{Turn}
+use Rattle.ldc_queue.specs.Transcript.{Utterance}
 use Rattle.vio_handshake.specs.declared.session.Offer.{Offer}
 use Rattle.vio_tag.specs.declared.cause.Cause.{Cause}
 use Rattle.channel_model.specs.TranscriptLog.{TranscriptLog, nothing_said, transcript_of}
@@ -29,21 +29,21 @@ pub transcript_turns : (e : End) (l : TranscriptLog) (event : CoreEvent) → tra
 transcript_turns e l event = grind arith
 
 -- A LAW OF ONE END, each move keeping it, is one of both ends along every run
-pub record EndsAll (P : Role → EndCore → List Turn → Type 0) (s : LaneCore) (transcript : TranscriptLog) : Type 0 where
+pub record EndsAll (P : Role → EndCore → List Utterance → Type 0) (s : LaneCore) (transcript : TranscriptLog) : Type 0 where
   pub a : P Initiator s.a transcript.client
   pub b : P Responder s.b transcript.server
 
-abbrev pub MovesKeep : (Role → EndCore → List Turn → Type 0) → Type 0
-MovesKeep P = (role : Role) (c : EndCore) (move : EndMove) (t : EndCore) (turns : List Turn) → P role c turns → EndStep role c move t → P role t (turns_after turns move)
+abbrev pub MovesKeep : (Role → EndCore → List Utterance → Type 0) → Type 0
+MovesKeep P = (role : Role) (c : EndCore) (move : EndMove) (t : EndCore) (turns : List Utterance) → P role c turns → EndStep role c move t → P role t (turns_after turns move)
 
-pub ends_step : (P : Role → EndCore → List Turn → Type 0) → MovesKeep P → (s : LaneCore) (event : CoreEvent) (t : LaneCore) (transcript : TranscriptLog) → EndsAll P s transcript → CoreStep s event t
+pub ends_step : (P : Role → EndCore → List Utterance → Type 0) → MovesKeep P → (s : LaneCore) (event : CoreEvent) (t : LaneCore) (transcript : TranscriptLog) → EndsAll P s transcript → CoreStep s event t
     → EndsAll P t (transcript_after transcript event)
 ends_step P keeps s event t transcript all step = record {
   a = subst (P Initiator t.a) (sym (transcript_turns A transcript event)) (keeps Initiator s.a (move_of A event) t.a transcript.client all.a step.a);
   b = subst (P Responder t.b) (sym (transcript_turns B transcript event)) (keeps Responder s.b (move_of B event) t.b transcript.server all.b step.b);
 }
 
-pub ends_run : (P : Role → EndCore → List Turn → Type 0) → MovesKeep P → (entries : ℕ) (asks answers : Offer) (events : List CoreEvent) (s : LaneCore)
+pub ends_run : (P : Role → EndCore → List Utterance → Type 0) → MovesKeep P → (entries : ℕ) (asks answers : Offer) (events : List CoreEvent) (s : LaneCore)
     → P Initiator (fresh_end Initiator asks) [] → P Responder (fresh_end Responder answers) [] → Run CoreStep (fresh_core entries asks answers) events s
     → EndsAll P s (transcript_behind events)
 ends_run P keeps entries asks answers events s first second run =
@@ -72,7 +72,7 @@ pub record ActsKeep (Holds : Role → Sides → Type 0) : Type 0 where
       → EndSays role s.mine.core packet opens t → Holds role s → Holds role (put packet t s)
   pub misses : (role : Role) (s : Sides) (packet : List ℕ) → BothStand role s → slice_get s.mine.waiting 0 ≡ Some packet → Holds role s → Holds role (missed s)
 
-pub begins_anew : (role : Role) (c t : EndCore) (turns : List Turn) → EndStands role c turns → EndBegins c t → EndAnew role c t
+pub begins_anew : (role : Role) (c t : EndCore) (turns : List Utterance) → EndStands role c turns → EndBegins c t → EndAnew role c t
 begins_anew role c t turns stands begins =
     record { link = begins.link ∙ ap fresh_link stands.link.role_is; handshake = inl begins.handshake; offer = begins.offer; closed = begins.closed }
 
@@ -80,7 +80,7 @@ pub renews_anew : (role : Role) (c t : EndCore) → EndRenews role c t → EndAn
 renews_anew Initiator c t renews = record { link = renews.link; handshake = inl renews.handshake; offer = renews.offer; closed = renews.closed }
 renews_anew Responder c t renews = record { link = renews.link; handshake = inr renews.handshake; offer = renews.offer; closed = renews.closed }
 
-pub resets_anew : (g : Giver) (role : Role) (c t : EndCore) (turns : List Turn) (cause : Cause) (packet : Option (List ℕ)) → EndStands role c turns
+pub resets_anew : (g : Giver) (role : Role) (c t : EndCore) (turns : List Utterance) (cause : Cause) (packet : Option (List ℕ)) → EndStands role c turns
     → EndStep role c (reset_move g cause packet) t → EndAnew role c t
 resets_anew g role c t turns cause packet stands step = grind arith
 

@@ -22,7 +22,7 @@ use Rattle.ldc_queue.specs.declared.end.ChannelState.{ChannelState}
 use Rattle.ldc_queue.specs.declared.end.ChannelState.TheVariants.{Down, Resetting, Up}
 use Rattle.ldc_queue.specs.Numbered.{is_numbered, numbered}
 use Rattle.ldc_queue.specs.OneStream.{live}
-use Rattle.ldc_queue.specs.Transcript.{Turn, numbered_heard, numbered_said}
+use Rattle.ldc_queue.specs.Transcript.{Utterance, numbered_heard, numbered_said}
 use Rattle.vio_handshake.specs.declared.session.Offer.{Offer}
 use Rattle.channel_model.specs.TranscriptLog.{nothing_said}
 use Rattle.ldc_queue.specs.Wire.{peer_behind, queue_behind, upset}
@@ -32,7 +32,7 @@ use Rattle.channel_laws.proofs.EndCases.{end_took}
 use Rattle.channel_laws.proofs.EndStanding.{held_stands}
 use Rattle.channel_laws.proofs.Lifting.{ActsKeep}
 use Rattle.channel_laws.proofs.LinkCases.{ControlGone, LinkHeard, LinkPut, ModeAnswered as ModeAnswered_, ModeOffered, PartGone, ReadyGone, VersionAnswered as VersionAnswered_, VersionOffered, VersionRefused, canonical_is, link_put, part_loud, put_quiet, ready_loud}
-use Rattle.channel_laws.proofs.TurnCases.{SaysPart, says_part}
+use Rattle.channel_laws.proofs.UtteranceCases.{SaysPart, says_part}
 use Rattle.channel_laws.specs.EndCore.{EndCore}
 use Rattle.channel_laws.specs.EndStep.{EndAnew, EndHears, EndSays}
 use Rattle.channel_laws.specs.LinkPlaces.{AllNumbered, AnswerTaken, AtMost, BothUp, EachPart, HeardAt, IsPartOf, IsReady, LinkPlace, LinksAt, ModeAgreed, ModeAnswered, ModePut, ModeTaken, NothingPut, ReadyFirst, ReadyPut, SaidAt, VersionAnswered, VersionPut, VersionTaken, Waits, live_phase, mode_answer, mode_offer, phase_at, version_answer, version_offer}
@@ -227,7 +227,7 @@ part_put : (role : Role) (place : LinkPlace) (bytes : List ℕ) (now : LinkPhase
 part_put role place bytes now at part has goes = grind (arith, all_more, parts_more)
 
 -- A PACKET IS PUT
-put_place : (role : Role) (place : LinkPlace) (k m : LinkState) (turns : List Turn) (bytes : List ℕ) → Follows k turns → k.phase ≡ phase_at role place → LinkPut k bytes m
+put_place : (role : Role) (place : LinkPlace) (k m : LinkState) (turns : List Utterance) (bytes : List ℕ) → Follows k turns → k.phase ≡ phase_at role place → LinkPut k bytes m
     → PutPlace role place bytes m.phase
 put_place role place k m turns bytes follows at (ControlGone next (VersionOffered from is goes) link) =
     put_at role Initiator place NothingPut bytes m.phase (offers_at role place (sym from ∙ at))

@@ -13,12 +13,12 @@ use Rattle.ldc_queue.specs.Fragments.{fragments_in}
 use Rattle.ldc_queue.specs.Messages.{AllMayCome}
 use Rattle.ldc_queue.specs.Numbered.{is_numbered, numbered}
 use Rattle.ldc_queue.specs.OneStream.{OneWay, live}
-use Rattle.ldc_queue.specs.Transcript.{Turn, numbered_heard, numbered_said}
+use Rattle.ldc_queue.specs.Transcript.{Utterance, numbered_heard, numbered_said}
 use Rattle.vio_tag.specs.declared.cause.Cause.{Cause}
 use Rattle.channel_laws.proofs.Conversations.{first_waits}
 use Rattle.channel_laws.proofs.FewLost.{below_turn}
 use Rattle.channel_laws.proofs.LinkPlaced.{TheOne, agreed_taken, answer_taken, first_numbered, mode_taken, nothing_first, offer_taken, the_one}
-use Rattle.channel_laws.proofs.LinkTurns.{Turned, part_early, part_turned, ready_turned, turned_own}
+use Rattle.channel_laws.proofs.TakenInOrder.{InOrder, part_early, part_turned, ready_turned, turned_own}
 use Rattle.channel_laws.proofs.NextPacket.{WasSaid, each_in, ready_in, was_said}
 use Rattle.channel_laws.proofs.PartsSaid.{PartsSaid}
 use Rattle.channel_laws.specs.Conversing.{Converse}
@@ -27,7 +27,7 @@ use Rattle.channel_laws.specs.Resetting.{IsGapBehindLoss}
 use Rattle.channel_laws.specs.Sides.{Sides, other}
 
 -- what is known of the way to an end that is up
-record WayTo (lossy : Bool) (k : LinkState) (turns : List Turn) (said waiting : List (List ℕ)) (packet : List ℕ) : Type 0 where
+record WayTo (lossy : Bool) (k : LinkState) (turns : List Utterance) (said waiting : List (List ℕ)) (packet : List ℕ) : Type 0 where
   lost : ℕ
   follows : Follows k turns
   first : slice_get waiting 0 ≡ Some packet
@@ -37,8 +37,8 @@ record WayTo (lossy : Bool) (k : LinkState) (turns : List Turn) (said waiting : 
   parts : AllMayCome [] (fragments_in said)
 
 -- RDX goes before all parts
-early_turned : (k : LinkState) (turns : List Turn) (said : List (List ℕ)) (packet : List ℕ) → k.phase ≡ phase.AwaitsRdx → numbered_heard turns ≡ [] → ReadyFirst said
-    → WasSaid said (numbered_heard turns) packet → Turned k said (numbered_heard turns) packet
+early_turned : (k : LinkState) (turns : List Utterance) (said : List (List ℕ)) (packet : List ℕ) → k.phase ≡ phase.AwaitsRdx → numbered_heard turns ≡ [] → ReadyFirst said
+    → WasSaid said (numbered_heard turns) packet → InOrder k said (numbered_heard turns) packet
 early_turned k turns said packet at none ready was =
     elim (ready_in (numbered_heard turns ++ was.gone) packet was.rest (subst ReadyFirst was.is ready)) [
       | inl one ↦ ready_turned k said (numbered_heard turns) packet at one.0
@@ -49,17 +49,17 @@ front_none : (heard gone : List (List ℕ)) → 1 ≤ length heard → heard ++ 
 front_none [] gone some none = omega (arith, some)
 front_none (one ∷ heard) gone some none = cc none
 
-up_turned : (k : LinkState) (turns : List Turn) (said : List (List ℕ)) (packet : List ℕ) → k.phase ≡ phase.Established → 1 ≤ length (numbered_heard turns) → ReadyFirst said → Follows k turns
-    → AllMayCome [] (fragments_in said) → WasSaid said (numbered_heard turns) packet → Turned k said (numbered_heard turns) packet
+up_turned : (k : LinkState) (turns : List Utterance) (said : List (List ℕ)) (packet : List ℕ) → k.phase ≡ phase.Established → 1 ≤ length (numbered_heard turns) → ReadyFirst said → Follows k turns
+    → AllMayCome [] (fragments_in said) → WasSaid said (numbered_heard turns) packet → InOrder k said (numbered_heard turns) packet
 up_turned k turns said packet at some ready follows all was = grind (arith, ready_in, front_none, part_turned)
 
 -- a packet with a number is a gap, or taken
-numbered_refuses : (lossy : Bool) (k : LinkState) (turns : List Turn) (said waiting : List (List ℕ)) (packet : List ℕ) (cause : Cause) → WayTo lossy k turns said waiting packet
-    → is_numbered packet ≡ true → TakesBytes k packet (Unheard cause) → (WasSaid said (numbered_heard turns) packet → Turned k said (numbered_heard turns) packet) → IsGapBehindLoss lossy cause
+numbered_refuses : (lossy : Bool) (k : LinkState) (turns : List Utterance) (said waiting : List (List ℕ)) (packet : List ℕ) (cause : Cause) → WayTo lossy k turns said waiting packet
+    → is_numbered packet ≡ true → TakesBytes k packet (Unheard cause) → (WasSaid said (numbered_heard turns) packet → InOrder k said (numbered_heard turns) packet) → IsGapBehindLoss lossy cause
 numbered_refuses lossy k turns said waiting packet cause to has takes turned = search (first_waits, turned_own, was_said)
 
 -- BY THE PLACE of the links: one without a number is always taken
-at_place : (role : Role) (place : LinkPlace) (lossy : Bool) (k : LinkState) (turns : List Turn) (said waiting : List (List ℕ)) (packet : List ℕ) (cause : Cause) → k.phase ≡ phase_at role place
+at_place : (role : Role) (place : LinkPlace) (lossy : Bool) (k : LinkState) (turns : List Utterance) (said waiting : List (List ℕ)) (packet : List ℕ) (cause : Cause) → k.phase ≡ phase_at role place
     → Waits role lossy place waiting → SaidAt (other role) place said → HeardAt role place (numbered_heard turns) → WayTo lossy k turns said waiting packet
     → TakesBytes k packet (Unheard cause) → IsGapBehindLoss lossy cause
 at_place Initiator VersionAnswered lossy k turns said waiting packet cause at waits peer_said heard to takes =
@@ -85,7 +85,7 @@ at_place Responder BothUp lossy k turns said waiting packet cause at waits peer_
 at_place Initiator _ lossy k turns said waiting packet cause at waits peer_said heard to takes = absurd (nothing_first waiting packet waits to.first)
 at_place Responder _ lossy k turns said waiting packet cause at waits peer_said heard to takes = absurd (nothing_first waiting packet waits to.first)
 
-live_parts : (x : ChannelState) (turns : List Turn) → PartsSaid turns → AllMayCome [] (fragments_in (live x (numbered_said turns)))
+live_parts : (x : ChannelState) (turns : List Utterance) → PartsSaid turns → AllMayCome [] (fragments_in (live x (numbered_said turns)))
 live_parts x turns all = grind arith
 
 -- A LINK that doesn't take the packet that waits first for it

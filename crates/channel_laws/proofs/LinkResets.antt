@@ -20,7 +20,7 @@ use Rattle.ldc_packet.specs.Fault.{first_fault}
 use Rattle.ldc_packet.specs.Spelling.{SpellsBody, ctrl_at, env_at, seqid_at, subtype_at, subtype_code, type_at, type_code}
 use Rattle.ldc_queue.specs.Fragments.{Fragment, fragment_at, is_part}
 use Rattle.ldc_queue.specs.Numbered.{is_numbered}
-use Rattle.ldc_queue.specs.Transcript.{Turn}
+use Rattle.ldc_queue.specs.Transcript.{Utterance}
 use Rattle.vio_tag.specs.declared.cause.Cause.{Cause}
 use Rattle.vio_tag.specs.declared.cause.Cause.TheVariants as the_cause
 use Rattle.channel_model.proofs.SameSayings.{half_heard_is}
@@ -29,21 +29,21 @@ use Rattle.channel_model.specs.WireAt.{counts_next}
 use Rattle.channel_laws.proofs.Numbering.{count_heard_is}
 use Rattle.channel_laws.specs.Resetting.{SaysWhy}
 
-abbrev WhyPhase : List Turn → List ℕ → Result LinkPhase Cause → Type 0
+abbrev WhyPhase : List Utterance → List ℕ → Result LinkPhase Cause → Type 0
 WhyPhase turns bytes r = IfErr r (SaysWhy turns bytes)
 
-abbrev WhyLink : List Turn → List ℕ → LinkTake → Type 0
+abbrev WhyLink : List Utterance → List ℕ → LinkTake → Type 0
 WhyLink turns bytes (Heard k) = ⊤
 WhyLink turns bytes (Unheard cause) = SaysWhy turns bytes cause
 
-unexpected : (turns : List Turn) (bytes : List ℕ) → first_fault bytes ≡ None → SaysWhy turns bytes the_cause.Unexpected
+unexpected : (turns : List Utterance) (bytes : List ℕ) → first_fault bytes ≡ None → SaysWhy turns bytes the_cause.Unexpected
 unexpected turns bytes sound = record { says = sound; gap = tt; carried = tt }
 
-goes_why : (turns : List Turn) (bytes : List ℕ) (k : LinkState) (r : Result LinkPhase Cause) → WhyPhase turns bytes r → WhyLink turns bytes (goes_to k r)
+goes_why : (turns : List Utterance) (bytes : List ℕ) (k : LinkState) (r : Result LinkPhase Cause) → WhyPhase turns bytes r → WhyLink turns bytes (goes_to k r)
 goes_why turns bytes k (Ok p) why = tt
 goes_why turns bytes k (Err cause) why = why
 
-count_why : (turns : List Turn) (bytes : List ℕ) (take : LinkTake) → WhyLink turns bytes take → WhyLink turns bytes (count take)
+count_why : (turns : List Utterance) (bytes : List ℕ) (take : LinkTake) → WhyLink turns bytes take → WhyLink turns bytes (count take)
 count_why turns bytes (Heard k) why = tt
 count_why turns bytes (Unheard cause) why = why
 
@@ -51,24 +51,24 @@ count_why turns bytes (Unheard cause) why = why
 pub other_number : (a b : ℕ) → nat_eq a b ≡ false → a ≢ b
 other_number a b is = grind arith
 
-vers_why : (turns : List Turn) (bytes : List ℕ) (p : LinkPhase) (s : Subtype) (major minor : ℕ) → first_fault bytes ≡ None → type_at bytes ≡ 1 → SpellsBody bytes (Vers major minor)
+vers_why : (turns : List Utterance) (bytes : List ℕ) (p : LinkPhase) (s : Subtype) (major minor : ℕ) → first_fault bytes ≡ None → type_at bytes ≡ 1 → SpellsBody bytes (Vers major minor)
     → subtype_at bytes ≡ subtype_code s → WhyPhase turns bytes (phase_behind_vers p s major minor)
 vers_why turns bytes p s major minor sound kind spells subtype = grind arith
 
-rts_why : (turns : List Turn) (bytes : List ℕ) (p : LinkPhase) (s : Subtype) → first_fault bytes ≡ None → WhyPhase turns bytes (phase_behind_rts p s)
+rts_why : (turns : List Utterance) (bytes : List ℕ) (p : LinkPhase) (s : Subtype) → first_fault bytes ≡ None → WhyPhase turns bytes (phase_behind_rts p s)
 rts_why turns bytes phase.AwaitsRts Info sound = tt
 rts_why turns bytes _ _ sound = unexpected turns bytes sound
 
-rtr_why : (turns : List Turn) (bytes : List ℕ) (p : LinkPhase) (s : Subtype) → first_fault bytes ≡ None → WhyPhase turns bytes (phase_behind_rtr p s)
+rtr_why : (turns : List Utterance) (bytes : List ℕ) (p : LinkPhase) (s : Subtype) → first_fault bytes ≡ None → WhyPhase turns bytes (phase_behind_rtr p s)
 rtr_why turns bytes phase.AwaitsRtr Info sound = tt
 rtr_why turns bytes _ _ sound = unexpected turns bytes sound
 
-rdx_why : (turns : List Turn) (bytes : List ℕ) (p : LinkPhase) (s : Subtype) → first_fault bytes ≡ None → WhyPhase turns bytes (phase_behind_rdx p s)
+rdx_why : (turns : List Utterance) (bytes : List ℕ) (p : LinkPhase) (s : Subtype) → first_fault bytes ≡ None → WhyPhase turns bytes (phase_behind_rdx p s)
 rdx_why turns bytes phase.AwaitsRdx Info sound = tt
 rdx_why turns bytes _ _ sound = unexpected turns bytes sound
 
 -- a mode that isn't unreliable
-mode_why : (turns : List Turn) (bytes : List ℕ) (b : Bool) (mode : ℕ) (r : Result LinkPhase Cause) → first_fault bytes ≡ None → type_at bytes ≡ 1
+mode_why : (turns : List Utterance) (bytes : List ℕ) (b : Bool) (mode : ℕ) (r : Result LinkPhase Cause) → first_fault bytes ≡ None → type_at bytes ≡ 1
     → (ctrl_at bytes ≡ 2) ⊎ (ctrl_at bytes ≡ 3) → env_at bytes ≡ mode → b ≡ nat_eq mode 1 → WhyPhase turns bytes r → WhyPhase turns bytes (if b then r else Err (the_cause.Mode mode))
 mode_why turns bytes true mode r sound control kind env is why = why
 mode_why turns bytes false mode r sound control kind env is why = record {
@@ -78,7 +78,7 @@ mode_why turns bytes false mode r sound control kind env is why = record {
 }
 
 -- a number that isn't the next
-turn_why : (turns : List Turn) (bytes : List ℕ) (b : Bool) (next seqid : ℕ) (answer : LinkTake) → first_fault bytes ≡ None → is_numbered bytes ≡ true
+turn_why : (turns : List Utterance) (bytes : List ℕ) (b : Bool) (next seqid : ℕ) (answer : LinkTake) → first_fault bytes ≡ None → is_numbered bytes ≡ true
     → next ≡ counts_next (count_heard turns) → seqid_at bytes ≡ seqid → b ≡ nat_eq seqid next → WhyLink turns bytes answer
     → WhyLink turns bytes (if b then count answer else Unheard (the_cause.Gap next seqid))
 turn_why turns bytes true next seqid answer sound has expected found is why = count_why turns bytes answer why
@@ -89,14 +89,14 @@ turn_why turns bytes false next seqid answer sound has expected found is why = r
 }
 
 -- a part that makes no message
-part_why : (turns : List Turn) (bytes : List ℕ) (k : LinkState) (up come : Bool) (part : Fragment) → first_fault bytes ≡ None → is_part bytes ≡ true
+part_why : (turns : List Utterance) (bytes : List ℕ) (k : LinkState) (up come : Bool) (part : Fragment) → first_fault bytes ≡ None → is_part bytes ≡ true
     → come ≡ may_come (half_heard turns) (fragment_at bytes)
     → WhyLink turns bytes (if up then (if come then Heard (with_part k part) else Unheard the_cause.Fragment) else Unheard the_cause.Unexpected)
 part_why turns bytes k true true part sound is may = tt
 part_why turns bytes k true false part sound is may = record { says = (sound, record { part = is; broken = sym may }); gap = tt; carried = tt }
 part_why turns bytes k false come part sound is may = unexpected turns bytes sound
 
-body_why : (turns : List Turn) (bytes : List ℕ) (k : LinkState) (s : Subtype) (n : ℕ) (b : Body) → Follows k turns → first_fault bytes ≡ None → type_at bytes ≡ type_code b
+body_why : (turns : List Utterance) (bytes : List ℕ) (k : LinkState) (s : Subtype) (n : ℕ) (b : Body) → Follows k turns → first_fault bytes ≡ None → type_at bytes ≡ type_code b
     → subtype_at bytes ≡ subtype_code s → seqid_at bytes ≡ n → SpellsBody bytes b → is_numbered bytes ≡ has_number b → is_part bytes ≡ has_part b
     → (IsData b → fragment_at bytes ≡ fragment_of b) → WhyLink turns bytes (takes_body k s n b)
 unfolding has_number has_part
@@ -120,7 +120,7 @@ body_why turns bytes k s n (Part start stop len own) follows sound kind subtype 
     (follows.takes ∙ ap counts_next (sym (count_heard_is turns))) seqid refl
     (part_why turns bytes k (is_up k) (may_come k.half_heard carried) carried sound part (sym may))
 
-decoded_why : (turns : List Turn) (bytes : List ℕ) (k : LinkState) (d : Result Packet PacketFault) → Follows k turns → Unpacks bytes d → WhyLink turns bytes (takes_decoded k d)
+decoded_why : (turns : List Utterance) (bytes : List ℕ) (k : LinkState) (d : Result Packet PacketFault) → Follows k turns → Unpacks bytes d → WhyLink turns bytes (takes_decoded k d)
 decoded_why turns bytes k (Ok p) follows unpacks =
     let form = unpacks.packet.0 in
     let spells = unpacks.packet.1 in
@@ -129,5 +129,5 @@ decoded_why turns bytes k (Ok p) follows unpacks =
 decoded_why turns bytes k (Err fault) follows unpacks = record { says = unpacks.fault; gap = tt; carried = tt }
 
 -- A LINK that doesn't take a packet
-pub link_why : (turns : List Turn) (bytes : List ℕ) (k : LinkState) (cause : Cause) → Follows k turns → TakesBytes k bytes (Unheard cause) → SaysWhy turns bytes cause
+pub link_why : (turns : List Utterance) (bytes : List ℕ) (k : LinkState) (cause : Cause) → Follows k turns → TakesBytes k bytes (Unheard cause) → SaysWhy turns bytes cause
 link_why turns bytes k cause follows takes = subst (WhyLink turns bytes) (sym takes.is) (decoded_why turns bytes k takes.decoded follows takes.unpacks)

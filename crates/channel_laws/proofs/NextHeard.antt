@@ -7,7 +7,7 @@ use Rattle.ldc_link.specs.Taking.{Heard, LinkTake, TakesBytes, Unheard}
 use Rattle.ldc_queue.specs.declared.end.ChannelState.{ChannelState}
 use Rattle.ldc_queue.specs.declared.end.ChannelState.TheVariants.{Up}
 use Rattle.ldc_queue.specs.OneStream.{IsFront}
-use Rattle.ldc_queue.specs.Transcript.{Heard as Heard_, Turn}
+use Rattle.ldc_queue.specs.Transcript.{Heard as Heard_, Utterance}
 use Rattle.vio_handshake.specs.declared.session.Offer.{Offer}
 use Rattle.vio_tag.specs.declared.cause.Cause.{Cause}
 use Rattle.channel_model.specs.Sayings.{heard, said}
@@ -19,12 +19,12 @@ use Rattle.channel_laws.proofs.HandshakesPlaced.{Meets}
 use Rattle.channel_laws.proofs.Lifting.{BothStand}
 use Rattle.channel_laws.proofs.LinkRefuses.{link_refuses}
 use Rattle.channel_laws.proofs.PartsSaid.{PartsSaid}
-use Rattle.channel_laws.proofs.TurnCases.{with_whole}
+use Rattle.channel_laws.proofs.UtteranceCases.{with_whole}
 use Rattle.channel_laws.specs.Resetting.{IsGapBehindLoss}
 use Rattle.channel_laws.specs.Sides.{Sides}
 
 -- THE NEXT MESSAGE: the other end is up, and said it after all that this end heard
-pub record NextHeard (mine theirs : List Turn) (peer : ChannelState) (message : List ℕ) : Type 0 where
+pub record NextHeard (mine theirs : List Utterance) (peer : ChannelState) (message : List ℕ) : Type 0 where
   pub up : peer ≡ Up
   pub front : IsFront (heard mine ++ message ∷ []) (said theirs)
 

@@ -30,7 +30,7 @@ use Rattle.ldc_queue.specs.Fragments.{Fragment, fragment_at, is_part}
 use Rattle.ldc_queue.specs.Messages.{is_empty}
 use Rattle.ldc_queue.specs.Numbered.{CountUp, is_numbered, kept}
 use Rattle.ldc_queue.specs.Transcript as turn
-use Rattle.ldc_queue.specs.Transcript.{Turn, numbered_heard, numbered_said}
+use Rattle.ldc_queue.specs.Transcript.{Utterance, numbered_heard, numbered_said}
 use Rattle.vio_handshake.specs.declared.session.Offer.{Offer}
 use Rattle.channel_model.proofs.SameSayings.{half_heard_is}
 use Rattle.channel_model.specs.Sayings.{count_heard, count_said, half_heard, half_said}
@@ -41,7 +41,7 @@ use Rattle.channel_laws.proofs.ConversingRuns.{converse_keeps, first_converse}
 use Rattle.channel_laws.proofs.CoreRuns.{Knows, knows_run}
 use Rattle.channel_laws.proofs.EndStanding.{held_stands}
 use Rattle.channel_laws.proofs.LinkCases.{ControlGone, LinkPut, ModeAnswered, ModeOffered, PartGone, ReadyGone, VersionAnswered, VersionOffered, VersionRefused, canonical_is, link_put, put_quiet, ready_loud}
-use Rattle.channel_laws.proofs.TurnCases.{SaysPart, says_part}
+use Rattle.channel_laws.proofs.UtteranceCases.{SaysPart, says_part}
 use Rattle.channel_laws.specs.Conversing.{Converse}
 use Rattle.channel_laws.specs.CoreLog.{CoreLog, HeardAt, SaidAt, TableAt, after, nothing_yet}
 use Rattle.channel_laws.specs.Cuts.{Cuts}
@@ -55,12 +55,12 @@ kept_more : (b : Bool) (packet : List ℕ) (n : ℕ) (xs : List (List ℕ)) → 
 kept_more true packet n xs is = omega (arith, is, length-append xs (packet ∷ []))
 kept_more false packet n xs is = omega (arith, is, length-append xs [])
 
-pub count_said_is : (turns : List Turn) → count_said turns ≡ length (numbered_said turns)
+pub count_said_is : (turns : List Utterance) → count_said turns ≡ length (numbered_said turns)
 count_said_is [] = refl
 count_said_is (turn.Heard packet ∷ turns) = count_said_is turns
 count_said_is (turn.Said packet ∷ turns) = kept_more (is_numbered packet) packet (count_said turns) (numbered_said turns) (count_said_is turns)
 
-pub count_heard_is : (turns : List Turn) → count_heard turns ≡ length (numbered_heard turns)
+pub count_heard_is : (turns : List Utterance) → count_heard turns ≡ length (numbered_heard turns)
 count_heard_is [] = refl
 count_heard_is (turn.Said packet ∷ turns) = count_heard_is turns
 count_heard_is (turn.Heard packet ∷ turns) = kept_more (is_numbered packet) packet (count_heard turns) (numbered_heard turns) (count_heard_is turns)
@@ -70,7 +70,7 @@ number_of true bytes n counts has = counts.0
 number_of false bytes n counts has = absurd (cc has)
 
 -- WHAT IS SAID: a packet of the link's handshake, RDX, or the next part of a message
-without_part : (turns : List Turn) (bytes : List ℕ) (packet : Packet) → IsWellFormed packet → HasWidths packet → bytes ≡ canonical packet
+without_part : (turns : List Utterance) (bytes : List ℕ) (packet : Packet) → IsWellFormed packet → HasWidths packet → bytes ≡ canonical packet
     → (is_numbered bytes ≡ true → seqid_at bytes ≡ counts_next (count_said turns)) → is_part bytes ≡ false → IsSaid turns bytes
 without_part turns bytes packet form fits is number none = grind arith
 
@@ -78,14 +78,14 @@ twice : (a b : Bool) → a ≡ not b → not a ≡ b
 twice a true is = ap not is
 twice a false is = ap not is
 
-said_part : (k : LinkState) (turns : List Turn) (bytes : List ℕ) → Cuts k turns → SaysPart k bytes → IsSaidPart (half_said turns) (fragment_at bytes)
+said_part : (k : LinkState) (turns : List Utterance) (bytes : List ℕ) → Cuts k turns → SaysPart k bytes → IsSaidPart (half_said turns) (fragment_at bytes)
 said_part k turns bytes cuts part = record {
   start = part.starts ∙ twice k.begun (is_empty (half_said turns)) cuts.begun;
   long = λ more. let long = leb-false (length k.to_send) 56 (sym part.stops ∙ more) in omega (arith, long, ap length part.carries, length-take 56 k.to_send);
   most = omega (arith, cuts.most, ap length part.carries, length-take 56 k.to_send);
 }
 
-said_so : (k m : LinkState) (turns : List Turn) (bytes : List ℕ) → Follows k turns → Cuts k turns → (is_numbered bytes ≡ true → seqid_at bytes ≡ counts_next (count_said turns))
+said_so : (k m : LinkState) (turns : List Utterance) (bytes : List ℕ) → Follows k turns → Cuts k turns → (is_numbered bytes ≡ true → seqid_at bytes ≡ counts_next (count_said turns))
     → LinkPut k bytes m → IsSaid turns bytes
 said_so k m turns bytes follows cuts number (ControlGone next (VersionOffered at is goes) link) =
     without_part turns bytes _ tt (omega arith, (omega arith, omega arith)) is number (put_quiet k.phase bytes next follows.offers (VersionOffered at is goes)).1
@@ -110,7 +110,7 @@ said_so k m turns bytes follows cuts number (PartGone at some is link) = record 
   part = λ part. said_part k turns bytes cuts (says_part k turns bytes follows some is);
 }
 
-pub end_said : (role : Role) (c t : EndCore) (turns : List Turn) (packet : List ℕ) (opens : Bool) → EndStands role c turns → EndSays role c packet opens t → IsSaid turns packet
+pub end_said : (role : Role) (c t : EndCore) (turns : List Utterance) (packet : List ℕ) (opens : Bool) → EndStands role c turns → EndSays role c packet opens t → IsSaid turns packet
 end_said role c t turns packet opens stands says =
     let held : EndCore = says.held in
     let holds = held_stands role c held turns says.what stands says.holds in
@@ -125,7 +125,7 @@ unfolding has_part
 part_data (Part start stop len bytes) part = tt
 part_data _ part = absurd (cc part)
 
-pub heard_so : (k : LinkState) (turns : List Turn) (bytes : List ℕ) (m : LinkState) → Follows k turns → TakesBytes k bytes (Heard m) → IsHeard turns bytes
+pub heard_so : (k : LinkState) (turns : List Utterance) (bytes : List ℕ) (m : LinkState) → Follows k turns → TakesBytes k bytes (Heard m) → IsHeard turns bytes
 heard_so k turns bytes m follows takes = from takes.decoded takes.unpacks takes.is
   where
     from : (d : Result Packet PacketFault) → Unpacks bytes d → Heard m ≡ takes_decoded k d → IsHeard turns bytes
@@ -144,7 +144,7 @@ heard_so k turns bytes m follows takes = from takes.decoded takes.unpacks takes.
         }
     from (Err fault) unpacks is = absurd (cc is)
 
-pub end_heard : (role : Role) (c t : EndCore) (turns : List Turn) (packet : List ℕ) (opens : Bool) → EndStands role c turns → EndHears role c packet opens t → IsHeard turns packet
+pub end_heard : (role : Role) (c t : EndCore) (turns : List Utterance) (packet : List ℕ) (opens : Bool) → EndStands role c turns → EndHears role c packet opens t → IsHeard turns packet
 end_heard role c t turns packet opens stands hears = heard_so c.link turns packet hears.heard stands.link.follows hears.takes
 
 -- ALONG EVERY RUN

@@ -11,7 +11,7 @@ use Rattle.ldc_packet.specs.declared.packet.Subtype.{Subtype}
 use Rattle.ldc_packet.specs.declared.packet.Subtype.TheVariants.{Nack}
 use Rattle.ldc_packet.specs.Spelling.{subtype_code}
 use Rattle.ldc_queue.specs.Fragments.{fragment_at, is_part}
-use Rattle.ldc_queue.specs.Transcript.{Heard, Said, Turn}
+use Rattle.ldc_queue.specs.Transcript.{Heard, Said, Utterance}
 use Rattle.vio_tag.specs.declared.message.Message.{Message}
 use Rattle.vio_tag.specs.declared.message.MsgBody.{MsgBody}
 use Rattle.vio_tag.specs.declared.message.MsgBody.TheVariants.{Plain}
@@ -23,7 +23,7 @@ use Rattle.vio_handshake.specs.declared.handshake.Phase.TheVariants.{Attributes,
 use Rattle.channel_model.specs.HandshakeOrder.{ComesUpBelow, EndsAs, FollowsRow, Hears, HearsControl, Line, MayEnd, Meets, Says, SaysControl, opening_lines, row, sid_in_bytes}
 use Rattle.channel_model.specs.Sayings.{half_heard, half_said}
 use Rattle.channel_laws.proofs.HandshakeCases.{NothingFollows}
-use Rattle.channel_laws.proofs.TurnCases.{EndsBy}
+use Rattle.channel_laws.proofs.UtteranceCases.{EndsBy}
 use Rattle.channel_laws.specs.EndCore.{EndCore}
 
 -- THE LINK: how many of the opening's lines are to come in a phase, and those that are met
@@ -89,7 +89,7 @@ IsNext (Says subtype envelope ∷ lines) sid message = IsLine subtype envelope s
 IsNext _ sid message = ⊥
 
 -- what it owes is its own next line; or that is said, and it owes nothing but a refusal
-pub record Owing (both : Bool) (role : Role) (p : Phase) (sid : ℕ) (owed : Option Message) (turns : List Turn) : Type 0 where
+pub record Owing (both : Bool) (role : Role) (p : Phase) (sid : ℕ) (owed : Option Message) (turns : List Utterance) : Type 0 where
   pub message : Message
   pub owed_is : owed ≡ Some message
   pub next : IsNext (met both role p) sid message
@@ -99,23 +99,23 @@ abbrev pub IsRefusal : Option Message → Type 0
 IsRefusal None = ⊤
 IsRefusal (Some message) = message.subtype ≡ Nack
 
-pub record Waiting (both : Bool) (role : Role) (p : Phase) (sid : ℕ) (owed : Option Message) (turns : List Turn) : Type 0 where
+pub record Waiting (both : Bool) (role : Role) (p : Phase) (sid : ℕ) (owed : Option Message) (turns : List Utterance) : Type 0 where
   pub waits : NothingFollows p
   pub refusal : IsRefusal owed
   pub follows : FollowsRow role sid (met both role p) turns
 
-pub record Comes (both : Bool) (role : Role) (p : Phase) (sid : ℕ) (owed : Option Message) (turns : List Turn) : Type 0 where
+pub record Comes (both : Bool) (role : Role) (p : Phase) (sid : ℕ) (owed : Option Message) (turns : List Utterance) : Type 0 where
   pub coming : IsComing both role p
   pub stage : Owing both role p sid owed turns ⊎ Waiting both role p sid owed turns
 
 abbrev pub sid_of : Handshake → ℕ
 sid_of h = h.draft.sid % 4294967296
 
-abbrev pub HandshakeComes : Role → Handshake → List Turn → Type 0
+abbrev pub HandshakeComes : Role → Handshake → List Utterance → Type 0
 HandshakeComes role h turns = Comes h.offer.both_rings role h.phase (sid_of h) h.owed turns
 
 -- AN END: before its link is up no message was said or heard, so any sid serves; once its session is open its order is behind it
-pub record EndCame (role : Role) (c : EndCore) (turns : List Turn) : Type 0 where
+pub record EndCame (role : Role) (c : EndCore) (turns : List Utterance) : Type 0 where
   pub below : is_up c.link ≡ false → FollowsRow role 0 (link_met role c.link.phase) turns
   pub above : is_up c.link ≡ true → (c.handshake.phase ≡ Open) ⊎ HandshakeComes role c.handshake turns
 
@@ -127,13 +127,13 @@ HasNoMessage (HearsControl packet ∷ lines) = HasNoMessage lines
 HasNoMessage (Says subtype envelope ∷ lines) = ⊥
 HasNoMessage (Hears subtype envelope ∷ lines) = ⊥
 
-any_line : (one other : ℕ) (line : Line) (lines : List Line) (turn : Turn) (turns : List Turn) → HasNoMessage (line ∷ lines) → Meets one line turn turns → Meets other line turn turns
+any_line : (one other : ℕ) (line : Line) (lines : List Line) (turn : Utterance) (turns : List Utterance) → HasNoMessage (line ∷ lines) → Meets one line turn turns → Meets other line turn turns
 any_line one other line lines turn turns none meets = grind arith
 
 other_lines : (line : Line) (lines : List Line) → HasNoMessage (line ∷ lines) → HasNoMessage lines
 other_lines line lines none = grind arith
 
-pub any_sid : (role : Role) (one other : ℕ) (lines : List Line) (turns : List Turn) → HasNoMessage lines → FollowsRow role one lines turns → FollowsRow role other lines turns
+pub any_sid : (role : Role) (one other : ℕ) (lines : List Line) (turns : List Utterance) → HasNoMessage lines → FollowsRow role one lines turns → FollowsRow role other lines turns
 any_sid role one other [] [] none follows = tt
 any_sid role one other (line ∷ lines) [] none follows = absurd follows
 any_sid role one other [] (turn ∷ turns) none follows = (follows.0, any_sid role one other [] turns none follows.1)
@@ -142,17 +142,17 @@ any_sid role one other (line ∷ lines) (turn ∷ turns) none (inl meets) =
 any_sid role one other (line ∷ lines) (turn ∷ turns) none (inr aside) = inr (aside.0, any_sid role one other (line ∷ lines) turns none aside.1)
 
 -- WHAT STANDS ASIDE: what is heard once the link is up, a control packet that is heard, and a part that ends no message or a refusal
-pub hears_aside : (role : Role) (sid : ℕ) (lines : List Line) (turns : List Turn) (bytes : List ℕ) → ComesUpBelow lines → FollowsRow role sid lines turns
+pub hears_aside : (role : Role) (sid : ℕ) (lines : List Line) (turns : List Utterance) (bytes : List ℕ) → ComesUpBelow lines → FollowsRow role sid lines turns
     → FollowsRow role sid lines (Heard bytes ∷ turns)
 hears_aside role sid [] turns bytes up follows = absurd up
 hears_aside role sid (line ∷ lines) turns bytes up follows = inr (inl up, follows)
 
-pub hears_control : (role : Role) (sid : ℕ) (lines : List Line) (turns : List Turn) (bytes : List ℕ) → is_part bytes ≡ false → FollowsRow role sid lines turns
+pub hears_control : (role : Role) (sid : ℕ) (lines : List Line) (turns : List Utterance) (bytes : List ℕ) → is_part bytes ≡ false → FollowsRow role sid lines turns
     → FollowsRow role sid lines (Heard bytes ∷ turns)
 hears_control role sid [] turns bytes is follows = (inr is, follows)
 hears_control role sid (line ∷ lines) turns bytes is follows = inr (inr is, follows)
 
-pub says_aside : (role : Role) (sid : ℕ) (lines : List Line) (turns : List Turn) (bytes : List ℕ) → ComesUpBelow lines → is_part bytes ≡ true
+pub says_aside : (role : Role) (sid : ℕ) (lines : List Line) (turns : List Utterance) (bytes : List ℕ) → ComesUpBelow lines → is_part bytes ≡ true
     → MayEnd (fragment_at bytes).stop (half_said turns ++ (fragment_at bytes).bytes) → FollowsRow role sid lines turns → FollowsRow role sid lines (Said bytes ∷ turns)
 says_aside role sid [] turns bytes up is may follows = absurd up
 says_aside role sid (line ∷ lines) turns bytes up is may follows = inr (inl (up, is, may), follows)
@@ -161,12 +161,12 @@ pub comes_up : (both : Bool) (role : Role) (p : Phase) → IsComing both role p 
 comes_up both role p coming = grind arith
 
 -- A MESSAGE THAT IS HEARD, by its fields
-pub heard_line : (turns : List Turn) (packet bytes : List ℕ) (d : Message) (s : Subtype) (b : MsgBody) (sid : ℕ) → EndsBy turns packet bytes → SpellsMessage bytes d
+pub heard_line : (turns : List Utterance) (packet bytes : List ℕ) (d : Message) (s : Subtype) (b : MsgBody) (sid : ℕ) → EndsBy turns packet bytes → SpellsMessage bytes d
     → d ≡ record { subtype = s; sid = d.sid; body = b } → d.sid % 4294967296 ≡ sid → EndsAs (subtype_code s) (envelope_code b) sid (half_heard turns) packet
 heard_line turns packet bytes d s b sid ends spells is same = grind arith
 
 -- ONE THAT IS SAID
-pub record SaysWhole (turns : List Turn) (packet : List ℕ) (message : Message) : Type 0 where
+pub record SaysWhole (turns : List Utterance) (packet : List ℕ) (message : Message) : Type 0 where
   pub part : is_part packet ≡ true
   pub stop : (fragment_at packet).stop ≡ true
   pub whole : half_said turns ++ (fragment_at packet).bytes ≡ canonical message
@@ -183,7 +183,7 @@ envelope_reads : (s : Subtype) (n : ℕ) (b : MsgBody) → IsNoPlain b → messa
 unfolding canonical
 envelope_reads s n b not = grind arith
 
-pub said_line : (turns : List Turn) (packet : List ℕ) (message : Message) (subtype envelope sid : ℕ) → SaysWhole turns packet message → IsLine subtype envelope sid message
+pub said_line : (turns : List Utterance) (packet : List ℕ) (message : Message) (subtype envelope sid : ℕ) → SaysWhole turns packet message → IsLine subtype envelope sid message
     → EndsAs subtype envelope sid (half_said turns) packet
 said_line turns packet message subtype envelope sid says is = record {
   part = says.part;
@@ -193,7 +193,7 @@ said_line turns packet message subtype envelope sid says is = record {
   of_sid = ap sid_in_bytes says.whole ∙ sid_reads message ∙ is.of_sid;
 }
 
-next_said : (role : Role) (lines : List Line) (sid : ℕ) (message : Message) (turns : List Turn) (packet : List ℕ) → SaysWhole turns packet message → IsNext lines sid message
+next_said : (role : Role) (lines : List Line) (sid : ℕ) (message : Message) (turns : List Utterance) (packet : List ℕ) → SaysWhole turns packet message → IsNext lines sid message
     → FollowsRow role sid (drop 1 lines) turns → FollowsRow role sid lines (Said packet ∷ turns)
 next_said role (Says subtype envelope ∷ lines) sid message turns packet says next follows = inl (said_line turns packet message subtype envelope sid says next, follows)
 next_said role _ sid message turns packet says next follows = absurd next
@@ -203,6 +203,6 @@ may_end true bytes message stop is refusal = ap message_at.subtype_at is ∙ sub
 may_end false bytes message stop is refusal = absurd (cc stop)
 
 -- either way the row is followed up to this message, or up to where it was
-pub last_follows : (both : Bool) (role : Role) (p : Phase) (sid : ℕ) (owed : Option Message) (message : Message) (turns : List Turn) (packet : List ℕ) → owed ≡ Some message
+pub last_follows : (both : Bool) (role : Role) (p : Phase) (sid : ℕ) (owed : Option Message) (message : Message) (turns : List Utterance) (packet : List ℕ) → owed ≡ Some message
     → SaysWhole turns packet message → Comes both role p sid owed turns → FollowsRow role sid (met both role p) (Said packet ∷ turns)
 last_follows both role p sid owed message turns packet is says comes = grind (arith, next_said, says_aside, may_end)

@@ -17,7 +17,7 @@ use Rattle.ldc_link.specs.Putting.{control}
 use Rattle.ldc_queue.specs.declared.end.End.{End}
 use Rattle.ldc_queue.specs.declared.end.End.TheVariants.{A, B}
 use Rattle.ldc_queue.specs.Fragments.{fragment_at, is_part}
-use Rattle.ldc_queue.specs.Transcript.{Heard, Said, Turn}
+use Rattle.ldc_queue.specs.Transcript.{Heard, Said, Utterance}
 use Rattle.vio_tag.specs.declared.message.Message.{Message}
 use Rattle.vio_tag.specs.Spelling as message_at
 use Rattle.vio_handshake.specs.declared.handshake.Handshake.{Handshake}
@@ -43,7 +43,7 @@ use Rattle.channel_laws.proofs.Lifting.{EndsAll, ends_run}
 use Rattle.channel_laws.proofs.LinkCases.{behind_part, ControlHeard, ControlPut, ControlTaken, IsPacket, LinkHeard, ModeAgreed, ModeAsked, PartHeard, ReadyHeard, VersionAgreed, VersionAsked, taken_quiet}
 use Rattle.channel_laws.proofs.Opening.{EndCame, HandshakeComes, IsComing, SaysWhole, hears_aside, hears_control, link_met, says_aside}
 use Rattle.channel_laws.proofs.OpeningRows.{Comes_, GoesOn, Opens_, initiator_row, responder_row, sent_row}
-use Rattle.channel_laws.proofs.TurnCases.{SaysLast}
+use Rattle.channel_laws.proofs.UtteranceCases.{SaysLast}
 use Rattle.channel_laws.specs.Cuts.{Carries, CarriesOwed, CarriesOwn}
 use Rattle.channel_laws.specs.EndCore.{Begins, EndCore, EndMove, Fails, Hears, Renews, Says, Stays, Waits, fresh_end}
 use Rattle.channel_laws.specs.EndStep.{EndHears, EndSays, EndStep}
@@ -55,7 +55,7 @@ use Rattle.channel_laws.specs.Standing.{EndStands, IsPhaseOf}
 wrong_role : (role : Role) (ph before : LinkPhase) (X : Type 0) → IsPhaseOf role ph → ph ≡ before → (IsPhaseOf role before → ⊥) → X
 wrong_role role ph before X of is never = absurd (never (subst (IsPhaseOf role) is of))
 
-control_heard : (role : Role) (k m : LinkState) (turns : List Turn) (packet : List ℕ) (next : LinkPhase) → IsPhaseOf role k.phase → FollowsRow role 0 (link_met role k.phase) turns
+control_heard : (role : Role) (k m : LinkState) (turns : List Utterance) (packet : List ℕ) (next : LinkPhase) → IsPhaseOf role k.phase → FollowsRow role 0 (link_met role k.phase) turns
     → ControlTaken k.phase packet next → FollowsRow role 0 (link_met role next) (Heard packet ∷ turns)
 control_heard Responder k m turns packet next of follows (VersionAsked major minor at is goes) =
     subst (λ (p : LinkPhase). FollowsRow Responder 0 (link_met Responder p) (Heard packet ∷ turns)) (sym goes) (by_major (nat_eq major 1) (nat_eq major 0) refl)
@@ -96,7 +96,7 @@ control_heard Responder k m turns packet next of follows (VersionAgreed at is go
 control_heard Responder k m turns packet next of follows (ModeAgreed at is goes) = wrong_role Responder k.phase phase.AwaitsRtr _ of at (λ never. never)
 
 -- and RDX, with which a responder's link is up
-ready_heard : (k : LinkState) (turns : List Turn) (packet : List ℕ) → k.phase ≡ phase.AwaitsRdx → IsPacket packet Info Rdx → FollowsRow Responder 0 (link_met Responder k.phase) turns
+ready_heard : (k : LinkState) (turns : List Utterance) (packet : List ℕ) → k.phase ≡ phase.AwaitsRdx → IsPacket packet Info Rdx → FollowsRow Responder 0 (link_met Responder k.phase) turns
     → FollowsRow Responder 0 (link_met Responder phase.Established) (Heard packet ∷ turns)
 ready_heard k turns packet at is follows = grind arith
 
@@ -128,12 +128,12 @@ refuses : (major : ℕ) → IsVersNack (canonical (control Nack 0 (Vers major 0)
 unfolding canonical
 refuses major = record { control = refl; of_subtype = refl; of_ctrl = refl }
 
-control_put : (role : Role) (k : LinkState) (turns : List Turn) (packet : List ℕ) (next : LinkPhase) → IsPhaseOf role k.phase → FollowsRow role 0 (link_met role k.phase) turns
+control_put : (role : Role) (k : LinkState) (turns : List Utterance) (packet : List ℕ) (next : LinkPhase) → IsPhaseOf role k.phase → FollowsRow role 0 (link_met role k.phase) turns
     → ControlPut k.phase packet next → FollowsRow role 0 (link_met role next) (Said packet ∷ turns)
 control_put role k turns packet next of follows put = grind (arith, offers, asks_rts, agrees, refuses, answers_rtr)
 
 -- THE LINK COMES UP
-up_comes : (role : Role) (h : Handshake) (turns : List Turn) → h.role ≡ role → FollowsRow role 0 (link_met role phase.Established) turns → HandshakeComes role (handshake_up h) turns
+up_comes : (role : Role) (h : Handshake) (turns : List Utterance) → h.role ≡ role → FollowsRow role 0 (link_met role phase.Established) turns → HandshakeComes role (handshake_up h) turns
 up_comes role h turns is follows = grind arith
 
 -- an initiator knows its sid
@@ -141,14 +141,14 @@ initiator_sid : (both : Bool) (p : Phase) → IsComing both Initiator p → know
 initiator_sid both p coming = grind arith
 
 -- ITS ORDER, and that a session opens in it
-pub record OrderStands (role : Role) (c : EndCore) (turns : List Turn) : Type 0 where
+pub record OrderStands (role : Role) (c : EndCore) (turns : List Utterance) : Type 0 where
   pub knows : StandsResting role c turns
   pub came : EndCame role c turns
 
-abbrev pub InOrder : Role → Bool → EndCore → List Turn → Type 0
+abbrev pub InOrder : Role → Bool → EndCore → List Utterance → Type 0
 InOrder role opens t now = opens ≡ true → HandshakeOrder t.handshake.offer.both_rings role now
 
-record OnIn (role : Role) (opens : Bool) (t : EndCore) (now : List Turn) : Type 0 where
+record OnIn (role : Role) (opens : Bool) (t : EndCore) (now : List Utterance) : Type 0 where
   came : EndCame role t now
   order : InOrder role opens t now
 
@@ -156,28 +156,28 @@ never_now : {X : Type 0} (b : Bool) → b ≡ false → b ≡ true → X
 never_now {X} b not is = false_is_true (sym not ∙ is)
 
 -- the link isn't up; it is up with the same handshake; and with another
-stays_down : (role : Role) (t : EndCore) (opens : Bool) (now : List Turn) → is_up t.link ≡ false → opens ≡ false → FollowsRow role 0 (link_met role t.link.phase) now → OnIn role opens t now
+stays_down : (role : Role) (t : EndCore) (opens : Bool) (now : List Utterance) → is_up t.link ≡ false → opens ≡ false → FollowsRow role 0 (link_met role t.link.phase) now → OnIn role opens t now
 stays_down role t opens now down not follows = search (never_now)
 
-goes_up : (role : Role) (t : EndCore) (opens : Bool) (now : List Turn) → is_up t.link ≡ true → opens ≡ false → (t.handshake.phase ≡ Open) ⊎ HandshakeComes role t.handshake now → OnIn role opens t now
+goes_up : (role : Role) (t : EndCore) (opens : Bool) (now : List Utterance) → is_up t.link ≡ true → opens ≡ false → (t.handshake.phase ≡ Open) ⊎ HandshakeComes role t.handshake now → OnIn role opens t now
 goes_up role t opens now up not comes = grind arith
 
-by_on : (role : Role) (t : EndCore) (opens : Bool) (now : List Turn) → is_up t.link ≡ true → GoesOn role t.handshake opens now → OnIn role opens t now
+by_on : (role : Role) (t : EndCore) (opens : Bool) (now : List Utterance) → is_up t.link ≡ true → GoesOn role t.handshake opens now → OnIn role opens t now
 by_on role t opens now up (Comes_ not comes) = goes_up role t opens now up not (inr comes)
 by_on role t opens now up (Opens_ is at order) =
     record { came = record { below = λ down. never_now (is_up t.link) down up; above = λ still. inl at }; order = λ now_open. order }
 
-same_comes : (role : Role) (h g : Handshake) (turns now : List Turn) → g ≡ h
+same_comes : (role : Role) (h g : Handshake) (turns now : List Utterance) → g ≡ h
     → (HandshakeComes role h turns → HandshakeComes role h now) → (h.phase ≡ Open) ⊎ HandshakeComes role h turns → (g.phase ≡ Open) ⊎ HandshakeComes role g now
 same_comes role h g turns now is goes (inl at) = inl (ap (λ (x : Handshake). x.phase) is ∙ at)
 same_comes role h g turns now is goes (inr comes) = inr (subst (λ (x : Handshake). HandshakeComes role x now) (sym is) (goes comes))
 
 -- with a packet that stands aside
-heard_comes : (role : Role) (h : Handshake) (turns : List Turn) (packet : List ℕ) → h.owed ≡ None → HandshakeComes role h turns → HandshakeComes role h (Heard packet ∷ turns)
+heard_comes : (role : Role) (h : Handshake) (turns : List Utterance) (packet : List ℕ) → h.owed ≡ None → HandshakeComes role h turns → HandshakeComes role h (Heard packet ∷ turns)
 heard_comes role h turns packet none comes = grind (arith, hears_aside)
 
 -- a part that goes on stands aside, also of the message that is owed
-part_comes : (role : Role) (h : Handshake) (turns : List Turn) (packet : List ℕ) → is_part packet ≡ true → (fragment_at packet).stop ≡ false → HandshakeComes role h turns
+part_comes : (role : Role) (h : Handshake) (turns : List Utterance) (packet : List ℕ) → is_part packet ≡ true → (fragment_at packet).stop ≡ false → HandshakeComes role h turns
     → HandshakeComes role h (Said packet ∷ turns)
 part_comes role h turns packet part stop comes = grind (arith, says_aside)
 
@@ -194,7 +194,7 @@ open_sent : (h : Handshake) → h.phase ≡ Open → (handshake_sent h ≡ recor
 open_sent h at = (ap (λ (p : Phase). put_in h.role p h) at ∙ open_in h.role h, ap (opens_by_put h.role) at ∙ never_opens h.role)
 
 -- IT HEARS a packet
-hears_order : (role : Role) (c t : EndCore) (turns : List Turn) (packet : List ℕ) (opens : Bool) → OrderStands role c turns → EndHears role c packet opens t → OnIn role opens t (Heard packet ∷ turns)
+hears_order : (role : Role) (c t : EndCore) (turns : List Utterance) (packet : List ℕ) (opens : Bool) → OrderStands role c turns → EndHears role c packet opens t → OnIn role opens t (Heard packet ∷ turns)
 hears_order role c t turns packet opens all hears = by_what took.what
   where
     stands : EndStands role c turns
@@ -203,7 +203,7 @@ hears_order role c t turns packet opens all hears = by_what took.what
     took : EndTook role c turns packet opens t
     took = end_took role c t turns packet opens stands hears
 
-    now : List Turn
+    now : List Utterance
     now = Heard packet ∷ turns
 
     link_up : is_up t.link ≡ is_up took.now
@@ -284,13 +284,13 @@ carried_own : (own : Bool) (h : Handshake) (bytes : List ℕ) → own ≡ true �
 carried_own true h bytes is carries = carries
 carried_own false h bytes is carries = absurd (cc is)
 
-says_order : (role : Role) (c t : EndCore) (turns : List Turn) (packet : List ℕ) (opens : Bool) → OrderStands role c turns → EndSays role c packet opens t → OnIn role opens t (Said packet ∷ turns)
+says_order : (role : Role) (c t : EndCore) (turns : List Utterance) (packet : List ℕ) (opens : Bool) → OrderStands role c turns → EndSays role c packet opens t → OnIn role opens t (Said packet ∷ turns)
 says_order role c t turns packet opens all says = by_what (end_put role c t turns packet opens says stands)
   where
     held : EndCore
     held = says.held
 
-    now : List Turn
+    now : List Utterance
     now = Said packet ∷ turns
 
     stands : EndStands role held turns
@@ -365,10 +365,10 @@ says_order role c t turns packet opens all says = by_what (end_put role c t turn
 anew_came : (role : Role) (t : EndCore) → t.link ≡ fresh_link role → EndCame role t []
 anew_came role t is = grind arith
 
-same_came : (role : Role) (c t : EndCore) (turns : List Turn) → t.link.phase ≡ c.link.phase → t.handshake ≡ c.handshake → EndCame role c turns → EndCame role t turns
+same_came : (role : Role) (c t : EndCore) (turns : List Utterance) → t.link.phase ≡ c.link.phase → t.handshake ≡ c.handshake → EndCame role c turns → EndCame role t turns
 same_came role c t turns link handshake came = grind arith
 
-came_step : (role : Role) (c : EndCore) (move : EndMove) (t : EndCore) (turns : List Turn) → OrderStands role c turns → EndStep role c move t → EndCame role t (turns_after turns move)
+came_step : (role : Role) (c : EndCore) (move : EndMove) (t : EndCore) (turns : List Utterance) → OrderStands role c turns → EndStep role c move t → EndCame role t (turns_after turns move)
 came_step role c Begins t turns all step = anew_came role t (step.link ∙ ap fresh_link all.knows.stands.link.role_is)
 came_step role c Renews t turns all step = anew_came role t step.link
 came_step role c (Fails cause packet) t turns all step = anew_came role t (step.1.link ∙ ap fresh_link all.knows.stands.link.role_is)
@@ -377,7 +377,7 @@ came_step role c (Says packet opens) t turns all step = (says_order role c t tur
 came_step role c Waits t turns all step = same_came role c t turns (held_phase c t step.what step.holds) (held_handshake c t step.what step.holds) all.came
 came_step role c Stays t turns all step = same_came role c t turns (ap (λ (k : LinkState). k.phase) step.link) step.handshake all.came
 
-pub order_step : (role : Role) (c : EndCore) (move : EndMove) (t : EndCore) (turns : List Turn) → OrderStands role c turns → EndStep role c move t
+pub order_step : (role : Role) (c : EndCore) (move : EndMove) (t : EndCore) (turns : List Utterance) → OrderStands role c turns → EndStep role c move t
     → OrderStands role t (turns_after turns move)
 order_step role c move t turns all step = record { knows = resting_step role c move t turns all.knows step; came = came_step role c move t turns all step }
 
@@ -390,19 +390,19 @@ order_run entries asks answers events s fits run =
     (record { knows = (fresh_speaks Responder answers fits.answers_fit.form.most).knows; came = anew_came Responder (fresh_end Responder answers) refl }) run
 
 -- the order is that of the end's offer
-of_offer : (role : Role) (c t : EndCore) (turns now : List Turn) (opens : Bool) → t.handshake.offer ≡ t.offer → t.offer ≡ c.offer → InOrder role opens t now → opens ≡ true
+of_offer : (role : Role) (c t : EndCore) (turns now : List Utterance) (opens : Bool) → t.handshake.offer ≡ t.offer → t.offer ≡ c.offer → InOrder role opens t now → opens ≡ true
     → HandshakeOrder c.offer.both_rings role now
 of_offer role c t turns now opens own same order is = subst (λ (o : Offer). HandshakeOrder o.both_rings role now) (own ∙ same) (order is)
 
 said_offer : (role : Role) (c t : EndCore) (packet : List ℕ) (opens : Bool) → EndSays role c packet opens t → t.offer ≡ c.offer
 said_offer role c t packet opens says = says.offer ∙ held_offer c says.held says.what says.holds
 
-end_opens : (role : Role) (c t : EndCore) (turns : List Turn) (packet : List ℕ) → OrderStands role c turns → EndSays role c packet true t → HandshakeOrder c.offer.both_rings role (Said packet ∷ turns)
+end_opens : (role : Role) (c t : EndCore) (turns : List Utterance) (packet : List ℕ) → OrderStands role c turns → EndSays role c packet true t → HandshakeOrder c.offer.both_rings role (Said packet ∷ turns)
 end_opens role c t turns packet all says =
     of_offer role c t turns (Said packet ∷ turns) true (stands_step role c (Says packet true) t turns all.knows.stands says).handshake.offer_is (said_offer role c t packet true says)
     (says_order role c t turns packet true all says).order refl
 
-end_took_open : (role : Role) (c t : EndCore) (turns : List Turn) (packet : List ℕ) → OrderStands role c turns → EndHears role c packet true t
+end_took_open : (role : Role) (c t : EndCore) (turns : List Utterance) (packet : List ℕ) → OrderStands role c turns → EndHears role c packet true t
     → HandshakeOrder c.offer.both_rings role (Heard packet ∷ turns)
 end_took_open role c t turns packet all hears =
     of_offer role c t turns (Heard packet ∷ turns) true (stands_step role c (Hears packet true) t turns all.knows.stands hears).handshake.offer_is hears.offer
@@ -421,13 +421,13 @@ opens_hearing entries asks answers events s A packet t fits run step = end_took_
 opens_hearing entries asks answers events s B packet t fits run step = end_took_open Responder s.b t.b (transcript_behind events).server packet (order_run entries asks answers events s fits run).b step.b
 
 -- THE OFFERS stay as they were
-offer_step : (asks answers : Offer) (role : Role) (c : EndCore) (move : EndMove) (t : EndCore) (turns : List Turn) → c.offer ≡ offer_in asks answers role → EndStep role c move t
+offer_step : (asks answers : Offer) (role : Role) (c : EndCore) (move : EndMove) (t : EndCore) (turns : List Utterance) → c.offer ≡ offer_in asks answers role → EndStep role c move t
     → t.offer ≡ offer_in asks answers role
 offer_step asks answers role c move t turns is step = grind arith
 
 pub offers_stay : (entries : ℕ) (asks answers : Offer) (events : List CoreEvent) (s : LaneCore) → Run CoreStep (fresh_core entries asks answers) events s
     → (s.a.offer ≡ asks) × (s.b.offer ≡ answers)
 offers_stay entries asks answers events s run =
-    let both = ends_run (λ (role : Role) (c : EndCore) (turns : List Turn). c.offer ≡ offer_in asks answers role)
+    let both = ends_run (λ (role : Role) (c : EndCore) (turns : List Utterance). c.offer ≡ offer_in asks answers role)
     (λ role c move t turns is step. offer_step asks answers role c move t turns is step) entries asks answers events s refl refl run in
     (both.a, both.b)

@@ -5,7 +5,7 @@ use Rattle.ldc_link.specs.declared.phase.Role.TheVariants.{Initiator, Responder}
 use Rattle.ldc_packet.specs.declared.packet.Subtype.{Subtype}
 use Rattle.ldc_packet.specs.declared.packet.Subtype.TheVariants.{Ack, Info, Nack}
 use Rattle.ldc_packet.specs.Spelling.{subtype_code}
-use Rattle.ldc_queue.specs.Transcript.{Heard, Said, Turn}
+use Rattle.ldc_queue.specs.Transcript.{Heard, Said, Utterance}
 use Rattle.vio_tag.specs.declared.message.Message.{Message}
 use Rattle.vio_tag.specs.declared.message.MsgBody.{MsgBody}
 use Rattle.vio_tag.specs.declared.message.MsgBody.TheVariants.{Attr, DringReg, Rdx, Ver}
@@ -21,23 +21,23 @@ use Rattle.channel_model.specs.Sayings.{half_heard}
 use Rattle.channel_laws.proofs.Apart.{roles_differ}
 use Rattle.channel_laws.proofs.HandshakeCases.{AttributesAgreed, AttributesAsked, AttributesRefused, Declined, NothingFollows, OneRingAgreed, Opened, Opens, Owes, OwnReadyFollows, PeerAgreed, ReadyAgreed, ReadyAsked, ReadyFollows, RingAgreed, RingAsked, RingFollows, RingRefused, RowSent, RowTaken, VersionAgreed, VersionAsked, VersionRefused}
 use Rattle.channel_laws.proofs.Opening.{Comes, HandshakeComes, IsComing, IsNext, Owing, SaysWhole, Waiting, any_sid, comes_up, heard_line, hears_aside, last_follows, met, said_line, sid_of}
-use Rattle.channel_laws.proofs.TurnCases.{EndsBy}
+use Rattle.channel_laws.proofs.UtteranceCases.{EndsBy}
 use Rattle.channel_laws.specs.Grounds.{knows_sid}
 
 -- THE HANDSHAKE AFTER IT goes on in its order, or the session opens by it
-pub data GoesOn (role : Role) (t : Handshake) (opens : Bool) (now : List Turn) : Type 0 where
+pub data GoesOn (role : Role) (t : Handshake) (opens : Bool) (now : List Utterance) : Type 0 where
   Comes_ : opens ≡ false → HandshakeComes role t now → GoesOn role t opens now
   Opens_ : opens ≡ true → t.phase ≡ Open → HandshakeOrder t.offer.both_rings role now → GoesOn role t opens now
 
-goes_so : (role : Role) (t x : Handshake) (opens : Bool) (now : List Turn) → t ≡ x → opens ≡ false → HandshakeComes role x now → GoesOn role t opens now
+goes_so : (role : Role) (t x : Handshake) (opens : Bool) (now : List Utterance) → t ≡ x → opens ≡ false → HandshakeComes role x now → GoesOn role t opens now
 goes_so role t x opens now is not comes = Comes_ not (subst (λ (y : Handshake). HandshakeComes role y now) (sym is) comes)
 
 -- where it owes nothing it waits
-waits_so : (role : Role) (h : Handshake) (turns : List Turn) → h.owed ≡ None → HandshakeComes role h turns → Waiting h.offer.both_rings role h.phase (sid_of h) h.owed turns
+waits_so : (role : Role) (h : Handshake) (turns : List Utterance) → h.owed ≡ None → HandshakeComes role h turns → Waiting h.offer.both_rings role h.phase (sid_of h) h.owed turns
 waits_so role h turns none comes = grind arith
 
 -- the facts of a message that it takes
-pub record Took (role : Role) (h : Handshake) (message : Message) (turns : List Turn) (packet : List ℕ) : Type 0 where
+pub record Took (role : Role) (h : Handshake) (message : Message) (turns : List Utterance) (packet : List ℕ) : Type 0 where
   pub role_is : h.role ≡ role
   pub none : h.owed ≡ None
   pub comes : HandshakeComes role h turns
@@ -45,16 +45,16 @@ pub record Took (role : Role) (h : Handshake) (message : Message) (turns : List 
   pub ends : EndsBy turns packet bytes
   pub spells : SpellsMessage bytes message
 
-took_follows : (role : Role) (h : Handshake) (message : Message) (turns : List Turn) (packet : List ℕ) (p : Phase) → Took role h message turns packet → h.phase ≡ p
+took_follows : (role : Role) (h : Handshake) (message : Message) (turns : List Utterance) (packet : List ℕ) (p : Phase) → Took role h message turns packet → h.phase ≡ p
     → FollowsRow role (sid_of h) (met h.offer.both_rings role p) turns
 took_follows role h message turns packet p took at =
     subst (λ (x : Phase). FollowsRow role (sid_of h) (met h.offer.both_rings role x) turns) at (waits_so role h turns took.none took.comes).follows
 
-took_coming : (role : Role) (h : Handshake) (message : Message) (turns : List Turn) (packet : List ℕ) (p : Phase) → Took role h message turns packet → h.phase ≡ p
+took_coming : (role : Role) (h : Handshake) (message : Message) (turns : List Utterance) (packet : List ℕ) (p : Phase) → Took role h message turns packet → h.phase ≡ p
     → IsComing h.offer.both_rings role p
 took_coming role h message turns packet p took at = subst (IsComing h.offer.both_rings role) at took.comes.coming
 
-line_of : (role : Role) (h : Handshake) (message : Message) (turns : List Turn) (packet : List ℕ) (s : Subtype) (b : MsgBody) (sid : ℕ) → Took role h message turns packet
+line_of : (role : Role) (h : Handshake) (message : Message) (turns : List Utterance) (packet : List ℕ) (s : Subtype) (b : MsgBody) (sid : ℕ) → Took role h message turns packet
     → message ≡ record { subtype = s; sid = message.sid; body = b } → message.sid % 4294967296 ≡ sid → EndsAs (subtype_code s) (envelope_code b) sid (half_heard turns) packet
 line_of role h message turns packet s b sid took is same = heard_line turns packet took.bytes message s b sid took.ends took.spells is same
 
@@ -62,7 +62,7 @@ mod_sid : (sid draft : ℕ) → sid ≡ draft → sid % 4294967296 ≡ draft % 4
 mod_sid sid draft is = ap (λ (n : ℕ). n % 4294967296) is
 
 -- a refusal is owed, and the message stands aside
-refuses : (role : Role) (h : Handshake) (message : Message) (turns : List Turn) (packet : List ℕ) (p : Phase) (refusal : Message) → Took role h message turns packet → h.phase ≡ p
+refuses : (role : Role) (h : Handshake) (message : Message) (turns : List Utterance) (packet : List ℕ) (p : Phase) (refusal : Message) → Took role h message turns packet → h.phase ≡ p
     → refusal.subtype ≡ Nack → Comes h.offer.both_rings role p (sid_of h) (Some refusal) (Heard packet ∷ turns)
 refuses role h message turns packet p refusal took at is =
     let coming = took_coming role h message turns packet p took at in
@@ -79,7 +79,7 @@ other_role : (X : Type 0) (h : Handshake) → h.role ≡ Initiator → h.role �
 other_role X h one two = roles_differ (sym one ∙ two)
 
 -- AN INITIATOR'S ROWS, with its sid
-pub initiator_row : (h t : Handshake) (message : Message) (opens : Bool) (turns : List Turn) (packet : List ℕ) → Took Initiator h message turns packet → message.sid ≡ h.draft.sid
+pub initiator_row : (h t : Handshake) (message : Message) (opens : Bool) (turns : List Utterance) (packet : List ℕ) → Took Initiator h message turns packet → message.sid ≡ h.draft.sid
     → RowTaken h message t opens → GoesOn Initiator t opens (Heard packet ∷ turns)
 initiator_row h t message opens turns packet took own (Declined test is not) =
     goes_so Initiator t _ opens (Heard packet ∷ turns) is not (refuses Initiator h message turns packet h.phase (nack message.sid message.body) took refl refl)
@@ -175,7 +175,7 @@ initiator_row h t message opens turns packet took own (PeerAgreed ident slots sl
 initiator_row h t message opens turns packet took own (Opened r at m is now) = other_role _ h took.role_is r
 
 -- A RESPONDER'S, which knows the sid once it heard a version
-pub responder_row : (h t : Handshake) (message : Message) (opens : Bool) (turns : List Turn) (packet : List ℕ) → Took Responder h message turns packet
+pub responder_row : (h t : Handshake) (message : Message) (opens : Bool) (turns : List Utterance) (packet : List ℕ) → Took Responder h message turns packet
     → ((p : Phase) → h.phase ≡ p → knows_sid p Responder ≡ true → message.sid ≡ h.draft.sid) → RowTaken h message t opens → GoesOn Responder t opens (Heard packet ∷ turns)
 responder_row h t message opens turns packet took own (Declined test is not) =
     goes_so Responder t _ opens (Heard packet ∷ turns) is not (refuses Responder h message turns packet h.phase (nack message.sid message.body) took refl refl)
@@ -287,27 +287,27 @@ responder_row h t message opens turns packet took own (OneRingAgreed ident slots
 responder_row h t message opens turns packet took own (ReadyAgreed r at m is not) = other_role _ h r took.role_is
 
 -- ONE THAT IS PUT
-pub record Sent (role : Role) (h : Handshake) (turns : List Turn) (packet : List ℕ) : Type 0 where
+pub record Sent (role : Role) (h : Handshake) (turns : List Utterance) (packet : List ℕ) : Type 0 where
   pub role_is : h.role ≡ role
   pub message : Message
   pub owed : h.owed ≡ Some message
   pub says : SaysWhole turns packet message
   pub comes : HandshakeComes role h turns
 
-sent_follows : (role : Role) (h : Handshake) (turns : List Turn) (packet : List ℕ) (p : Phase) → Sent role h turns packet → h.phase ≡ p
+sent_follows : (role : Role) (h : Handshake) (turns : List Utterance) (packet : List ℕ) (p : Phase) → Sent role h turns packet → h.phase ≡ p
     → FollowsRow role (sid_of h) (met h.offer.both_rings role p) (Said packet ∷ turns)
 sent_follows role h turns packet p sent at =
     subst (λ (x : Phase). FollowsRow role (sid_of h) (met h.offer.both_rings role x) (Said packet ∷ turns)) at
     (last_follows h.offer.both_rings role h.phase (sid_of h) h.owed sent.message turns packet sent.owed sent.says sent.comes)
 
-sent_coming : (role : Role) (h : Handshake) (turns : List Turn) (packet : List ℕ) (p : Phase) → Sent role h turns packet → h.phase ≡ p → IsComing h.offer.both_rings role p
+sent_coming : (role : Role) (h : Handshake) (turns : List Utterance) (packet : List ℕ) (p : Phase) → Sent role h turns packet → h.phase ≡ p → IsComing h.offer.both_rings role p
 sent_coming role h turns packet p sent at = subst (IsComing h.offer.both_rings role) at sent.comes.coming
 
-at_role : (role r : Role) (h t : Handshake) (opens : Bool) (turns : List Turn) (packet : List ℕ) → h.role ≡ r → (sent : Sent role h turns packet)
+at_role : (role r : Role) (h t : Handshake) (opens : Bool) (turns : List Utterance) (packet : List ℕ) → h.role ≡ r → (sent : Sent role h turns packet)
     → (Sent r h turns packet → GoesOn r t opens (Said packet ∷ turns)) → GoesOn role t opens (Said packet ∷ turns)
 at_role role r h t opens turns packet is sent goes = grind arith
 
-opens_by : (h : Handshake) (turns : List Turn) (packet : List ℕ) → Sent Initiator h turns packet → h.phase ≡ PeerReadyTaken → OpensBy Initiator (sid_of h) (row h.offer.both_rings Initiator) (Said packet ∷ turns)
+opens_by : (h : Handshake) (turns : List Utterance) (packet : List ℕ) → Sent Initiator h turns packet → h.phase ≡ PeerReadyTaken → OpensBy Initiator (sid_of h) (row h.offer.both_rings Initiator) (Said packet ∷ turns)
 opens_by h turns packet sent at = of sent.comes.stage
   where
     of : Owing h.offer.both_rings Initiator h.phase (sid_of h) h.owed turns ⊎ Waiting h.offer.both_rings Initiator h.phase (sid_of h) h.owed turns
@@ -320,7 +320,7 @@ opens_by h turns packet sent at = of sent.comes.stage
         (said_line turns packet owing.message 2 5 (sid_of h) (subst (SaysWhole turns packet) same sent.says) next, follows)
     of (inr waiting) = absurd (subst NothingFollows at waiting.waits)
 
-pub sent_row : (role : Role) (h t : Handshake) (opens : Bool) (turns : List Turn) (packet : List ℕ) → Sent role h turns packet → RowSent h t opens
+pub sent_row : (role : Role) (h t : Handshake) (opens : Bool) (turns : List Utterance) (packet : List ℕ) → Sent role h turns packet → RowSent h t opens
     → GoesOn role t opens (Said packet ∷ turns)
 sent_row role h t opens turns packet sent (ReadyFollows r at is not) =
     at_role role Initiator h t opens turns packet r sent

@@ -24,7 +24,7 @@ use Rattle.ldc_queue.specs.declared.end.End.{End}
 use Rattle.ldc_queue.specs.declared.end.End.TheVariants.{A, B}
 use Rattle.ldc_queue.specs.Fragments.{Fragment, fragment_at, is_part}
 use Rattle.ldc_queue.specs.Numbered.{is_numbered}
-use Rattle.ldc_queue.specs.Transcript.{Turn}
+use Rattle.ldc_queue.specs.Transcript.{Utterance}
 use Rattle.vio_handshake.specs.declared.handshake.Handshake.{Handshake}
 use Rattle.vio_handshake.specs.declared.handshake.Phase.TheVariants.{Open}
 use Rattle.vio_handshake.specs.declared.session.Offer.{Offer}
@@ -98,7 +98,7 @@ record Values (packet : List ℕ) (numbered : Bool) (found : ℕ) (names : Bool)
 abbrev cause_by : Bool → (next found : ℕ) → Bool → ℕ → (part comes : Bool) → Option Cause → Option Cause
 cause_by numbered next found names mode part comes rest = number_cause numbered next found (mode_cause names mode (part_cause part comes rest))
 
-by_values : (own : Message → Option Cause) (sid : ℕ) (turns : List Turn) (packet : List ℕ) (numbered : Bool) (next found : ℕ) (names : Bool) (mode : ℕ) (part comes : Bool) (rest : Option Cause)
+by_values : (own : Message → Option Cause) (sid : ℕ) (turns : List Utterance) (packet : List ℕ) (numbered : Bool) (next found : ℕ) (names : Bool) (mode : ℕ) (part comes : Bool) (rest : Option Cause)
     → Values packet numbered found names mode part → next ≡ counts_next (count_heard turns) → comes ≡ may_come (half_heard turns) (fragment_at packet)
     → rest ≡ message_cause own sid (ended_by (half_heard turns) packet) → cause_by numbered next found names mode part comes rest ≡ packet_cause own sid turns packet
 by_values own sid turns packet numbered next found names mode part comes rest v next_is comes_is rest_is = search
@@ -108,15 +108,15 @@ abbrev link_cause : LinkTake → Option Cause → Option Cause
 link_cause (Heard k) rest = rest
 link_cause (Unheard cause) rest = Some cause
 
-abbrev HasWhole : List Turn → List ℕ → LinkTake → Type 0
+abbrev HasWhole : List Utterance → List ℕ → LinkTake → Type 0
 HasWhole turns packet (Heard m) = m.whole ≡ ended_by (half_heard turns) packet
 HasWhole turns packet (Unheard cause) = ⊤
 
-record LinkSo (own : Message → Option Cause) (sid : ℕ) (turns : List Turn) (packet : List ℕ) (take : LinkTake) : Type 0 where
+record LinkSo (own : Message → Option Cause) (sid : ℕ) (turns : List Utterance) (packet : List ℕ) (take : LinkTake) : Type 0 where
   cause : link_cause take (message_cause own sid (ended_by (half_heard turns) packet)) ≡ packet_cause own sid turns packet
   whole : HasWhole turns packet take
 
-unheard_so : (own : Message → Option Cause) (sid : ℕ) (turns : List Turn) (packet : List ℕ) (take : LinkTake) (why : Cause) → take ≡ Unheard why → Some why ≡ packet_cause own sid turns packet
+unheard_so : (own : Message → Option Cause) (sid : ℕ) (turns : List Utterance) (packet : List ℕ) (take : LinkTake) (why : Cause) → take ≡ Unheard why → Some why ≡ packet_cause own sid turns packet
     → LinkSo own sid turns packet take
 unheard_so own sid turns packet take why is same = subst (LinkSo own sid turns packet) (sym is) (record { cause = same; whole = tt })
 
@@ -152,7 +152,7 @@ in_turn_cause true next found (Heard k) rest behind is = is
 in_turn_cause true next found (Unheard cause) rest behind is = is
 in_turn_cause false next found take rest behind is = refl
 
-in_turn_whole : (turns : List Turn) (packet : List ℕ) (b : Bool) (next found : ℕ) (take : LinkTake) → HasWhole turns packet take
+in_turn_whole : (turns : List Utterance) (packet : List ℕ) (b : Bool) (next found : ℕ) (take : LinkTake) → HasWhole turns packet take
     → HasWhole turns packet (if b then count take else Unheard (the_cause.Gap next found))
 in_turn_whole turns packet true next found (Heard k) is = is
 in_turn_whole turns packet true next found (Unheard cause) is = tt
@@ -164,17 +164,17 @@ parted_cause true true k part rest is = refl
 parted_cause true false k part rest is = refl
 parted_cause false comes k part rest is = absurd (cc is)
 
-parted_whole : (turns : List Turn) (packet : List ℕ) (up comes : Bool) (k : LinkState) (part : Fragment) → (with_part k part).whole ≡ ended_by (half_heard turns) packet
+parted_whole : (turns : List Utterance) (packet : List ℕ) (up comes : Bool) (k : LinkState) (part : Fragment) → (with_part k part).whole ≡ ended_by (half_heard turns) packet
     → HasWhole turns packet (if up then (if comes then Heard (with_part k part) else Unheard the_cause.Fragment) else Unheard the_cause.Unexpected)
 parted_whole turns packet true true k part is = is
 parted_whole turns packet true false k part is = tt
 parted_whole turns packet false comes k part is = tt
 
-ends_message : (k : LinkState) (turns : List Turn) (packet : List ℕ) (part : Fragment) → k.half_heard ≡ half_heard turns → is_part packet ≡ true → fragment_at packet ≡ part
+ends_message : (k : LinkState) (turns : List Utterance) (packet : List ℕ) (part : Fragment) → k.half_heard ≡ half_heard turns → is_part packet ≡ true → fragment_at packet ≡ part
     → (with_part k part).whole ≡ ended_by (half_heard turns) packet
 ends_message k turns packet part half is same = search
 
-module _ (own : Message → Option Cause) (sid : ℕ) (turns : List Turn) (packet : List ℕ) (k : LinkState) (follows : Follows k turns) (up : is_up k ≡ true) where
+module _ (own : Message → Option Cause) (sid : ℕ) (turns : List Utterance) (packet : List ℕ) (k : LinkState) (follows : Follows k turns) (up : is_up k ≡ true) where
   abbrev Holds : LinkTake → Type 0
   Holds take = LinkSo own sid turns packet take
 
@@ -244,7 +244,7 @@ module _ (own : Message → Option Cause) (sid : ℕ) (turns : List Turn) (packe
   take_so take takes = subst Holds (sym takes.is) (decoded_so takes.decoded takes.unpacks)
 
 -- AN END
-pub end_judges : (own : Message → Option Cause) (role : Role) (c : EndCore) (turns : List Turn) (packet : List ℕ) (answer : Option Cause) → StandsResting role c turns → c.is_open ≡ true
+pub end_judges : (own : Message → Option Cause) (role : Role) (c : EndCore) (turns : List Utterance) (packet : List ℕ) (answer : Option Cause) → StandsResting role c turns → c.is_open ≡ true
     → Judges own role c packet answer → answer ≡ packet_cause own c.handshake.draft.sid turns packet
 end_judges own role c turns packet answer knows opened judges = by_take judges.take (take_so own sid turns packet c.link knows.stands.link.follows up judges.take judges.takes) judges.judges
   where

@@ -8,7 +8,7 @@ use Rattle.ldc_link.specs.declared.phase.Role.{Role}
 use Rattle.ldc_link.specs.declared.phase.Role.TheVariants.{Initiator, Responder}
 use Rattle.ldc_link.specs.LinkState.{LinkState, is_established}
 use Rattle.ldc_link.specs.Putting.{owes}
-use Rattle.ldc_queue.specs.Transcript.{Turn}
+use Rattle.ldc_queue.specs.Transcript.{Utterance}
 use Rattle.vio_handshake.specs.declared.handshake.Handshake.{Handshake}
 use Rattle.vio_handshake.specs.declared.handshake.Phase.{Phase}
 use Rattle.vio_handshake.specs.Messages.{info, own_ring}
@@ -24,7 +24,7 @@ use Rattle.channel_laws.proofs.EndStanding.{few_offered, held_stands, holds_some
 use Rattle.channel_laws.proofs.HandshakeCases.{RowSent, row_sent}
 use Rattle.channel_laws.proofs.LinkCases.{ControlPut, behind_part, behind_ready}
 use Rattle.channel_laws.proofs.Short.{short_within}
-use Rattle.channel_laws.proofs.TurnCases.{SaysLast}
+use Rattle.channel_laws.proofs.UtteranceCases.{SaysLast}
 use Rattle.channel_laws.specs.EndCore.{EndCore, holds}
 use Rattle.channel_laws.specs.EndStep.{EndAnew, EndSays, EndStays, EndWaits, Holding, Holds, HoldsOn, kind_of}
 use Rattle.channel_laws.specs.PacketsLeft.{all_in, all_of, first_packets, held_left, later_in, left_in, messages_in, own_in, packets_left, parts, parts_owed}
@@ -64,14 +64,14 @@ begun_left role h is = grind (arith, version_part)
 pub up_left : (h : Handshake) → later_in (handshake_up h) + parts_owed (handshake_up h).owed ≤ all_in h
 up_left h = begun_left h.role h refl
 
-ring_parts : (role : Role) (c : EndCore) (turns : List Turn) → EndStands role c turns → parts (length (canonical (info c.handshake.draft.sid (own_ring c.handshake.offer)))) ≤ 5
+ring_parts : (role : Role) (c : EndCore) (turns : List Utterance) → EndStands role c turns → parts (length (canonical (info c.handshake.draft.sid (own_ring c.handshake.offer)))) ≤ 5
 ring_parts role c turns stands =
     omega (arith, short_within (info c.handshake.draft.sid (own_ring c.handshake.offer)) (few_offered role c.offer c.handshake stands.handshake))
 
 abbrev SentLeft : Handshake → Handshake → Type 0
 SentLeft h t = later_in t + parts_owed t.owed ≤ later_in h
 
-sent_left : (role : Role) (c : EndCore) (turns : List Turn) (t : Handshake) (opens : Bool) → EndStands role c turns → RowSent c.handshake t opens → SentLeft c.handshake t
+sent_left : (role : Role) (c : EndCore) (turns : List Utterance) (t : Handshake) (opens : Bool) → EndStands role c turns → RowSent c.handshake t opens → SentLeft c.handshake t
 sent_left role c turns t opens stands sent = grind (arith, ready_part, ring_parts)
 
 -- IT BEGINS
@@ -93,11 +93,11 @@ loud_none c held what loud holds = grind arith
 pub owing_none : (c held : EndCore) (message : Message) (what : Holding) → c.handshake.owed ≡ Some message → Holds c what held → own_in what ≡ 0
 owing_none c held message what owed holds = grind arith
 
-pub held_packets : (role : Role) (c held : EndCore) (turns : List Turn) (what : Holding) → EndStands role c turns → Holds c what held
+pub held_packets : (role : Role) (c held : EndCore) (turns : List Utterance) (what : Holding) → EndStands role c turns → Holds c what held
     → packets_left held ≤ packets_left c + own_in what
 held_packets role c held turns what stands is = grind arith
 
-pub waits_packets : (role : Role) (c t : EndCore) (turns : List Turn) → EndStands role c turns → (waits : EndWaits c t) → packets_left t ≤ packets_left c + own_in waits.what
+pub waits_packets : (role : Role) (c t : EndCore) (turns : List Utterance) → EndStands role c turns → (waits : EndWaits c t) → packets_left t ≤ packets_left c + own_in waits.what
 waits_packets role c t turns stands waits = held_packets role c t turns waits.what stands waits.holds
 
 -- IT PUTS a packet
@@ -109,11 +109,11 @@ part_left : (held t : EndCore) (left : List ℕ) (h : Handshake) → held.link.p
     → later_in h + held_left t.own left h.owed + 1 ≤ messages_in held → packets_left t + 1 ≤ packets_left held
 part_left held t left h at link is handshake less = grind arith
 
-ready_left : (role : Role) (held t : EndCore) (turns : List Turn) → EndStands role held turns → held.link.phase ≡ phase.OwesRdx → t.link ≡ behind_ready held.link
+ready_left : (role : Role) (held t : EndCore) (turns : List Utterance) → EndStands role held turns → held.link.phase ≡ phase.OwesRdx → t.link ≡ behind_ready held.link
     → t.handshake ≡ handshake_up held.handshake → packets_left t + 1 ≤ packets_left held
 ready_left role held t turns stands at link handshake = grind (arith, up_left)
 
-last_left : (held t : EndCore) (turns : List Turn) (packet : List ℕ) (h : Handshake) → held.link.phase ≡ phase.Established → t.link ≡ behind_part held.link
+last_left : (held t : EndCore) (turns : List Utterance) (packet : List ℕ) (h : Handshake) → held.link.phase ≡ phase.Established → t.link ≡ behind_part held.link
     → SaysLast held.link turns packet → t.handshake ≡ h → later_in h + parts_owed h.owed + 1 ≤ messages_in held → packets_left t + 1 ≤ packets_left held
 last_left held t turns packet h at link last handshake less =
     part_left held t [] h at link (sym (last_none held.link turns packet last)) handshake (omega (arith, less, held_empty t.own [] h.owed refl))
@@ -121,7 +121,7 @@ last_left held t turns packet h at link last handshake less =
 some_part : (n : ℕ) → 1 ≤ n → 1 ≤ parts n
 some_part n some = omega (arith, some)
 
-put_packets : (role : Role) (held t : EndCore) (turns : List Turn) (packet : List ℕ) (opens : Bool) → EndStands role held turns
+put_packets : (role : Role) (held t : EndCore) (turns : List Utterance) (packet : List ℕ) (opens : Bool) → EndStands role held turns
     → (holds held.link ≡ true → holds t.link ≡ true → t.own ≡ held.own) → PutWhat role held turns packet opens t → packets_left t + 1 ≤ packets_left held
 put_packets role held t turns packet opens stands own (PutControl next gone link quiet handshake not is_open) =
     omega (
@@ -158,7 +158,7 @@ put_packets role held t turns packet opens stands own (PutHandshake is at link l
       ap (λ (b : Bool). held_left b held.link.to_send held.handshake.owed) is ∙ held_other held.link.to_send held.handshake.owed last.some,
     ))
 
-pub says_packets : (role : Role) (c t : EndCore) (turns : List Turn) (packet : List ℕ) (opens : Bool) → EndStands role c turns → (says : EndSays role c packet opens t)
+pub says_packets : (role : Role) (c t : EndCore) (turns : List Utterance) (packet : List ℕ) (opens : Bool) → EndStands role c turns → (says : EndSays role c packet opens t)
     → packets_left t + 1 ≤ packets_left c + own_in says.what
 says_packets role c t turns packet opens stands says =
     let holds_so = held_stands role c says.held turns says.what stands says.holds in
@@ -169,14 +169,14 @@ says_packets role c t turns packet opens stands says =
     )
 
 -- WITH THE MESSAGES that it may begin
-held_more : (role : Role) (c held : EndCore) (turns : List Turn) (what : Holding) → EndStands role c turns → Holds c what held → held.more + own_in what ≤ c.more
+held_more : (role : Role) (c held : EndCore) (turns : List Utterance) (what : Holding) → EndStands role c turns → Holds c what held → held.more + own_in what ≤ c.more
 held_more role c held turns what stands is = grind arith
 
-pub waits_left : (role : Role) (c t : EndCore) (turns : List Turn) → EndStands role c turns → EndWaits c t → packets_left t + t.more ≤ packets_left c + c.more
+pub waits_left : (role : Role) (c t : EndCore) (turns : List Utterance) → EndStands role c turns → EndWaits c t → packets_left t + t.more ≤ packets_left c + c.more
 waits_left role c t turns stands waits =
     omega (arith, held_packets role c t turns waits.what stands waits.holds, held_more role c t turns waits.what stands waits.holds)
 
-pub says_left : (role : Role) (c t : EndCore) (turns : List Turn) (packet : List ℕ) (opens : Bool) → EndStands role c turns → EndSays role c packet opens t → opens ≡ false
+pub says_left : (role : Role) (c t : EndCore) (turns : List Utterance) (packet : List ℕ) (opens : Bool) → EndStands role c turns → EndSays role c packet opens t → opens ≡ false
     → packets_left t + t.more + 1 ≤ packets_left c + c.more
 says_left role c t turns packet opens stands says shut =
     omega (arith, says_packets role c t turns packet opens stands says, held_more role c says.held turns says.what stands says.holds, says.more shut)
@@ -189,6 +189,6 @@ pub shut_in : (kind : PutKind) (h : Handshake) → h.role ≡ Responder → put_
 shut_in EndsHandshake h role_is = ap (λ (r : Role). opens_by_put r h.phase) role_is
 shut_in _ h role_is = refl
 
-pub answering_shut : (c t : EndCore) (turns : List Turn) (packet : List ℕ) (opens : Bool) → EndStands Responder c turns → EndSays Responder c packet opens t → opens ≡ false
+pub answering_shut : (c t : EndCore) (turns : List Utterance) (packet : List ℕ) (opens : Bool) → EndStands Responder c turns → EndSays Responder c packet opens t → opens ≡ false
 answering_shut c t turns packet opens stands says =
     says.opens_is ∙ shut_in (kind_of says.held) says.held.handshake (held_stands Responder c says.held turns says.what stands says.holds).handshake.role_is

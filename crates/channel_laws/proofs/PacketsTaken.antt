@@ -15,7 +15,7 @@ use Rattle.ldc_queue.specs.declared.end.End.{End}
 use Rattle.ldc_queue.specs.declared.end.End.TheVariants.{A, B}
 use Rattle.ldc_queue.specs.OneStream.{IsFront}
 use Rattle.ldc_queue.specs.Transcript as turn
-use Rattle.ldc_queue.specs.Transcript.{Turn}
+use Rattle.ldc_queue.specs.Transcript.{Utterance}
 use Rattle.map_table.proofs.Putting.{length-cookies_bytes}
 use Rattle.map_table.specs.declared.cookie.Cookie.{Cookie}
 use Rattle.vio_handshake.specs.declared.handshake.Handshake.{Handshake}
@@ -164,7 +164,7 @@ took_packets asks answers role s t packet opens fits few_asks few_answers stands
     d : Deal
     d = deal asks answers meets.handshakes.sid
 
-    now : List Turn
+    now : List Utterance
     now = turn.Heard packet ∷ s.mine.turns
 
     took_so : EndTook role c s.mine.turns packet opens t

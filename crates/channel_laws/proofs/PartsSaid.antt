@@ -13,7 +13,7 @@ use Rattle.ldc_link.specs.Conversing.{IsData, fragment_of}
 use Rattle.ldc_queue.specs.Fragments.{Fragment, fragment_at, fragments_in, is_part}
 use Rattle.ldc_queue.specs.Messages.{AllMayCome, MayCome, half_in, half_with}
 use Rattle.ldc_queue.specs.Numbered.{is_numbered}
-use Rattle.ldc_queue.specs.Transcript.{Said, Turn, numbered_said}
+use Rattle.ldc_queue.specs.Transcript.{Said, Utterance, numbered_said}
 use Rattle.channel_model.proofs.SameSayings.{half_said_is}
 use Rattle.channel_model.specs.Sayings.{half_said}
 use Rattle.channel_model.specs.WireAt.{IsSaid, IsSaidPart}
@@ -28,7 +28,7 @@ use Rattle.channel_laws.specs.EndStep.{EndStep}
 use Rattle.channel_laws.specs.LaneCore.{CoreEvent, CoreFits, CoreStep, LaneCore, fresh_core, transcript_behind, turns_after}
 use Rattle.channel_laws.specs.Standing.{EndStands}
 
-abbrev pub PartsSaid : List Turn → Type 0
+abbrev pub PartsSaid : List Utterance → Type 0
 PartsSaid turns = AllMayCome [] (fragments_in (numbered_said turns))
 
 -- one part more after those that may come
@@ -45,17 +45,17 @@ carries_part _ part = absurd (cc part)
 within : (s : Subtype) (b : Body) → IsData b → HasForm s b → (1 ≤ length (fragment_of b).bytes) × (length (fragment_of b).bytes ≤ 56)
 within s b is form = grind (arith, length-take-le)
 
-said_within : (turns : List Turn) (bytes : List ℕ) → IsSaid turns bytes → is_part bytes ≡ true → (1 ≤ length (fragment_at bytes).bytes) × (length (fragment_at bytes).bytes ≤ 56)
+said_within : (turns : List Utterance) (bytes : List ℕ) → IsSaid turns bytes → is_part bytes ≡ true → (1 ≤ length (fragment_at bytes).bytes) × (length (fragment_at bytes).bytes ≤ 56)
 said_within turns bytes said part = grind (arith, canonical_spells, carries_part, spelled_part, spelled_fragment, within)
 
 -- A PACKET that is said
-may_part : (turns : List Turn) (bytes : List ℕ) → IsSaid turns bytes → is_part bytes ≡ true → MayCome (half_in [] (fragments_in (numbered_said turns))) (fragment_at bytes)
+may_part : (turns : List Utterance) (bytes : List ℕ) → IsSaid turns bytes → is_part bytes ≡ true → MayCome (half_in [] (fragments_in (numbered_said turns))) (fragment_at bytes)
 may_part turns bytes said part =
     let here : IsSaidPart (half_said turns) (fragment_at bytes) = said.part part in
     let long = said_within turns bytes said part in
     subst (λ (half : List ℕ). MayCome half (fragment_at bytes)) (half_said_is turns) (here.start, here.most, long.0, long.1)
 
-says_more : (turns : List Turn) (bytes : List ℕ) → IsSaid turns bytes → PartsSaid turns → PartsSaid (Said bytes ∷ turns)
+says_more : (turns : List Utterance) (bytes : List ℕ) → IsSaid turns bytes → PartsSaid turns → PartsSaid (Said bytes ∷ turns)
 says_more turns bytes said all = by_number (is_numbered bytes) refl
   where
     by_part : (b : Bool) → is_numbered bytes ≡ true → is_part bytes ≡ b → PartsSaid (Said bytes ∷ turns)
@@ -70,11 +70,11 @@ says_more turns bytes said all = by_number (is_numbered bytes) refl
     by_number false has = subst (λ (packets : List (List ℕ)). AllMayCome [] (fragments_in packets)) (sym (quiet bytes (numbered_said turns) has)) all
 
 -- EACH MOVE
-pub record SaysParts (role : Role) (c : EndCore) (turns : List Turn) : Type 0 where
+pub record SaysParts (role : Role) (c : EndCore) (turns : List Utterance) : Type 0 where
   pub stands : EndStands role c turns
   pub parts : PartsSaid turns
 
-parts_move : (role : Role) (c : EndCore) (move : EndMove) (t : EndCore) (turns : List Turn) → SaysParts role c turns → EndStep role c move t → PartsSaid (turns_after turns move)
+parts_move : (role : Role) (c : EndCore) (move : EndMove) (t : EndCore) (turns : List Utterance) → SaysParts role c turns → EndStep role c move t → PartsSaid (turns_after turns move)
 parts_move role c move t turns says step = grind (arith, says_more, end_said)
 
 pub parts_run : (entries : ℕ) (asks answers : Offer) (events : List CoreEvent) (s : LaneCore) → CoreFits entries asks answers

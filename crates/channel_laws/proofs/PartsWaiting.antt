@@ -13,14 +13,14 @@ use Rattle.ldc_queue.specs.Fragments.{Fragment, fragment_at, fragments_in, is_pa
 use Rattle.ldc_queue.specs.Messages.{AllMayCome, half_in, half_with, whole_in, whole_with}
 use Rattle.ldc_queue.specs.Numbered.{is_numbered, kept, numbered}
 use Rattle.ldc_queue.specs.OneStream.{OneWay, live}
-use Rattle.ldc_queue.specs.Transcript.{Said, Turn, numbered_heard, numbered_said}
+use Rattle.ldc_queue.specs.Transcript.{Said, Utterance, numbered_heard, numbered_said}
 use Rattle.vio_handshake.specs.declared.session.Offer.{Offer}
 use Rattle.channel_model.proofs.SameSayings.{half_said_is, heard_is, said_is}
 use Rattle.channel_model.specs.Sayings.{half_said, heard, said}
 use Rattle.channel_model.specs.WireAt.{IsSaid, IsSaidPart}
 use Rattle.channel_laws.proofs.EndStanding.{fresh_end_stands, stands_step}
 use Rattle.channel_laws.proofs.Lifting.{EndsAll, ends_run}
-use Rattle.channel_laws.proofs.LinkTurns.{part_is}
+use Rattle.channel_laws.proofs.TakenInOrder.{part_is}
 use Rattle.channel_laws.proofs.Numbering.{end_said}
 use Rattle.channel_laws.proofs.PartsSaid.{PartsSaid}
 use Rattle.channel_laws.specs.Conversing.{Converse}
@@ -42,7 +42,7 @@ abbrev pub AllLong : List Fragment → Type 0
 AllLong [] = ⊤
 AllLong (part ∷ parts) = IsLong part × AllLong parts
 
-abbrev pub LongSaid : List Turn → Type 0
+abbrev pub LongSaid : List Utterance → Type 0
 LongSaid turns = AllLong (fragments_in (numbered_said turns))
 
 long_more : (xs : List Fragment) (part : Fragment) → AllLong xs → IsLong part → AllLong (xs ++ part ∷ [])
@@ -58,7 +58,7 @@ come_behind half [] ys all = all
 come_behind half (x ∷ xs) ys all = come_behind (half_with x.stop (half ++ x.bytes)) xs ys all.1
 
 -- A PACKET that is said
-says_long : (turns : List Turn) (bytes : List ℕ) → IsSaid turns bytes → LongSaid turns → LongSaid (Said bytes ∷ turns)
+says_long : (turns : List Utterance) (bytes : List ℕ) → IsSaid turns bytes → LongSaid turns → LongSaid (Said bytes ∷ turns)
 says_long turns bytes said_so all = by_number (is_numbered bytes) refl
   where
     by_part : (b : Bool) → is_numbered bytes ≡ true → is_part bytes ≡ b → LongSaid (Said bytes ∷ turns)
@@ -73,11 +73,11 @@ says_long turns bytes said_so all = by_number (is_numbered bytes) refl
     by_number true has = by_part (is_part bytes) has refl
     by_number false has = subst (λ (packets : List (List ℕ)). AllLong (fragments_in packets)) (sym (quiet bytes (numbered_said turns) has)) all
 
-pub record SaysLong (role : Role) (c : EndCore) (turns : List Turn) : Type 0 where
+pub record SaysLong (role : Role) (c : EndCore) (turns : List Utterance) : Type 0 where
   pub stands : EndStands role c turns
   pub long : LongSaid turns
 
-long_move : (role : Role) (c : EndCore) (move : EndMove) (t : EndCore) (turns : List Turn) → SaysLong role c turns → EndStep role c move t → LongSaid (turns_after turns move)
+long_move : (role : Role) (c : EndCore) (move : EndMove) (t : EndCore) (turns : List Utterance) → SaysLong role c turns → EndStep role c move t → LongSaid (turns_after turns move)
 long_move role c move t turns says step = grind (arith, says_long, end_said)
 
 pub long_run : (entries : ℕ) (asks answers : Offer) (events : List CoreEvent) (s : LaneCore) → CoreFits entries asks answers

@@ -11,27 +11,27 @@ use Rattle.ldc_link.specs.Calls.{Puts}
 use Rattle.ldc_link.specs.Following.{Follows}
 use Rattle.ldc_link.specs.LinkState.{LinkState, is_established, is_up}
 use Rattle.ldc_link.specs.Putting.{behind_put, left_behind_put}
-use Rattle.ldc_queue.specs.Transcript.{Said, Turn}
+use Rattle.ldc_queue.specs.Transcript.{Said, Utterance}
 use Rattle.channel_model.specs.EndPuts.{ComesUp, EndsOwn, EndsHandshake, Goes, PutKind, ending, kind_in, put_kind}
 use Rattle.channel_model.specs.Sayings.{half_said, said}
 use Rattle.channel_laws.proofs.LinkCases.{ControlGone, ControlPut, LinkPut, PartGone, ReadyGone, canonical_is, link_put, put_quiet, ready_loud}
-use Rattle.channel_laws.proofs.TurnCases.{SaysNothing, SaysPart, says_last, says_more, says_nothing, says_part}
+use Rattle.channel_laws.proofs.UtteranceCases.{SaysNothing, SaysPart, says_last, says_more, says_nothing, says_part}
 
 -- no message is whole by it
-pub record SaysOn (k : LinkState) (turns : List Turn) (packet : List ℕ) : Type 0 where
+pub record SaysOn (k : LinkState) (turns : List Utterance) (packet : List ℕ) : Type 0 where
   pub messages : said (Said packet ∷ turns) ≡ said turns
   pub whole : half_said (Said packet ∷ turns) ++ (behind_put k).to_send ≡ half_said turns ++ k.to_send
   pub some : 1 ≤ length (behind_put k).to_send → 1 ≤ length k.to_send
 
 -- what was put of a message and what is left of it are whole
-pub record SaysWhole (k : LinkState) (turns : List Turn) (packet : List ℕ) : Type 0 where
+pub record SaysWhole (k : LinkState) (turns : List Utterance) (packet : List ℕ) : Type 0 where
   pub messages : said (Said packet ∷ turns) ≡ said turns ++ (half_said turns ++ k.to_send) ∷ []
   pub half : half_said (Said packet ∷ turns) ≡ []
   pub none : (behind_put k).to_send ≡ []
   pub some : 1 ≤ length k.to_send
 
 -- with the flag that the link's message is the end's own
-abbrev pub PutSays : PutKind → Bool → LinkState → List Turn → List ℕ → Type 0
+abbrev pub PutSays : PutKind → Bool → LinkState → List Utterance → List ℕ → Type 0
 PutSays Goes own k turns packet = SaysOn k turns packet
 PutSays ComesUp own k turns packet = SaysOn k turns packet × (is_up k ≡ false)
 PutSays EndsOwn own k turns packet = SaysWhole k turns packet × (own ≡ true)
@@ -44,11 +44,11 @@ control_kind before bytes next k own put = grind arith
 control_left : (before : LinkPhase) (bytes : List ℕ) (next : LinkPhase) (left : List ℕ) → ControlPut before bytes next → left_behind_put before left ≡ left
 control_left before bytes next left put = grind arith
 
-quiet_on : (k : LinkState) (turns : List Turn) (packet : List ℕ) → SaysNothing turns packet → left_behind_put k.phase k.to_send ≡ k.to_send → SaysOn k turns packet
+quiet_on : (k : LinkState) (turns : List Utterance) (packet : List ℕ) → SaysNothing turns packet → left_behind_put k.phase k.to_send ≡ k.to_send → SaysOn k turns packet
 quiet_on k turns packet quiet left = grind arith
 
 -- a part of a message
-part_says : (last own : Bool) (k : LinkState) (turns : List Turn) (packet : List ℕ) → k.phase ≡ phase.Established → 1 ≤ length k.to_send → SaysPart k packet
+part_says : (last own : Bool) (k : LinkState) (turns : List Utterance) (packet : List ℕ) → k.phase ≡ phase.Established → 1 ≤ length k.to_send → SaysPart k packet
     → nat_le (length k.to_send) 56 ≡ last → PutSays (ending last own) own k turns packet
 part_says false own k turns packet at some part long =
     let more = says_more k turns packet part long in
@@ -76,7 +76,7 @@ part_says true own k turns packet at some part short = by_own own
     by_own true = (whole, refl)
     by_own false = (whole, refl)
 
-pub put_says : (own : Bool) (k m : LinkState) (turns : List Turn) (packet : List ℕ) → Follows k turns → Puts k packet m → PutSays (put_kind k own) own k turns packet
+pub put_says : (own : Bool) (k m : LinkState) (turns : List Utterance) (packet : List ℕ) → Follows k turns → Puts k packet m → PutSays (put_kind k own) own k turns packet
 put_says own k m turns packet follows puts = by_how (link_put k m packet puts)
   where
     of_kind : (kind : PutKind) → put_kind k own ≡ kind → PutSays kind own k turns packet → PutSays (put_kind k own) own k turns packet

@@ -8,7 +8,7 @@ use Rattle.ldc_link.specs.LinkState.{LinkState}
 use Rattle.ldc_link.specs.Taking.{Heard, LinkTake, TakesBytes, Unheard}
 use Rattle.ldc_packet.specs.Fault.{first_fault}
 use Rattle.ldc_queue.specs.declared.end.End.{End}
-use Rattle.ldc_queue.specs.Transcript.{Turn}
+use Rattle.ldc_queue.specs.Transcript.{Utterance}
 use Rattle.vio_handshake.specs.declared.handshake.Handshake.{Handshake}
 use Rattle.vio_handshake.specs.declared.session.Offer.{Offer}
 use Rattle.vio_handshake.specs.Rules.{Faults, HandshakeTake, handshake_take}
@@ -25,7 +25,7 @@ use Rattle.channel_laws.proofs.HandshakeResets.{HandshakeWhy, Spelled, handshake
 use Rattle.channel_laws.proofs.LinkCases.{link_heard}
 use Rattle.channel_laws.proofs.LinkResets.{link_why}
 use Rattle.channel_laws.proofs.Numbering.{heard_so}
-use Rattle.channel_laws.proofs.TurnCases.{EndsBy, EndsWhole, hears_on}
+use Rattle.channel_laws.proofs.UtteranceCases.{EndsBy, EndsWhole, hears_on}
 use Rattle.channel_laws.specs.EndCore.{EndCore}
 use Rattle.channel_laws.specs.EndStep.{DecodedFails, EndFails, LinkFails, WholeFails, risen_at}
 use Rattle.channel_laws.specs.LaneCore.{CoreEvent, CoreFits, CoreStep, LaneCore, OnChannel, end_of, fresh_core, transcript_behind}
@@ -34,13 +34,13 @@ use Rattle.channel_laws.proofs.Lifting.{stand_run}
 use Rattle.channel_laws.specs.Standing.{EndStands}
 
 -- THE MESSAGE that the packet ends says why
-pub by_message : (turns : List Turn) (packet bytes : List ℕ) (cause : Cause) → first_fault packet ≡ None → EndsBy turns packet bytes → MessageSays bytes cause → SaysWhy turns packet cause
+pub by_message : (turns : List Utterance) (packet bytes : List ℕ) (cause : Cause) → first_fault packet ≡ None → EndsBy turns packet bytes → MessageSays bytes cause → SaysWhy turns packet cause
 by_message turns packet bytes cause sound by says = grind arith
 
 refused_says : (bytes : List ℕ) (take : HandshakeTake) (cause : Cause) → HandshakeWhy bytes take → take ≡ Faults cause → MessageSays bytes cause
 refused_says bytes take cause says is = grind arith
 
-pub end_fails : (role : Role) (c : EndCore) (turns : List Turn) (cause : Cause) (packet : Option (List ℕ)) → EndStands role c turns → EndFails role c cause packet
+pub end_fails : (role : Role) (c : EndCore) (turns : List Utterance) (cause : Cause) (packet : Option (List ℕ)) → EndStands role c turns → EndFails role c cause packet
     → ResetsFor c turns cause packet
 end_fails role c turns cause None stands fails = fails
 end_fails role c turns cause (Some packet) stands fails = by_take fails.take fails.takes fails.fails

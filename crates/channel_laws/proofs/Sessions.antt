@@ -10,7 +10,7 @@ use Rattle.ldc_queue.specs.declared.end.ChannelState.TheVariants.{Down, Resettin
 use Rattle.ldc_queue.specs.declared.end.End.{End}
 use Rattle.ldc_queue.specs.declared.end.End.TheVariants.{A, B}
 use Rattle.ldc_queue.specs.OneStream.{IsFront}
-use Rattle.ldc_queue.specs.Transcript.{Turn}
+use Rattle.ldc_queue.specs.Transcript.{Utterance}
 use Rattle.ldc_queue.specs.Wire.{peer_of}
 use Rattle.runs.specs.Lawful.{log_of}
 use Rattle.vio_handshake.specs.declared.handshake.Handshake.{Handshake}
@@ -30,7 +30,7 @@ use Rattle.channel_laws.proofs.EndStanding.{open_up}
 use Rattle.channel_laws.proofs.EndUttering.{each_front}
 use Rattle.channel_laws.proofs.HandshakePlaces.{AtPlace, deal, open_place, place_open}
 use Rattle.channel_laws.proofs.HandshakesPlaced.{Meets, first_meets, meets_keep, up_or}
-use Rattle.channel_laws.proofs.WhoseTurn.{initiator_done}
+use Rattle.channel_laws.proofs.WhoOwes.{initiator_done}
 use Rattle.channel_laws.specs.Conversing.{Converse}
 use Rattle.channel_laws.specs.CoreLog.{CoreLog, after, nothing_yet}
 use Rattle.channel_laws.specs.EndCore.{EndCore}
@@ -41,7 +41,7 @@ use Rattle.channel_laws.specs.Sides.{Sides, sides_of, swapped}
 use Rattle.channel_laws.specs.Standing.{EndStands}
 use Rattle.channel_laws.specs.Utterances.{SaysEach}
 
--- THE TALK of a run is that of its log
+-- THE TRANSCRIPT of a run is that of its log
 pub transcript_is : (l : CoreLog) (events : List CoreEvent) → (log_of after l events).transcript ≡ log_of transcript_after l.transcript events
 transcript_is l [] = refl
 transcript_is l (event ∷ events) = transcript_is (after l event) events
@@ -51,7 +51,7 @@ pub not_among : (message : Message) (messages : List (List ℕ)) → messages �
 not_among message [] is among = among
 not_among message (bytes ∷ messages) is among = cc is
 
-pub open_heard : (role : Role) (c : EndCore) (turns : List Turn) → StandsResting role c turns → c.is_open ≡ true → heard turns ≡ [] → ⊥
+pub open_heard : (role : Role) (c : EndCore) (turns : List Utterance) → StandsResting role c turns → c.is_open ≡ true → heard turns ≡ [] → ⊥
 open_heard role c turns knows is none = grind arith
 
 -- BOTH ENDS ARE UP
@@ -96,7 +96,7 @@ one_in false d is = record {
   peer_ring = subst (λ (b : Bool). KnowsBoth b (asked_in_all false d) (answered_in_all false d) d.answers) (sym is) tt;
 }
 
-open_done : (both : Bool) (d : Deal) (role : Role) (c : EndCore) (turns : List Turn) → EndStands role c turns → c.is_open ≡ true → AtPlace both d role c.handshake turns
+open_done : (both : Bool) (d : Deal) (role : Role) (c : EndCore) (turns : List Utterance) → EndStands role c turns → c.is_open ≡ true → AtPlace both d role c.handshake turns
     → c.handshake ≡ handshake_at both d role AllSaid
 open_done both d role c turns stands is at = at.is ∙ ap (handshake_at both d role) (open_place both d role c turns stands at is)
 
@@ -142,7 +142,7 @@ initiator_open asks answers s l knows clean up opened =
     front_none [] ys front none = refl
     front_none (x ∷ xs) ys front none = let wrong : x ∷ (xs ++ front.0) ≡ [] = sym front.1 ∙ none in cc wrong
 
-    said_up : (c : EndCore) (turns : List Turn) → (said turns ≡ [] → ⊥) → (b : Bool) → is_up c.link ≡ b → EndStands Initiator c turns → is_up c.link ≡ true
+    said_up : (c : EndCore) (turns : List Utterance) → (said turns ≡ [] → ⊥) → (b : Bool) → is_up c.link ≡ b → EndStands Initiator c turns → is_up c.link ≡ true
     said_up c turns some true is stands = is
     said_up c turns some false is stands = absurd (some (stands.below is).said_none)
 

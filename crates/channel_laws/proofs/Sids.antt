@@ -12,7 +12,7 @@ use Rattle.ldc_packet.specs.Spelling.{ctrl_at, type_at}
 use Rattle.ldc_queue.specs.declared.end.End.TheVariants.{A, B}
 use Rattle.ldc_queue.specs.Fragments.{is_part}
 use Rattle.ldc_queue.specs.Numbered.{is_numbered}
-use Rattle.ldc_queue.specs.Transcript.{Turn}
+use Rattle.ldc_queue.specs.Transcript.{Utterance}
 use Rattle.vio_handshake.specs.declared.handshake.Handshake.{Handshake}
 use Rattle.vio_handshake.specs.declared.session.Offer.{Offer}
 use Rattle.vio_handshake.specs.Rules.{handshake_sent}
@@ -66,7 +66,7 @@ sid_after role _ n = n
 up_last : (role : Role) (h : Handshake) → h.role ≡ role → (role ≡ Responder → (handshake_up h).last_sid ≡ h.last_sid) × (role ≡ Initiator → (handshake_up h).last_sid ≡ (h.last_sid + 1) % 4294967296)
 up_last role h is = grind arith
 
-hears_last : (role : Role) (c t : EndCore) (turns : List Turn) (packet : List ℕ) (opens : Bool) → EndStands role c turns → EndHears role c packet opens t
+hears_last : (role : Role) (c t : EndCore) (turns : List Utterance) (packet : List ℕ) (opens : Bool) → EndStands role c turns → EndHears role c packet opens t
     → t.handshake.last_sid ≡ c.handshake.last_sid
 hears_last role c t turns packet opens stands hears = by_what took.what
   where
@@ -84,7 +84,7 @@ record SaysSo (role : Role) (c t : EndCore) (packet : List ℕ) : Type 0 where
   last : t.handshake.last_sid ≡ next_if (is_rdx packet) c.handshake.last_sid
   never : role ≡ Responder → is_rdx packet ≡ false
 
-says_last : (role : Role) (c t : EndCore) (turns : List Turn) (packet : List ℕ) (opens : Bool) → EndStands role c turns → EndSays role c packet opens t → SaysSo role c t packet
+says_last : (role : Role) (c t : EndCore) (turns : List Utterance) (packet : List ℕ) (opens : Bool) → EndStands role c turns → EndSays role c packet opens t → SaysSo role c t packet
 says_last role c t turns packet opens stands says = by_what (end_put role c t turns packet opens says holds)
   where
     holds : EndStands role says.held turns
@@ -112,11 +112,11 @@ says_last role c t turns packet opens stands says = by_what (end_put role c t tu
         keeps (part_rdx packet last.part.part) (ap (λ (h : Handshake). h.last_sid) handshake ∙ sent_last says.held.handshake (handshake_sent says.held.handshake) _ (row_sent says.held.handshake))
 
 -- EACH MOVE
-last_step : (role : Role) (c : EndCore) (move : EndMove) (t : EndCore) (turns : List Turn) → EndStands role c turns → EndStep role c move t
+last_step : (role : Role) (c : EndCore) (move : EndMove) (t : EndCore) (turns : List Utterance) → EndStands role c turns → EndStep role c move t
     → t.handshake.last_sid ≡ sid_after role move c.handshake.last_sid
 last_step role c move t turns stands step = grind (arith, hears_last, says_last)
 
-zero_step : (c : EndCore) (move : EndMove) (t : EndCore) (turns : List Turn) → EndStands Responder c turns → EndStep Responder c move t → c.handshake.last_sid ≡ 0
+zero_step : (c : EndCore) (move : EndMove) (t : EndCore) (turns : List Utterance) → EndStands Responder c turns → EndStep Responder c move t → c.handshake.last_sid ≡ 0
     → t.handshake.last_sid ≡ 0
 zero_step c Renews t turns stands step zero = last_step Responder c Renews t turns stands step
 zero_step c (Says packet opens) t turns stands step zero =

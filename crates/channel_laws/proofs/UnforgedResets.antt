@@ -39,7 +39,7 @@ use Rattle.channel_laws.proofs.LinkRefuses.{link_refuses}
 use Rattle.channel_laws.proofs.PartsSaid.{PartsSaid, parts_run}
 use Rattle.channel_laws.proofs.Script.{bytes_at, not_last}
 use Rattle.channel_laws.proofs.Sessions.{meets_knows, transcript_is}
-use Rattle.channel_laws.proofs.TurnCases.{HearsOn, hears_on}
+use Rattle.channel_laws.proofs.UtteranceCases.{HearsOn, hears_on}
 use Rattle.channel_laws.specs.CoreLog.{after, nothing_yet}
 use Rattle.channel_laws.specs.EndCore.{EndCore}
 use Rattle.channel_laws.specs.EndStep.{DecodedFails, EndFails, EndStep, LinkFails, WholeFails, risen_at}

@@ -2,7 +2,7 @@
 use Rattle.std.specs.Prelude.{◌≡◌, ◌+◌, ◌≤◌, Bool, true, false, not, List, [], ◌++◌, ℕ, length, Option, Some}
 use Rattle.ldc_link.specs.LinkState.{LinkState}
 use Rattle.ldc_queue.specs.Messages.{is_empty}
-use Rattle.ldc_queue.specs.Transcript.{Turn}
+use Rattle.ldc_queue.specs.Transcript.{Utterance}
 use Rattle.vio_handshake.specs.declared.handshake.Handshake.{Handshake}
 use Rattle.vio_handshake.specs.declared.handshake.Phase.TheVariants.{Open}
 use Rattle.vio_tag.specs.declared.message.Message.{Message}
@@ -13,7 +13,7 @@ use Rattle.channel_laws.specs.EndStep.{IsOfSession}
 
 -- part of its message is put where part of one was said, what was said of a message and what is left of it are at most 256 bytes, and where
 -- nothing is left nothing of a message was said
-pub record Cuts (k : LinkState) (turns : List Turn) : Type 0 where
+pub record Cuts (k : LinkState) (turns : List Utterance) : Type 0 where
   pub begun : k.begun ≡ not (is_empty (half_said turns))
   pub most : length (half_said turns) + length k.to_send ≤ 256
   pub free : k.to_send ≡ [] → half_said turns ≡ []
@@ -35,5 +35,5 @@ abbrev pub Carries : Bool → Handshake → List ℕ → Type 0
 Carries false h bytes = CarriesOwed h.owed bytes
 Carries true h bytes = CarriesOwn h bytes
 
-abbrev pub HoldsIts : Bool → LinkState → Handshake → List Turn → Type 0
+abbrev pub HoldsIts : Bool → LinkState → Handshake → List Utterance → Type 0
 HoldsIts own k h turns = holds k ≡ true → Carries own h (half_said turns ++ k.to_send)

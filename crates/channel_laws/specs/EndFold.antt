@@ -11,7 +11,7 @@ use Rattle.ldc_packet.specs.declared.packet.Subtype.{Subtype}
 use Rattle.ldc_packet.specs.declared.packet.Subtype.TheVariants.{Ack, Info, Nack}
 use Rattle.ldc_packet.specs.Spelling.{ctrl_at, env_at, subtype_at}
 use Rattle.ldc_queue.specs.Fragments.{is_part}
-use Rattle.ldc_queue.specs.Transcript.{Heard, Said, Turn}
+use Rattle.ldc_queue.specs.Transcript.{Heard, Said, Utterance}
 use Rattle.vio_bytes.specs.Place.{number_at}
 use Rattle.vio_tag.proofs.Deciding.{some_result}
 use Rattle.vio_tag.specs.declared.cause.Cause.{Cause}
@@ -48,7 +48,7 @@ abbrev pub phase_heard : Bool → LinkPhase → List ℕ → LinkPhase
 phase_heard true phase packet = phase
 phase_heard false phase packet = or_stays phase (phase_by (ctrl_at packet) phase packet)
 
-abbrev pub link_phase : Role → List Turn → LinkPhase
+abbrev pub link_phase : Role → List Utterance → LinkPhase
 link_phase role [] = first_phase role
 link_phase role (Said packet ∷ turns) = phase_behind_put (link_phase role turns)
 link_phase role (Heard packet ∷ turns) = phase_heard (is_part packet) (link_phase role turns) packet
@@ -101,7 +101,7 @@ abbrev pub up_if : Bool → Handshake → Handshake → Handshake
 up_if true up h = up
 up_if false up h = h
 
-abbrev pub handshake_of : Role → Offer → ℕ → List Turn → Handshake
+abbrev pub handshake_of : Role → Offer → ℕ → List Utterance → Handshake
 handshake_of role offer last [] = down_with role offer last
 handshake_of role offer last (Said packet ∷ turns) =
     up_if (is_rdx packet) (up_with role offer last) (behind_said (ended_by (half_said turns) packet) (handshake_of role offer last turns))
@@ -109,6 +109,6 @@ handshake_of role offer last (Heard packet ∷ turns) =
     up_if (is_rdx packet) (up_with role offer last) (behind_heard (ended_by (half_heard turns) packet) (handshake_of role offer last turns))
 
 -- AN END is so: its link, and its handshake, where its last sid is known
-pub record EndFolds (role : Role) (c : EndCore) (turns : List Turn) : Type 0 where
+pub record EndFolds (role : Role) (c : EndCore) (turns : List Utterance) : Type 0 where
   pub phase : c.link.phase ≡ link_phase role turns
   pub handshake : c.handshake ≡ handshake_of role c.offer c.handshake.last_sid turns

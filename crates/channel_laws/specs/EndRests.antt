@@ -2,7 +2,7 @@
 use Rattle.std.specs.Prelude.{◌≡◌, true, false, None, List, []}
 use Rattle.ldc_link.specs.declared.phase.Role.{Role}
 use Rattle.ldc_link.specs.LinkState.{is_up}
-use Rattle.ldc_queue.specs.Transcript.{Turn}
+use Rattle.ldc_queue.specs.Transcript.{Utterance}
 use Rattle.vio_handshake.specs.declared.handshake.Phase.TheVariants.{Down, Open}
 use Rattle.channel_model.specs.Sayings.{half_said, heard, said}
 use Rattle.channel_laws.specs.EndCore.{EndCore}
@@ -13,7 +13,7 @@ use Rattle.channel_laws.specs.Utterances.{Utters}
 
 -- An end stands by its role; its handshake rests on what it heard, holds what it said, and fits its offer. Then each whole message was seen, the
 -- handshake is down while the link isn't up, and open where the session is.
-pub record EndRests (role : Role) (c : EndCore) (turns : List Turn) : Type 0 where
+pub record EndRests (role : Role) (c : EndCore) (turns : List Utterance) : Type 0 where
   pub stands : EndStands role c turns
   pub rests : RestsOn role c.handshake (heard turns)
   pub utters : Utters role c.handshake (said turns)
@@ -23,7 +23,7 @@ pub record EndRests (role : Role) (c : EndCore) (turns : List Turn) : Type 0 whe
   pub opened : c.is_open ≡ true → c.handshake.phase ≡ Open
 
 -- where nothing is left to put nothing of a message was said; and before its link is up an end said nothing, and has nothing to say
-pub record EndUtters (c : EndCore) (turns : List Turn) : Type 0 where
+pub record EndUtters (c : EndCore) (turns : List Utterance) : Type 0 where
   pub half : c.link.to_send ≡ [] → half_said turns ≡ []
   pub silent : is_up c.link ≡ false → said turns ≡ []
   pub idle : is_up c.link ≡ false → c.link.to_send ≡ []

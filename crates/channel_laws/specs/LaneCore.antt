@@ -7,7 +7,7 @@ use Rattle.ldc_link.specs.declared.phase.Role.TheVariants.{Initiator, Responder}
 use Rattle.ldc_queue.specs.declared.end.ChannelState.TheVariants.{Up}
 use Rattle.ldc_queue.specs.declared.end.End.{End}
 use Rattle.ldc_queue.specs.declared.end.End.TheVariants.{A, B}
-use Rattle.ldc_queue.specs.Transcript.{Heard, Said, Turn}
+use Rattle.ldc_queue.specs.Transcript.{Heard, Said, Utterance}
 use Rattle.ldc_queue.specs.Wire.{Wire, closed, peer_of, state_of, waiting_for}
 use Rattle.vio_handshake.specs.declared.session.Offer.{Offer}
 use Rattle.channel_model.specs.TranscriptLog.{TranscriptLog, nothing_said, silenced, transcript_moved}
@@ -95,7 +95,7 @@ move_of e (Closes end) = at_end e end Renews
 move_of e Beside = Stays
 
 -- WHAT AN END SAID AND HEARD since it last began anew, by its moves; the same for both ends, by the events
-abbrev pub turns_after : List Turn → EndMove → List Turn
+abbrev pub turns_after : List Utterance → EndMove → List Utterance
 turns_after turns Begins = []
 turns_after turns Renews = []
 turns_after turns (Fails cause packet) = []

@@ -8,7 +8,7 @@ use Rattle.ldc_packet.specs.Fault.{first_fault}
 use Rattle.ldc_packet.specs.Spelling.{ctrl_at, env_at, seqid_at, type_at}
 use Rattle.ldc_queue.specs.Fragments.{fragment_at, is_part}
 use Rattle.ldc_queue.specs.Numbered.{is_numbered}
-use Rattle.ldc_queue.specs.Transcript.{Turn}
+use Rattle.ldc_queue.specs.Transcript.{Utterance}
 use Rattle.vio_handshake.specs.declared.handshake.Handshake.{Handshake}
 use Rattle.vio_handshake.specs.Rules.{Faults, Goes, GoesOpen, HandshakeTake, handshake_take, is_declined, sid_fault}
 use Rattle.vio_tag.specs.declared.cause.Cause.{Cause}
@@ -63,7 +63,7 @@ abbrev pub part_cause : (part comes : Bool) → Option Cause → Option Cause
 part_cause part comes rest = if part then (if comes then rest else Some the_cause.Fragment) else Some the_cause.Unexpected
 
 -- THE CAUSE, in a session of this sid
-abbrev pub packet_cause : (Message → Option Cause) → ℕ → List Turn → List ℕ → Option Cause
+abbrev pub packet_cause : (Message → Option Cause) → ℕ → List Utterance → List ℕ → Option Cause
 packet_cause own sid turns packet =
     fault_cause (first_fault packet)
     (number_cause (is_numbered packet) (counts_next (count_heard turns)) (seqid_at packet)

@@ -1,7 +1,7 @@
 -- Why an end resets itself: the packet that it carries says why, by its own bytes or by those of the message that it ends; or its session is
 -- open, and the cause lies in a message of that which the packet ends, or in no packet.
 use Rattle.std.specs.Prelude.{◌≡◌, ℕ, Bool, true, ◌⊎◌, List, Option, Some, None, ⊤}
-use Rattle.ldc_queue.specs.Transcript.{Turn}
+use Rattle.ldc_queue.specs.Transcript.{Utterance}
 use Rattle.vio_tag.specs.declared.cause.Cause.{Cause}
 use Rattle.vio_tag.specs.declared.cause.Cause.TheVariants as the_cause
 use Rattle.channel_model.specs.ResetSays.{EndsMessage, PacketSays}
@@ -13,7 +13,7 @@ abbrev pub LiesInPacket : Cause → Type 0
 LiesInPacket (the_cause.NotDone slot state) = ⊥
 LiesInPacket _ = ⊤
 
-pub record SaysWhy (turns : List Turn) (packet : List ℕ) (cause : Cause) : Type 0 where
+pub record SaysWhy (turns : List Utterance) (packet : List ℕ) (cause : Cause) : Type 0 where
   pub says : PacketSays turns packet cause
   pub gap : GapOf turns cause (Some packet)
   pub carried : LiesInPacket cause
@@ -27,7 +27,7 @@ abbrev pub LiesInSession : EndCore → Option (List ℕ) → Type 0
 LiesInSession c (Some packet) = LiesInMessage c packet
 LiesInSession c None = c.is_open ≡ true
 
-abbrev pub ResetsFor : EndCore → List Turn → Cause → Option (List ℕ) → Type 0
+abbrev pub ResetsFor : EndCore → List Utterance → Cause → Option (List ℕ) → Type 0
 ResetsFor c turns cause (Some packet) = SaysWhy turns packet cause ⊎ LiesInMessage c packet
 ResetsFor c turns cause None = c.is_open ≡ true
 

@@ -3,7 +3,7 @@
 use Rattle.std.specs.Prelude.{ℕ, Bool, true, false, List, [], ◌∷◌, ◌++◌, drop}
 use Rattle.ldc_queue.specs.declared.end.ChannelState.{ChannelState}
 use Rattle.ldc_queue.specs.declared.end.ChannelState.TheVariants.{Down, Up}
-use Rattle.ldc_queue.specs.Transcript.{Heard, Said, Turn}
+use Rattle.ldc_queue.specs.Transcript.{Heard, Said, Utterance}
 use Rattle.ldc_queue.specs.Wire.{peer_behind, queue_behind, upset}
 pub use Rattle.vio_handshake.specs.Pairing.{other}
 use Rattle.channel_model.specs.TranscriptLog.{TranscriptLog}
@@ -16,7 +16,7 @@ pub record Side : Type 0 where
   pub state : ChannelState
   pub waiting : List (List ℕ)
   pub core : EndCore
-  pub turns : List Turn
+  pub turns : List Utterance
 
 pub record Sides : Type 0 where
   pub entries : ℕ

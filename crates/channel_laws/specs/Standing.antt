@@ -6,7 +6,7 @@ use Rattle.ldc_link.specs.declared.phase.Role.{Role}
 use Rattle.ldc_link.specs.declared.phase.Role.TheVariants.{Initiator, Responder}
 use Rattle.ldc_link.specs.Following.{Follows}
 use Rattle.ldc_link.specs.LinkState.{LinkState, is_up}
-use Rattle.ldc_queue.specs.Transcript.{Turn}
+use Rattle.ldc_queue.specs.Transcript.{Utterance}
 use Rattle.vio_handshake.specs.declared.handshake.Handshake.{Handshake}
 use Rattle.vio_handshake.specs.declared.handshake.Phase.{Phase}
 use Rattle.vio_handshake.specs.declared.handshake.Phase.TheVariants.{Down, Open}
@@ -35,7 +35,7 @@ IsPhaseOf Responder phase.OwesRtr = ⊤
 IsPhaseOf Responder phase.AwaitsRdx = ⊤
 IsPhaseOf role _ = ⊥
 
-pub record LinkStands (role : Role) (k : LinkState) (turns : List Turn) : Type 0 where
+pub record LinkStands (role : Role) (k : LinkState) (turns : List Utterance) : Type 0 where
   pub role_is : k.role ≡ role
   pub of_role : IsPhaseOf role k.phase
   pub follows : Follows k turns
@@ -68,14 +68,14 @@ pub record HandshakeStands (role : Role) (offer : Offer) (h : Handshake) : Type 
   pub owed : OwedIsShort h.owed
 
 -- BEFORE ITS LINK IS UP an end holds nothing and owes nothing, and said and heard no message
-pub record IsBelow (k : LinkState) (h : Handshake) (turns : List Turn) : Type 0 where
+pub record IsBelow (k : LinkState) (h : Handshake) (turns : List Utterance) : Type 0 where
   pub left : k.to_send ≡ []
   pub owed : h.owed ≡ None
   pub down : h.phase ≡ Down
   pub said_none : said turns ≡ []
   pub heard_none : heard turns ≡ []
 
-pub record EndStands (role : Role) (c : EndCore) (turns : List Turn) : Type 0 where
+pub record EndStands (role : Role) (c : EndCore) (turns : List Utterance) : Type 0 where
   pub link : LinkStands role c.link turns
   pub handshake : HandshakeStands role c.offer c.handshake
   pub opened : c.is_open ≡ is_open_in c.handshake.phase

@@ -2,7 +2,7 @@
 
 ghost use Rattle.std.specs.Prelude.{◌≡◌, ℕ, List, Option, Some, false, true};
 ghost use Rattle.runs.specs.Run.{Run};
-ghost use Rattle.ldc_queue.specs.Transcript.{Turn};
+ghost use Rattle.ldc_queue.specs.Transcript.{Utterance};
 ghost use Rattle.ldc_queue.specs.Wire.{peer_of};
 ghost use Rattle.ldc_queue.specs.declared.end.End.TheVariants.{A, B};
 ghost use Rattle.ldc_queue.specs.declared.end.End.{End};
@@ -52,7 +52,7 @@ pub fn a_packet_resets_a_session_for_its_first_cause()
         → CoreFits entries asks answers → Run CoreStep (fresh_core entries asks answers) events s
         → (end_of e s).is_open ≡ true → Judges own (role_of e) (end_of e s) packet answer
         → answer ≡ packet_cause own (end_of e s).handshake.draft.sid (transcript_of e (transcript_behind events)) packet }
-    ensures says { (own : Message → Option Cause) (sid : ℕ) (turns : List Turn) (packet : List ℕ) (cause : Cause)
+    ensures says { (own : Message → Option Cause) (sid : ℕ) (turns : List Utterance) (packet : List ℕ) (cause : Cause)
         → JudgesRightly own → packet_cause own sid turns packet ≡ Some cause
         → PacketSays turns packet cause × GapOf turns cause (Some packet) }
 {}

@@ -8,7 +8,7 @@ use Rattle.ldc_queue.specs.Fragments.{Fragment, fragment_at, fragments_in, is_pa
 use Rattle.ldc_queue.specs.Messages as in_order
 use Rattle.ldc_queue.specs.Messages.{half_in, half_with, messages_heard, messages_said, whole_in, whole_with}
 use Rattle.ldc_queue.specs.Numbered.{kept, numbered}
-use Rattle.ldc_queue.specs.Transcript.{Heard, Said, Turn, numbered_heard, numbered_said}
+use Rattle.ldc_queue.specs.Transcript.{Heard, Said, Utterance, numbered_heard, numbered_said}
 use Rattle.channel_model.specs.Sayings.{half_heard, half_past, half_said, heard, said, whole_by, whole_past}
 
 -- the part of one packet, if it has one: each part has a number
@@ -40,21 +40,21 @@ parts_more : (packets : List (List ℕ)) (packet : List ℕ)
 parts_more packets packet =
     fragments_in-append packets (numbered (packet ∷ [])) ∙ ap (λ (parts : List Fragment). fragments_in packets ++ parts) (part_of packet)
 
-pub half_said_is : (turns : List Turn) → half_said turns ≡ in_order.unfinished_said turns
+pub half_said_is : (turns : List Utterance) → half_said turns ≡ in_order.unfinished_said turns
 half_said_is [] = refl
 half_said_is (Heard packet ∷ turns) = half_said_is turns
 half_said_is (Said packet ∷ turns) =
     ap (half_past (is_part packet) (fragment_at packet)) (half_said_is turns)
     ∙ sym (ap (half_in []) (parts_more (numbered_said turns) packet) ∙ half_more (is_part packet) (fragment_at packet) (fragments_in (numbered_said turns)))
 
-pub half_heard_is : (turns : List Turn) → half_heard turns ≡ in_order.unfinished_heard turns
+pub half_heard_is : (turns : List Utterance) → half_heard turns ≡ in_order.unfinished_heard turns
 half_heard_is [] = refl
 half_heard_is (Said packet ∷ turns) = half_heard_is turns
 half_heard_is (Heard packet ∷ turns) =
     ap (half_past (is_part packet) (fragment_at packet)) (half_heard_is turns)
     ∙ sym (ap (half_in []) (parts_more (numbered_heard turns) packet) ∙ half_more (is_part packet) (fragment_at packet) (fragments_in (numbered_heard turns)))
 
-pub said_is : (turns : List Turn) → said turns ≡ messages_said turns
+pub said_is : (turns : List Utterance) → said turns ≡ messages_said turns
 said_is [] = refl
 said_is (Heard packet ∷ turns) = said_is turns
 said_is (Said packet ∷ turns) =
@@ -62,7 +62,7 @@ said_is (Said packet ∷ turns) =
     ∙ ap (whole_past (is_part packet) (fragment_at packet) (in_order.unfinished_said turns)) (said_is turns)
     ∙ sym (ap (whole_in []) (parts_more (numbered_said turns) packet) ∙ whole_more (is_part packet) (fragment_at packet) (fragments_in (numbered_said turns)))
 
-pub heard_is : (turns : List Turn) → heard turns ≡ messages_heard turns
+pub heard_is : (turns : List Utterance) → heard turns ≡ messages_heard turns
 heard_is [] = refl
 heard_is (Said packet ∷ turns) = heard_is turns
 heard_is (Heard packet ∷ turns) =

@@ -6,7 +6,7 @@ use Rattle.ldc_packet.specs.Spelling.{ctrl_at, env_at, subtype_at, type_at}
 use Rattle.ldc_link.specs.declared.phase.Role.{Role}
 use Rattle.ldc_link.specs.declared.phase.Role.TheVariants.{Initiator, Responder}
 use Rattle.ldc_queue.specs.Fragments.{fragment_at, is_part}
-use Rattle.ldc_queue.specs.Transcript.{Heard, Said, Turn}
+use Rattle.ldc_queue.specs.Transcript.{Heard, Said, Utterance}
 use Rattle.vio_tag.specs.Spelling as message_at
 use Rattle.channel_model.specs.Sayings.{half_heard, half_said}
 
@@ -76,8 +76,8 @@ pub record EndsAs (subtype envelope sid : ℕ) (half packet : List ℕ) : Type 0
   pub of_envelope : message_at.envelope_at (half ++ (fragment_at packet).bytes) ≡ envelope
   pub of_sid : sid_in_bytes (half ++ (fragment_at packet).bytes) ≡ sid
 
--- the turn is the line's, after the turns before it
-abbrev pub Meets : ℕ → Line → Turn → List Turn → Type 0
+-- the utterance is the line's, after those before it
+abbrev pub Meets : ℕ → Line → Utterance → List Utterance → Type 0
 Meets sid (SaysControl control) (Said packet) before = IsControlOf control packet
 Meets sid (HearsControl control) (Heard packet) before = IsControlOf control packet
 Meets sid (Says subtype envelope) (Said packet) before = EndsAs subtype envelope sid (half_said before) packet
@@ -111,14 +111,14 @@ MayEnd true message = message_at.subtype_at message ≡ 4
 
 -- What may stand between the lines: what was said, parts of messages and refusals, after the link's coming up; a responder's refusals
 -- of versions; and what was heard, parts after the link's coming up, and control packets.
-abbrev pub IsAside : Role → List Line → Turn → List Turn → Type 0
+abbrev pub IsAside : Role → List Line → Utterance → List Utterance → Type 0
 IsAside role lines (Said packet) before =
     (ComesUpBelow lines × (is_part packet ≡ true) × MayEnd (fragment_at packet).stop (half_said before ++ (fragment_at packet).bytes))
     ⊎ MayRefuse role lines packet
 IsAside role lines (Heard packet) before = ComesUpBelow lines ⊎ (is_part packet ≡ false)
 
--- the turns are the lines, one after the other, and what stands aside
-abbrev pub FollowsRow : Role → ℕ → List Line → List Turn → Type 0
+-- the utterances are the lines, one after the other, and what stands aside
+abbrev pub FollowsRow : Role → ℕ → List Line → List Utterance → Type 0
 FollowsRow role sid [] [] = ⊤
 FollowsRow role sid (line ∷ lines) [] = ⊥
 FollowsRow role sid [] (turn ∷ turns) = IsAside role [] turn turns × FollowsRow role sid [] turns
@@ -127,11 +127,11 @@ FollowsRow role sid (line ∷ lines) (turn ∷ turns) =
     ⊎ (IsAside role (line ∷ lines) turn turns × FollowsRow role sid (line ∷ lines) turns)
 
 -- Its newest turn is that by which the session opened. All messages of the row have one sid.
-abbrev pub OpensBy : Role → ℕ → List Line → List Turn → Type 0
+abbrev pub OpensBy : Role → ℕ → List Line → List Utterance → Type 0
 OpensBy role sid [] turns = ⊥
 OpensBy role sid (line ∷ lines) [] = ⊥
 OpensBy role sid (line ∷ lines) (turn ∷ turns) = Meets sid line turn turns × FollowsRow role sid lines turns
 
-pub record HandshakeOrder (both : Bool) (role : Role) (turns : List Turn) : Type 0 where
+pub record HandshakeOrder (both : Bool) (role : Role) (turns : List Utterance) : Type 0 where
   pub sid : ℕ
   pub opens : OpensBy role sid (row both role) turns

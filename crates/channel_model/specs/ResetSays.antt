@@ -4,7 +4,7 @@ use Rattle.vio_bytes.specs.Place.{number_at}
 use Rattle.ldc_packet.specs.Fault.{first_fault}
 use Rattle.ldc_packet.specs.Spelling.{ctrl_at, env_at, subtype_at, type_at}
 use Rattle.ldc_queue.specs.Fragments.{fragment_at, is_part}
-use Rattle.ldc_queue.specs.Transcript.{Turn}
+use Rattle.ldc_queue.specs.Transcript.{Utterance}
 use Rattle.ldc_link.specs.Taking.{may_come}
 use Rattle.vio_tag.specs.declared.cause.Cause.{Cause}
 use Rattle.vio_tag.specs.declared.cause.Cause.TheVariants as the_cause
@@ -29,12 +29,12 @@ pub record RefusesVersion (packet : List ℕ) : Type 0 where
       ⊎ ((subtype_at packet ≡ 2) × ((number_at 2 8 packet ≢ 1) ⊎ (number_at 2 10 packet ≢ 0)))
 
 -- a part that makes no message with what had come before
-pub record BreaksMessage (turns : List Turn) (packet : List ℕ) : Type 0 where
+pub record BreaksMessage (turns : List Utterance) (packet : List ℕ) : Type 0 where
   pub part : is_part packet ≡ true
   pub broken : may_come (half_heard turns) (fragment_at packet) ≡ false
 
 -- the message that the packet ends
-abbrev pub ended : List Turn → List ℕ → List ℕ
+abbrev pub ended : List Utterance → List ℕ → List ℕ
 ended turns packet = half_heard turns ++ (fragment_at packet).bytes
 
 pub record EndsMessage (packet : List ℕ) : Type 0 where
@@ -57,11 +57,11 @@ MessageSays m (the_cause.Slot expected found) = (message.first_fault m ≡ None)
 MessageSays m (the_cause.RangeEnd found) = (message.first_fault m ≡ None) × (message_at.envelope_at m ≡ 0x0042) × (found ≡ number_at 4 28 m)
 MessageSays m _ = ⊥
 
-abbrev pub EndsBadly : List Turn → List ℕ → Cause → Type 0
+abbrev pub EndsBadly : List Utterance → List ℕ → Cause → Type 0
 EndsBadly turns packet cause = EndsMessage packet × MessageSays (ended turns packet) cause
 
 -- Bytes that spell no packet have that cause and no other. What a gap says stands by itself, and what a ring has no packet.
-abbrev pub PacketSays : List Turn → List ℕ → Cause → Type 0
+abbrev pub PacketSays : List Utterance → List ℕ → Cause → Type 0
 PacketSays turns packet (the_cause.Packet fault) = first_fault packet ≡ Some fault
 PacketSays turns packet (the_cause.Gap expected found) = first_fault packet ≡ None
 PacketSays turns packet (the_cause.Mode found) = (first_fault packet ≡ None) × HasMode packet found
@@ -88,7 +88,7 @@ MayLackPacket (the_cause.Frame size count) = ⊤
 MayLackPacket (the_cause.Copy fault) = ⊤
 MayLackPacket _ = ⊥
 
-abbrev pub ResetSays : List Turn → Option (List ℕ) → Cause → Type 0
+abbrev pub ResetSays : List Utterance → Option (List ℕ) → Cause → Type 0
 ResetSays turns None cause = MayLackPacket cause
 ResetSays turns (Some packet) cause = PacketSays turns packet cause
 

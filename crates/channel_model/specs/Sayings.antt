@@ -1,19 +1,19 @@
--- What a transcript comes to, counted from its turns: numbered packets, whole messages, and the bytes of a message whose last part hasn't
--- come. The newest turn stands first, so that one more turn is one more step of each count.
+-- What a transcript comes to, counted from its utterances: numbered packets, whole messages, and the bytes of a message whose last part hasn't
+-- come. The newest stands first, so that one more is one more step of each count.
 use Rattle.std.specs.Prelude.{ℕ, Bool, true, false, List, [], ◌∷◌, ◌++◌}
 use Rattle.ldc_queue.specs.Fragments.{Fragment, fragment_at, is_part}
 use Rattle.ldc_queue.specs.Messages.{half_with}
 use Rattle.ldc_queue.specs.Numbered.{is_numbered}
-use Rattle.ldc_queue.specs.Transcript.{Heard, Said, Turn}
+use Rattle.ldc_queue.specs.Transcript.{Heard, Said, Utterance}
 use Rattle.channel_model.specs.TranscriptLog.{more_if}
 
 -- how many packets with numbers of their own, RDX and parts of messages, the end put, and how many it took
-abbrev pub count_said : List Turn → ℕ
+abbrev pub count_said : List Utterance → ℕ
 count_said [] = 0
 count_said (Said packet ∷ turns) = more_if (is_numbered packet) (count_said turns)
 count_said (Heard packet ∷ turns) = count_said turns
 
-abbrev pub count_heard : List Turn → ℕ
+abbrev pub count_heard : List Utterance → ℕ
 count_heard [] = 0
 count_heard (Said packet ∷ turns) = count_heard turns
 count_heard (Heard packet ∷ turns) = more_if (is_numbered packet) (count_heard turns)
@@ -23,12 +23,12 @@ abbrev pub half_past : Bool → Fragment → List ℕ → List ℕ
 half_past true part half = half_with part.stop (half ++ part.bytes)
 half_past false part half = half
 
-abbrev pub half_said : List Turn → List ℕ
+abbrev pub half_said : List Utterance → List ℕ
 half_said [] = []
 half_said (Said packet ∷ turns) = half_past (is_part packet) (fragment_at packet) (half_said turns)
 half_said (Heard packet ∷ turns) = half_said turns
 
-abbrev pub half_heard : List Turn → List ℕ
+abbrev pub half_heard : List Utterance → List ℕ
 half_heard [] = []
 half_heard (Said packet ∷ turns) = half_heard turns
 half_heard (Heard packet ∷ turns) = half_past (is_part packet) (fragment_at packet) (half_heard turns)
@@ -43,12 +43,12 @@ whole_past true part half messages = whole_by part.stop (half ++ part.bytes) mes
 whole_past false part half messages = messages
 
 -- the whole messages that the end said, and those that it heard, oldest first
-abbrev pub said : List Turn → List (List ℕ)
+abbrev pub said : List Utterance → List (List ℕ)
 said [] = []
 said (Said packet ∷ turns) = whole_past (is_part packet) (fragment_at packet) (half_said turns) (said turns)
 said (Heard packet ∷ turns) = said turns
 
-abbrev pub heard : List Turn → List (List ℕ)
+abbrev pub heard : List Utterance → List (List ℕ)
 heard [] = []
 heard (Said packet ∷ turns) = heard turns
 heard (Heard packet ∷ turns) = whole_past (is_part packet) (fragment_at packet) (half_heard turns) (heard turns)

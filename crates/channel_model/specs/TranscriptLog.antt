@@ -3,19 +3,19 @@ use Rattle.std.specs.Prelude.{ℕ, ◌+◌, Bool, true, false, nat_eq, ◌&&◌,
 use Rattle.ldc_packet.specs.Spelling.{ctrl_at, type_at}
 use Rattle.ldc_queue.specs.declared.end.End.{End}
 use Rattle.ldc_queue.specs.declared.end.End.TheVariants.{A, B}
-use Rattle.ldc_queue.specs.Transcript.{Heard, Said, Turn}
+use Rattle.ldc_queue.specs.Transcript.{Heard, Said, Utterance}
 use Rattle.channel_model.specs.WireEvent.{Blocked, Declines, Idle, Injected, Joined, Lost, Poked, Reset, Sent, Took, WireEvent}
 
 pub record TranscriptLog : Type 0 where
-  pub client : List Turn
-  pub server : List Turn
+  pub client : List Utterance
+  pub server : List Utterance
   -- how often the client's link came up, which is how many sessions it began
   pub links : ℕ
 
 abbrev pub nothing_said : TranscriptLog
 nothing_said = record { client = []; server = []; links = 0 }
 
-abbrev pub transcript_of : End → TranscriptLog → List Turn
+abbrev pub transcript_of : End → TranscriptLog → List Utterance
 transcript_of A l = l.client
 transcript_of B l = l.server
 

@@ -10,7 +10,7 @@ use Rattle.ldc_queue.specs.declared.end.End.{End}
 use Rattle.ldc_queue.specs.Fragments.{Fragment, fragment_at, is_part}
 use Rattle.ldc_queue.specs.Messages.{is_empty}
 use Rattle.ldc_queue.specs.Numbered.{is_numbered}
-use Rattle.ldc_queue.specs.Transcript.{Turn}
+use Rattle.ldc_queue.specs.Transcript.{Utterance}
 use Rattle.ldc_queue.specs.Wire.{Wire, peer_of, state_of, waiting_for}
 use Rattle.vio_tag.specs.declared.cause.Cause.{Cause}
 use Rattle.vio_tag.specs.declared.cause.Cause.TheVariants as the_cause
@@ -83,7 +83,7 @@ pub record IsSaidPart (half : List ℕ) (part : Fragment) : Type 0 where
   pub long : part.stop ≡ false → length part.bytes ≡ 56
   pub most : length half + length part.bytes ≤ 256
 
-pub record IsSaid (turns : List Turn) (bytes : List ℕ) : Type 0 where
+pub record IsSaid (turns : List Utterance) (bytes : List ℕ) : Type 0 where
   pub packet : Packet
   pub formed : IsWellFormed packet
   pub widths : HasWidths packet
@@ -101,7 +101,7 @@ pub record IsHeardPart (half : List ℕ) (part : Fragment) : Type 0 where
   pub start : part.start ≡ is_empty half
   pub most : length half + length part.bytes ≤ 256
 
-pub record IsHeard (turns : List Turn) (bytes : List ℕ) : Type 0 where
+pub record IsHeard (turns : List Utterance) (bytes : List ℕ) : Type 0 where
   pub whole : length bytes ≡ 64
   pub sound : first_fault bytes ≡ None
   pub number : is_numbered bytes ≡ true → seqid_at bytes ≡ counts_next (count_heard turns)
@@ -112,17 +112,17 @@ WireHeardAt l (Took e packet opens) = IsHeard (transcript_of e l) packet
 WireHeardAt l _ = ⊤
 
 -- THE GAP: the packet has a number, which is another than the next
-pub record IsGap (turns : List Turn) (expected found : ℕ) (packet : List ℕ) : Type 0 where
+pub record IsGap (turns : List Utterance) (expected found : ℕ) (packet : List ℕ) : Type 0 where
   pub has_number : is_numbered packet ≡ true
   pub next : expected ≡ counts_next (count_heard turns)
   pub is : found ≡ seqid_at packet
   pub other : expected ≢ found
 
-abbrev pub GapCarries : List Turn → ℕ → ℕ → Option (List ℕ) → Type 0
+abbrev pub GapCarries : List Utterance → ℕ → ℕ → Option (List ℕ) → Type 0
 GapCarries turns expected found None = ⊥
 GapCarries turns expected found (Some packet) = IsGap turns expected found packet
 
-abbrev pub GapOf : List Turn → Cause → Option (List ℕ) → Type 0
+abbrev pub GapOf : List Utterance → Cause → Option (List ℕ) → Type 0
 GapOf turns (the_cause.Gap expected found) packet = GapCarries turns expected found packet
 GapOf turns _ packet = ⊤
 

@@ -87,7 +87,7 @@ pub record ClientCompletes (s : ClientState) (at : Seen) (memory : List ℕ) (id
 abbrev pub ClientFails : ClientRule → ClientState → List ℕ → Cause → Option (List ℕ) → Type 0
 ClientFails (Takes bytes) s memory cause packet = (packet ≡ Some bytes) × ClientTakes s bytes (Resets cause)
 ClientFails (Completes session) s memory cause packet =
-    (packet ≡ None) × ((completed_descriptor s session memory).state ≢ 4)
+    (packet ≡ None) × ((completed_descriptor s session memory).state ≢ done_state)
     × (cause ≡ the_cause.NotDone (completed_slot s session) (completed_descriptor s session memory).state)
 ClientFails _ s memory cause packet = ⊥
 

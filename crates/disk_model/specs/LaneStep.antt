@@ -123,12 +123,12 @@ WorkStep s (Finished slot status) t = (gave : List ℕ) × ServerWorks s gave (F
 WorkStep s Misplaced t = ⊥
 
 -- STOPS: the server's values are made new and its end is closed, which empties the queues; a stopped server makes no step
-abbrev pub TurnStep : LaneState → Switched → LaneState → Type 0
-TurnStep s Stopped t =
+abbrev pub SwitchedStep : LaneState → Switched → LaneState → Type 0
+SwitchedStep s Stopped t =
     (s.stopped ≡ false)
     × (t ≡ record s { wire = server_closed s.wire; server = restarted_server s.server; stopped = true; near = near_disturbed s.client })
-TurnStep s Started t = (s.stopped ≡ true) × (t ≡ record s { stopped = false })
-TurnStep s Off t = (s.stopped ≡ true) × (t ≡ s)
+SwitchedStep s Started t = (s.stopped ≡ true) × (t ≡ record s { stopped = false })
+SwitchedStep s Off t = (s.stopped ≡ true) × (t ≡ s)
 
 -- CALLS that change nothing, each exactly where it is said
 abbrev pub CalmStep : LaneState → Calm → LaneState → Type 0
@@ -143,5 +143,5 @@ abbrev pub LaneStep : LaneState → DiskEvent → LaneState → Type 0
 LaneStep s (OnWire event) t = WireStep s event t
 LaneStep s (Asks event) t = ClientAdmits s.client event t.client × (t ≡ record s { client = t.client })
 LaneStep s (Works event) t = WorkStep s event t
-LaneStep s (Switches event) t = TurnStep s event t
+LaneStep s (Switches event) t = SwitchedStep s event t
 LaneStep s (Calms event) t = CalmStep s event t

@@ -33,15 +33,15 @@ abbrev pub StoreDid : LaneState → DiskEvent → List ℕ → Option (List ℕ)
 StoreDid s (Works (Stored operation block count failed)) gave told new = StoreDoes s.server.work s.server block failed gave told new
 StoreDid s _ gave told new = new ≡ told
 
-abbrev pub ServerTurn : LaneState → Switched → LaneState → Type 0
-ServerTurn s Off t = (s.stopped ≡ true) × (t ≡ s)
-ServerTurn s _ t = ⊥
+abbrev pub ServerSwitched : LaneState → Switched → LaneState → Type 0
+ServerSwitched s Off t = (s.stopped ≡ true) × (t ≡ s)
+ServerSwitched s _ t = ⊥
 
 -- a step of the server, or that it is off, with what the store gave
 abbrev pub ServedStep : LaneState → List ℕ → DiskEvent → LaneState → Type 0
 ServedStep s gave (OnWire event) t = ServerOnWire s gave event t
 ServedStep s gave (Works event) t = ServerWorks s gave event t
-ServedStep s gave (Switches event) t = ServerTurn s event t
+ServedStep s gave (Switches event) t = ServerSwitched s event t
 ServedStep s gave _ t = ⊥
 
 pub record Served (s : LaneState) (told : Option (List ℕ)) (event : DiskEvent) (t : LaneState) (new : Option (List ℕ)) : Type 0 where

@@ -34,19 +34,19 @@ pub disks_settle : (w : DomainState) (part : List SettleEntry) (v : DomainState)
 disks_settle w part v none settle = first_part disks switch (IsNone ports port_entries) (list_none ports port_entries) (lanes_in w) part (lanes_in v) none settle
 
 -- THE PLAIN LIST beside a world without a port
-record Rests (shape : Shape) (p : Plain) (w : DomainState) : Type 0 where
+record PlainBeside (shape : Shape) (p : Plain) (w : DomainState) : Type 0 where
   at : RestsAt shape p w.first
   none : w.second ≡ []
 
 record LineIsPlain (shape : Shape) (p : Plain) (line : Line) (part : List SettleEntry) (v : DomainState) : Type 0 where
   shows : shown part ≡ plain_shows shape p line
-  rests : Rests shape (plain_line shape p line) v
+  rests : PlainBeside shape (plain_line shape p line) v
 
 -- A LINE that does nothing
-nothing_line : (shape : Shape) (p : Plain) (w : DomainState) (part : List SettleEntry) (v : DomainState) → Rests shape p w → LineMoves w Nothing part v → LineIsPlain shape p Nothing part v
+nothing_line : (shape : Shape) (p : Plain) (w : DomainState) (part : List SettleEntry) (v : DomainState) → PlainBeside shape p w → LineMoves w Nothing part v → LineIsPlain shape p Nothing part v
 nothing_line shape p w part v rests moves =
     let same : w ≡ v = subst (λ (xs : List SettleEntry). Run DomainStep w xs v) moves.part_of moves.run in
-    record { shows = ap shown moves.part_of; rests = subst (Rests shape p) same rests }
+    record { shows = ap shown moves.part_of; rests = subst (PlainBeside shape p) same rests }
 
 -- ONE THAT ASKS: each answer leaves the image
 record AnsweredOver (shape : Shape) (p : Plain) (request : Request) (event : DiskEvent) (t : LaneState) (i j : ImageState) : Type 0 where
@@ -72,7 +72,7 @@ each_answer shape p s request _ t i j front stands answers moves = absurd answer
 one_entry : (w : WorldState) (event : DiskEvent) (v : WorldState) → Run WorldStep w (OfLane 0 event ∷ []) v → OneMoves w 0 event v
 one_entry w event v run = subst (OneMoves w 0 event) run.2 run.1
 
-asked_line : (shape : Shape) (p : Plain) (w : DomainState) (request : Request) (part : List SettleEntry) (v : DomainState) → IsFirstShape shape → Rests shape p w
+asked_line : (shape : Shape) (p : Plain) (w : DomainState) (request : Request) (part : List SettleEntry) (v : DomainState) → IsFirstShape shape → PlainBeside shape p w
     → LineMoves w (Asked 0 request) part v → LineIsPlain shape p (Asked 0 request) part v
 asked_line shape p w request part v front rests moves =
     let entry = moves.part_of in
@@ -85,13 +85,13 @@ asked_line shape p w request part v front rests moves =
     record { shows = ap shown entry.is ∙ plain.shows; rests = record { at = plain.rests; none = still_none w part v rests.none moves.run } }
 
 -- EACH QUIET LINE
-settles_line : (shape : Shape) (p : Plain) (w : DomainState) (part : List SettleEntry) (v : DomainState) → IsFirstShape shape → Rests shape p w → LineMoves w Settles part v
+settles_line : (shape : Shape) (p : Plain) (w : DomainState) (part : List SettleEntry) (v : DomainState) → IsFirstShape shape → PlainBeside shape p w → LineMoves w Settles part v
     → v.first.image.faults ≡ 0 → LineIsPlain shape p Settles part v
 settles_line shape p w part v front rests moves well =
     let plain = settle_plain shape p w.first part v.first front rests.at (disks_settle w part v rests.none moves.part_of) (disks_run w part v moves.run) well in
     record { shows = plain.shows; rests = record { at = plain.rests; none = still_none w part v rests.none moves.run } }
 
-quiet_line : (shape : Shape) (p : Plain) (w : DomainState) (line : Line) (part : List SettleEntry) (v : DomainState) → IsFirstShape shape → Rests shape p w → IsQuiet line
+quiet_line : (shape : Shape) (p : Plain) (w : DomainState) (line : Line) (part : List SettleEntry) (v : DomainState) → IsFirstShape shape → PlainBeside shape p w → IsQuiet line
     → LineMoves w line part v → v.first.image.faults ≡ 0 → LineIsPlain shape p line part v
 quiet_line shape p w Nothing part v front rests quiet moves well = nothing_line shape p w part v rests moves
 quiet_line shape p w (Asked k request) part v front rests quiet moves well =
@@ -103,7 +103,7 @@ quiet_line shape p w _ part v front rests quiet moves well = absurd quiet
 -- LINES one after another
 record LinesArePlain (shape : Shape) (p : Plain) (lines : List (Line × List SettleEntry)) (v : DomainState) : Type 0 where
   shows : shown_of lines ≡ plain_journal shape p (lines_of lines)
-  rests : Rests shape (plain_run shape p (lines_of lines)) v
+  rests : PlainBeside shape (plain_run shape p (lines_of lines)) v
 
 joined : (one two three four : List SettleEntry) → one ≡ two → three ≡ four → one ++ three ≡ two ++ four
 joined one two three four first second = ap (λ (xs : List SettleEntry). xs ++ three) first ∙ ap (λ (xs : List SettleEntry). two ++ xs) second
@@ -113,9 +113,9 @@ pub lines_before : (w : DomainState) (lines : List (Line × List SettleEntry)) (
 lines_before w [] v run none = ap (λ (x : DomainState). x.first.image.faults) run ∙ none
 lines_before w (line ∷ lines) v run none = part_before w.first line.1 run.0.first (disks_run w line.1 run.0 run.1.run) (lines_before run.0 lines v run.2 none)
 
-lines_plain : (shape : Shape) (p : Plain) (w : DomainState) (lines : List (Line × List SettleEntry)) (v : DomainState) → IsFirstShape shape → Rests shape p w → AreQuiet (lines_of lines)
+lines_plain : (shape : Shape) (p : Plain) (w : DomainState) (lines : List (Line × List SettleEntry)) (v : DomainState) → IsFirstShape shape → PlainBeside shape p w → AreQuiet (lines_of lines)
     → Run LineStep w lines v → v.first.image.faults ≡ 0 → LinesArePlain shape p lines v
-lines_plain shape p w [] v front rests quiet run well = record { shows = refl; rests = subst (Rests shape p) run rests }
+lines_plain shape p w [] v front rests quiet run well = record { shows = refl; rests = subst (PlainBeside shape p) run rests }
 lines_plain shape p w (line ∷ lines) v front rests quiet run well =
     let still : run.0.first.image.faults ≡ 0 = lines_before run.0 lines v run.2 well in
     let first : LineIsPlain shape p line.0 line.1 run.0 = quiet_line shape p w line.0 line.1 run.0 front rests quiet.0 run.1 still in

@@ -13,7 +13,7 @@ use Rattle.port_model.specs.NetEvent.{Asked, Gives, NetEvent, Steps}
 use Rattle.port_model.specs.NetLaneState.{NetShape}
 use Rattle.port_model.specs.PortLog.{PortLog, after, after_answer, log_of_end, no_events}
 use Rattle.port_model.specs.PortState.{OnLane, PortEvent, PortState, Receives}
-use Rattle.ldc_queue.specs.Transcript.{Turn}
+use Rattle.ldc_queue.specs.Transcript.{Utterance}
 use Rattle.runs.specs.Lawful.{log_of}
 use Rattle.runs.specs.Run.{Run}
 use Rattle.lane_kinds.proofs.Places.{get_within}
@@ -37,7 +37,7 @@ gave e _ = []
 nothing_more : (given : List (List ℕ)) → given ≡ given ++ []
 nothing_more given = sym (append-nil given)
 
-answer_same : (slots : ℕ) (turns : List Turn) (answer : NetAnswer) (l : EndLog) → (after_answer slots turns answer l).given ≡ l.given ++ []
+answer_same : (slots : ℕ) (turns : List Utterance) (answer : NetAnswer) (l : EndLog) → (after_answer slots turns answer l).given ≡ l.given ++ []
 answer_same slots turns (Took packet true) l = nothing_more l.given
 answer_same slots turns (Took packet false) l = nothing_more l.given
 answer_same slots turns (Sent packet true) l = nothing_more l.given

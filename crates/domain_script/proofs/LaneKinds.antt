@@ -1,6 +1,6 @@
 -- The kinds of lanes: what holds of disks, of ports, and of kinds of which a script declares nothing, holds of all. What
 -- holds of all lanes of disks holds of each lane that is a disk's.
-use Rattle.std.proofs.Common.{◌≡◌, ◌≢◌, ℕ, ◌==◌, Bool, true, false, List, [], Option, Some, None, ◌⊎◌, inl, inr, refl, sym, ap, subst, arith}
+use Rattle.std.proofs.Common.{◌≡◌, ◌≢◌, ℕ, ◌==◌, Bool, true, false, List, [], map, Option, Some, None, ◌⊎◌, inl, inr, refl, sym, ap, subst, arith}
 use Rattle.std.specs.Prelude.{IsSomeAnd, if◌then◌else◌}
 use Rattle.std.proofs.lemmas.Bool.{eq-eqb, eqb-true, false_from_ne_true}
 use Rattle.script_words.specs.declared.spelled.Name.{Name}
@@ -23,8 +23,13 @@ by_kinds P disk port other kind =
       | inr (inr neither) ↦ other kind neither.0 neither.1
     ]
 
+-- OF A KIND that is neither a script declares nothing, and so it has no names. Names::count and Names::name go by it.
+pub none_among : (kind : LaneKind) (all : Declared) → kind ≢ lanes.Disk → kind ≢ lanes.Port → (declared_as kind).among all ≡ []
+none_among lanes.Disk all disk port = absurd (disk refl)
+none_among _ all disk port = grind arith
+
 pub no_names : (kind : LaneKind) (all : Declared) → kind ≢ lanes.Disk → kind ≢ lanes.Port → names_of_kind kind all ≡ []
-no_names kind all disk port = grind arith
+no_names kind all disk port = ap (λ (l : List (declared_as kind).Decl). map (declared_as kind).name l) (none_among kind all disk port)
 
 -- no two kinds have one place
 same_place : (kind other : LaneKind) → (declared_as kind).place ≡ (declared_as other).place → kind ≡ other

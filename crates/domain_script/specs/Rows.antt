@@ -43,8 +43,8 @@ row_of row.Poke = record { word = codes "poke"; fields = End ends.WithMemory ∷
 
 abbrev pub rows : List RowKind
 rows =
-    row.Disk ∷ row.Net ∷ row.Write ∷ row.Read ∷ row.Flush ∷ row.Send ∷ row.Join ∷ row.Step ∷ row.Round ∷ row.Settle ∷ row.Reset ∷ row.Restart ∷ row.Stop
-    ∷ row.Start ∷ row.Lose ∷ row.Tick ∷ row.Inject ∷ row.Poke ∷ []
+    row.Write ∷ row.Read ∷ row.Settle ∷ row.Send ∷ row.Flush ∷ row.Step ∷ row.Round ∷ row.Tick ∷ row.Poke ∷ row.Inject ∷ row.Reset ∷ row.Lose ∷ row.Restart
+    ∷ row.Stop ∷ row.Start ∷ row.Join ∷ row.Disk ∷ row.Net ∷ []
 
 -- the row that a word begins
 abbrev pub row_among : List ℕ → List RowKind → Option RowKind

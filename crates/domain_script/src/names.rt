@@ -105,6 +105,7 @@ impl Names {
     }
 
     /// The name of a lane. None exactly where the lane isn't declared.
+    #[tactic(auto, using(crate::proofs::LaneKinds::none_among))]
     pub fn name(&self, lane: Lane) -> Option<Name>
         ensures name { result ≡ lane_name self.now lane }
         ensures few { count_of lane.kind self.now ≤ most_of_a_kind }
@@ -137,6 +138,7 @@ impl Names {
     }
 
     /// How many lanes of this kind are declared.
+    #[tactic(auto, using(crate::proofs::LaneKinds::none_among))]
     fn count(&self, kind: LaneKind) -> u32
         ensures count { result ≡ count_of kind self.now }
         ensures few { result ≤ most_of_a_kind }

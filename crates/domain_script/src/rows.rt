@@ -70,26 +70,26 @@ pub enum RowKind {
     Poke,
 }
 
-/// All of them.
+/// All of them, in the order in which a word is looked for: those of which scripts have many come first.
 const ROWS: [RowKind; 18] = [
-    RowKind::Disk,
-    RowKind::Net,
     RowKind::Write,
     RowKind::Read,
-    RowKind::Flush,
+    RowKind::Settle,
     RowKind::Send,
-    RowKind::Join,
+    RowKind::Flush,
     RowKind::Step,
     RowKind::Round,
-    RowKind::Settle,
+    RowKind::Tick,
+    RowKind::Poke,
+    RowKind::Inject,
     RowKind::Reset,
+    RowKind::Lose,
     RowKind::Restart,
     RowKind::Stop,
     RowKind::Start,
-    RowKind::Lose,
-    RowKind::Tick,
-    RowKind::Inject,
-    RowKind::Poke,
+    RowKind::Join,
+    RowKind::Disk,
+    RowKind::Net,
 ];
 
 /// The name of a declared disk.

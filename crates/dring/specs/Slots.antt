@@ -13,6 +13,10 @@ free_state = 1
 abbrev pub ready_state : ℕ
 ready_state = 2
 
+-- taken up by the other end, and not done yet
+abbrev pub accepted_state : ℕ
+accepted_state = 3
+
 abbrev pub done_state : ℕ
 done_state = 4
 

@@ -18,7 +18,7 @@ pub fn one_slot_at_a_time()
 
 /// Numbers within one turn of a ring have slots of their own, and the slots of numbers within one turn
 /// stay where another's slot is changed.
-pub fn one_turn_of_a_ring()
+pub fn one_lap_of_a_ring()
     ensures apart { (n a b : ℕ) → a ≤ b → b < a + n → a % n ≡ b % n → a ≡ b }
     ensures stays { (size n d k lo hi j : ℕ) (memory new : List ℕ)
         → OneSlot size n (k % n) memory new → d ≤ lo → hi ≤ d + n → d ≤ k → k < d + n → (k < lo) ⊎ (hi ≤ k)

@@ -9,6 +9,6 @@ mod laws;
 mod peer;
 mod ring;
 
-pub use laws::{one_slot_at_a_time, one_turn_of_a_ring};
+pub use laws::{one_lap_of_a_ring, one_slot_at_a_time};
 pub use peer::{PeerRing, RingFault, fetch, mark, put_word, range_length, slot_of};
 pub use ring::{Ring, VIO_DESC_ACCEPTED, VIO_DESC_DONE, VIO_DESC_FREE, VIO_DESC_READY};

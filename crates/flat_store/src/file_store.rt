@@ -1,5 +1,5 @@
-ghost use Rattle.std.specs.Prelude.{◌≡◌, ◌≢◌, ◌≤◌, None, length, OnErr, OnOk, is_err};
-ghost use Rattle.vio_io.specs.Causes.{Rose, next_count, FaultsAfter};
+ghost use Rattle.std.specs.Prelude.{◌≡◌, ◌≢◌, None, length, IsErr, OnErr, OnOk, is_err};
+ghost use Rattle.vio_io.specs.Causes.{next_count, Fails, FaultsAfter};
 ghost use Rattle.vio_io.specs.Stores.{IsUnitRange, KeepsOutside, ReadsRange, WritesRange};
 ghost use Rattle.flat_store.specs.Files.{Lacked, MovedOnce, SyncedOnce};
 
@@ -118,10 +118,7 @@ impl<F: ImageFile> Store for FileStore<F> {
 // Counts the fault of a call that failed.
 fn count_fault(done: Result<(), Failed>, faults: &mut u64) -> Result<(), Failed>
     ensures same { result ≡ done }
-    ensures ok { OnOk result (faults.new ≡ faults.old) }
-    ensures err { OnErr result (faults.new ≡ next_count faults.old) }
-    ensures count { faults.old ≤ faults.new }
-    ensures cause { OnErr result (Rose faults.old faults.new) }
+    ensures faults { Fails (IsErr result) faults.old faults.new }
 {
     if done.is_err() {
         *faults = faults.saturating_add(1);

@@ -1,5 +1,5 @@
-ghost use Rattle.std.specs.Prelude.{◌≡◌, ◌≤◌, ◌↔◌, Some, IfOk, OnErr, OnOk, IsTrue, string_bytes, refl};
-ghost use Rattle.vio_io.specs.Causes.{Rose, next_count, Fails};
+ghost use Rattle.std.specs.Prelude.{◌≡◌, ◌↔◌, Some, IfOk, OnErr, OnOk, IsTrue, string_bytes, refl, ⊤};
+ghost use Rattle.vio_io.specs.Causes.{Fails, next_count};
 ghost use Rattle.vio_io.specs.Given.{next_given};
 ghost use Rattle.flat_store.specs.Hosts.{one_image};
 ghost use Rattle.flat_store.specs.ListHostState.{ListHostState, after_giving, after_none, disk_plan, refuses};
@@ -73,8 +73,7 @@ impl ListHost {
     fn fail(&mut self) -> AttachFault
         ensures fault { result ≡ AttachFault.Failed }
         ensures state { self.new ≡ record self.old { faults = next_count self.old.faults } }
-        ensures count { self.old.faults ≤ self.new.faults }
-        ensures cause { Rose self.old.faults self.new.faults }
+        ensures faults { Fails ⊤ self.old.faults self.new.faults }
     {
         self.faults = self.faults.saturating_add(1);
         AttachFault::Failed

@@ -99,12 +99,15 @@ impl Bytes {
         self.room -= bytes.len();
     }
 
-    /// Takes the bytes out, into memory that they just fill: the room is there for the next ones. Where there is no such
-    /// memory they keep that of the room.
+    /// Takes the bytes out, into memory that they just fill: the room is there for the next ones. Where they fill the
+    /// room itself, or there is no such memory, they keep that of the room.
     pub fn take_out(&mut self, alloc: Global) -> Self
         ensures items { result.items ≡ self.old.items }
         ensures empty { self.new.items ≡ [] }
     {
+        if self.kept.len() == self.kept.capacity() {
+            return mem::replace(self, Self::empty(alloc));
+        }
         match self.copy(alloc) {
             Ok(copy) => {
                 self.clear();

@@ -159,13 +159,13 @@ by_loss false false n joined none waits = absurd (cc joined)
 nothing_held : (a b c : ℕ) → a ≡ 0 → b ≡ 0 → c ≡ 0 → a + b + c ≡ 0
 nothing_held a b c one two three = omega (arith, one, two, three)
 
-record Rests (s : Port) : Type 0 where
+record IsEmptied (s : Port) : Type 0 where
   up : s.up ≡ true
   held : s.to_switch + s.out + s.to_guest ≡ 0
 
-rests : (s : Port) (one two : PortEvent) (m t : Port) → WayHasRoom s → IsGuest one → IsSwitch two → port_calm one ≡ true → port_calm two ≡ true → PortStep s one m → PortStep m two t → Rests t
+rests : (s : Port) (one two : PortEvent) (m t : Port) → WayHasRoom s → IsGuest one → IsSwitch two → port_calm one ≡ true → port_calm two ≡ true → PortStep s one m → PortStep m two t → IsEmptied t
 rests s GuestIdle SwitchIdle m t at guest switch one two first second =
-    subst Rests (sym second.2) (record {
+    subst IsEmptied (sym second.2) (record {
       up = ap (λ (x : Port). x.up) first.2 ∙ first.0;
       held = nothing_held m.to_switch m.out m.to_guest second.0 second.1 (ap (λ (x : Port). x.to_guest) first.2 ∙ first.1);
     })
@@ -178,7 +178,7 @@ rests s Taken next m t at guest switch one two first second = absurd (cc one)
 rests s GuestIdle next m t at guest switch one two first second = absurd switch
 rests s _ next m t at guest switch one two first second = absurd guest
 
-turn_rests : (s : Port) (events : List PortEvent) (t : Port) → WayHasRoom s → CalmTurn ports s events t → Rests t
+turn_rests : (s : Port) (events : List PortEvent) (t : Port) → WayHasRoom s → CalmTurn ports s events t → IsEmptied t
 turn_rests s (one ∷ two ∷ []) t at turn =
     let calm = turn.calm in
     rests s one two turn.run.0 t at turn.of_turn.0 turn.of_turn.1 (and_left (port_calm one) (all_calm ports (two ∷ [])) calm)
@@ -190,7 +190,7 @@ turn_rests s (one ∷ two ∷ three ∷ events) t at turn = absurd turn.of_turn
 
 tick_falls : (s : Port) (events : List PortEvent) (t u : Port) → IsClean s → CalmTurn ports s events t → port_waits t ≡ true → PortStep t Tick u → port_remaining u < port_remaining t
 tick_falls s events t u at turn waits step =
-    let still : Rests t = turn_rests s events t at.room turn in
+    let still : IsEmptied t = turn_rests s events t at.room turn in
     subst (λ (x : Port). port_remaining x < port_remaining t) (sym step)
     (ticks t.lossy t.up t.to_switch t.out t.to_guest (by_loss t.lossy t.up (t.to_switch + t.out + t.to_guest) still.up still.held waits))
 
@@ -207,7 +207,7 @@ run_lossless s (event ∷ events) t steps run whole = run_lossless run.0 events 
 
 finishes : (s : Port) (events : List PortEvent) (t : Port) → WayHasRoom s → IsLossless s → CalmTurn ports s events t → port_waits t ≡ false
 finishes s events t at whole turn =
-    let still : Rests t = turn_rests s events t at turn in
+    let still : IsEmptied t = turn_rests s events t at turn in
     not_waiting t.lossy t.up (t.to_switch + t.out + t.to_guest) (run_lossless s events t (turn_steps events turn.of_turn) turn.run whole) still.up still.held
 
 -- PORTS ARE A KIND

@@ -1,7 +1,7 @@
 -- What writes to a client's memory do after its ring.
 use Rattle.std.proofs.Common.{◌≡◌, ℕ, ◌+◌, ◌-◌, ◌*◌, ◌<◌, ◌≤◌, List, [], ◌∷◌, drop, take, length, refl, sym, ap, ◌∙◌, arith, length-drop, inr, None}
 use Rattle.std.proofs.lemmas.List.{drop-drop, take_all}
-use Rattle.dring.proofs.Turning.{length-free_slots, slot_fits}
+use Rattle.dring.proofs.Laps.{length-free_slots, slot_fits}
 use Rattle.dring.specs.Slots.{free_slots, free_state}
 use Rattle.vdisk_msg.proofs.Repeated.{length-repeated}
 use Rattle.vdisk_msg.specs.declared.request.Request.{Request}

@@ -13,7 +13,7 @@ use Rattle.lane_laws.specs.WorkLog.{ServerCounts}
 use Rattle.disk_model.specs.ClientState.{ClientSession, ClientState, opened_session}
 use Rattle.disk_model.specs.DiskEvent.{Accepted, Admitted, Asks, Calm, DiskEvent, Full, Off, OnWire, Refused, Calms, Started, Stopped, Switched, Switches}
 use Rattle.disk_model.specs.LaneState.{LaneState, NearCounts}
-use Rattle.disk_model.specs.LaneStep.{LaneStep, CalmStep, TurnStep, WireStep}
+use Rattle.disk_model.specs.LaneStep.{LaneStep, CalmStep, SwitchedStep, WireStep}
 use Rattle.channel_model.specs.Seeing.{seen}
 use Rattle.disk_model.specs.ServerState.{Work}
 use Rattle.lane_laws.proofs.RingWire.{published_of, sent_clears, wire_same}
@@ -143,7 +143,7 @@ asks_changes s (Accepted id request) t step =
     }
 
 -- TURNS, and calm calls
-pub turn_changes : (s : LaneState) (l : DiskLog) (event : Switched) (t : LaneState) → Before s l → ContentsStand (view_of s) → TurnStep s event t → Changed s (Switches event) t
+pub turn_changes : (s : LaneState) (l : DiskLog) (event : Switched) (t : LaneState) → Before s l → ContentsStand (view_of s) → SwitchedStep s event t → Changed s (Switches event) t
 turn_changes s l Stopped t before contents step =
     disturbed s l (Switches Stopped) t before contents (λ content. refl) (ap (λ (x : LaneState). x.client.pending) step.1) (ap (λ (x : LaneState). x.client.slots) step.1) (ap (λ (x : LaneState). x.memory) step.1)
     (ap (λ (x : LaneState). work_while x.wire.wire.end_b x.server.work) step.1) (ap (λ (x : LaneState). x.near) step.1)

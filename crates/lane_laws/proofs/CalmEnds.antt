@@ -38,7 +38,7 @@ use Rattle.channel_laws.specs.LinkPlaces.{live_phase, phase_at}
 use Rattle.lane_laws.proofs.LaneChannel.{answers_of, asks_of, lane_links, lane_meets}
 use Rattle.lane_laws.specs.ChannelEnds.{server_core}
 use Rattle.channel_laws.proofs.HandshakePlaces.{deal, open_place}
-use Rattle.channel_laws.proofs.WhoseTurn.{never_both}
+use Rattle.channel_laws.proofs.WhoOwes.{never_both}
 use Rattle.vio_handshake.proofs.Places.{AllSaid}
 use Rattle.channel_laws.proofs.ManyWait.{many_wait}
 use Rattle.lane_laws.proofs.NeverBoth.{client_owes, holds_urgent, server_owes}

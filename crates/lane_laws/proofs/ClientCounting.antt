@@ -2,7 +2,7 @@
 use Rattle.std.proofs.Common.{◌≡◌, ℕ, ◌+◌, inl, inr, Option, Some, None, List, [], ◌∷◌, ◌++◌, refl, sym, ap, ◌∙◌, subst, arith}
 use Rattle.std.specs.Prelude.{is_some, ⊤}
 use Rattle.ldc_packet.specs.Spelling.{subtype_code}
-use Rattle.ldc_queue.specs.Transcript.{Heard as Heard_, Turn}
+use Rattle.ldc_queue.specs.Transcript.{Heard as Heard_, Utterance}
 use Rattle.vio_tag.specs.Spelling.{canonical}
 use Rattle.vio_handshake.specs.declared.handshake.Handshake.{Handshake}
 use Rattle.vio_handshake.specs.declared.session.Session.{Session}
@@ -24,7 +24,7 @@ use Rattle.lane_laws.specs.Counted.{ClientCounted, acked_of, announced_of, infos
 use Rattle.lane_laws.specs.LaneRests.{ClientRests}
 
 -- IT BEGINS
-pub client_begins_counting : (shape : Shape) (c : ClientState) (turns : List Turn) (done : ℕ) (k : Option ClientCounts) → ClientCounted shape c turns done k
+pub client_begins_counting : (shape : Shape) (c : ClientState) (turns : List Utterance) (done : ℕ) (k : Option ClientCounts) → ClientCounted shape c turns done k
     → ClientCounted shape (joined_client c) [] done None
 client_begins_counting shape c turns done k counted = grind arith
 
@@ -41,23 +41,23 @@ same_acked None = tt
 same_acked (Some s) = (refl, refl, refl, refl, refl)
 
 -- what is heard after one more packet
-record HeardOf (shape : Shape) (c t : ClientState) (turns : List Turn) (packet : List ℕ) : Type 0 where
+record HeardOf (shape : Shape) (c t : ClientState) (turns : List Utterance) (packet : List ℕ) : Type 0 where
   same : SameButAcked c.session t.session
   acked : acked_of t.session ≡ range_sum shape.slots 2 (heard (Heard_ packet ∷ turns))
 
-hears_agrees : (shape : Shape) (c t : ClientState) (turns : List Turn) (packet : List ℕ) (done : ℕ) (k : Option ClientCounts) → ClientCounted shape c turns done k → HeardOf shape c t turns packet
+hears_agrees : (shape : Shape) (c t : ClientState) (turns : List Utterance) (packet : List ℕ) (done : ℕ) (k : Option ClientCounts) → ClientCounted shape c turns done k → HeardOf shape c t turns packet
     → ClientAgrees t.session done (change_client (λ (x : ClientCounts). record x { acked = x.acked + length_in shape.slots (range_ended 2 (half_heard turns) packet) }) k)
 hears_agrees shape c t turns packet done k counted heard_of = grind (arith, sum_heard)
 
-abbrev pub acks_more : Shape → List Turn → List ℕ → Option ClientCounts → Option ClientCounts
+abbrev pub acks_more : Shape → List Utterance → List ℕ → Option ClientCounts → Option ClientCounts
 acks_more shape turns packet k = change_client (λ (x : ClientCounts). record x { acked = x.acked + length_in shape.slots (range_ended 2 (half_heard turns) packet) }) k
 
-abbrev Behind : Shape → List Turn → List ℕ → ℕ → Option ClientCounts → ClientState → Type 0
+abbrev Behind : Shape → List Utterance → List ℕ → ℕ → Option ClientCounts → ClientState → Type 0
 Behind shape turns packet done k t =
     ClientCounted shape t (Heard_ packet ∷ turns) done (change_client (λ (x : ClientCounts). record x { acked = x.acked + length_in shape.slots (range_ended 2 (half_heard turns) packet) }) k)
 
 -- IT TAKES a packet: a part of a message
-takes_part : (shape : Shape) (c t : ClientState) (turns : List Turn) (packet : List ℕ) (done : ℕ) (k : Option ClientCounts) → ClientCounted shape c turns done k
+takes_part : (shape : Shape) (c t : ClientState) (turns : List Utterance) (packet : List ℕ) (done : ℕ) (k : Option ClientCounts) → ClientCounted shape c turns done k
     → ClientHearsPart c turns packet t → Behind shape turns packet done k t
 takes_part shape c t turns packet done k counted part =
     let acked : acked_of c.session ≡ range_sum shape.slots 2 (heard (Heard_ packet ∷ turns)) = counted.acked ∙ ap (range_sum shape.slots 2) (sym part.messages) in
@@ -71,7 +71,7 @@ takes_part shape c t turns packet done k counted part =
     })
 
 -- a message of the handshake
-takes_handshake : (shape : Shape) (c t : ClientState) (turns : List Turn) (packet : List ℕ) (done : ℕ) (k : Option ClientCounts) → ClientRests c turns → c.handshake.owed ≡ None
+takes_handshake : (shape : Shape) (c t : ClientState) (turns : List Utterance) (packet : List ℕ) (done : ℕ) (k : Option ClientCounts) → ClientRests c turns → c.handshake.owed ≡ None
     → ClientCounted shape c turns done k → ClientHandshakes c turns packet t → Behind shape turns packet done k t
 takes_handshake shape c t turns packet done k rests none counted handshakes =
     let bytes = handshakes.hears.bytes in
@@ -104,7 +104,7 @@ acked_session o session n is = subst (λ (x : Option ClientSession). SameButAcke
 acked_more : (acked before now more length n : ℕ) → acked ≡ before → now ≡ more → more ≡ before + length → length ≡ n → acked + n ≡ now
 acked_more acked before now more length n was is adds long = omega arith
 
-takes_ack : (shape : Shape) (c t : ClientState) (turns : List Turn) (packet : List ℕ) (done : ℕ) (k : Option ClientCounts) → ClientCounted shape c turns done k
+takes_ack : (shape : Shape) (c t : ClientState) (turns : List Utterance) (packet : List ℕ) (done : ℕ) (k : Option ClientCounts) → ClientCounted shape c turns done k
     → ClientAcked c turns packet t → Behind shape turns packet done k t
 takes_ack shape c t turns packet done k counted acks =
     let bytes = acks.hears.bytes in
@@ -130,7 +130,7 @@ takes_ack shape c t turns packet done k counted acks =
           (record { same = acked_session c.session session n acks.ack.session_is; acked = acked });
     })
 
-pub client_takes_counting : (shape : Shape) (c t : ClientState) (turns : List Turn) (packet : List ℕ) (done : ℕ) (k : Option ClientCounts) → ClientRests c turns → c.handshake.owed ≡ None
+pub client_takes_counting : (shape : Shape) (c t : ClientState) (turns : List Utterance) (packet : List ℕ) (done : ℕ) (k : Option ClientCounts) → ClientRests c turns → c.handshake.owed ≡ None
     → ClientCounted shape c turns done k → ClientTook c turns packet t → Behind shape turns packet done k t
 client_takes_counting shape c t turns packet done k rests none counted (inl part) = takes_part shape c t turns packet done k counted part
 client_takes_counting shape c t turns packet done k rests none counted (inr (inl handshakes)) = takes_handshake shape c t turns packet done k rests none counted handshakes

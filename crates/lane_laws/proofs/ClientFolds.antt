@@ -3,7 +3,7 @@ use Rattle.std.proofs.Common.{◌≡◌, ◌≤◌, Bool, true, false, length, L
 use Rattle.std.specs.Prelude.{is_some, ◌&&◌}
 use Rattle.std.proofs.lemmas.Bool.{and_parts}
 use Rattle.ldc_link.specs.declared.phase.Role.TheVariants.{Initiator}
-use Rattle.ldc_queue.specs.Transcript.{Turn}
+use Rattle.ldc_queue.specs.Transcript.{Utterance}
 use Rattle.disk_model.specs.ClientPutting.{is_announcing}
 use Rattle.disk_model.specs.ClientState.{ClientState}
 use Rattle.channel_laws.proofs.EndSending.{and_false, sends_some, some_holds, stuck_own}
@@ -16,7 +16,7 @@ use Rattle.lane_laws.specs.Sound.{ClientSound}
 abbrev pub Announcing : ClientState → Blockage → Type 0
 Announcing c b = is_announcing c.session ≡ (is_some c.session && is_stuck_with_own b c.handshake.owed)
 
-pub announces_so : (c : ClientState) (turns : List Turn) (b : Blockage) → ClientSound c → ClientRests c turns → EndSends (client_core c) b → Announcing c b
+pub announces_so : (c : ClientState) (turns : List Utterance) (b : Blockage) → ClientSound c → ClientRests c turns → EndSends (client_core c) b → Announcing c b
 announces_so c turns b sound rests sends = by_cases (is_announcing c.session) (is_some c.session && is_stuck_with_own b c.handshake.owed) refl refl
   where
     holding : 1 ≤ length c.link.to_send → Announcing c b
@@ -30,6 +30,6 @@ announces_so c turns b sound rests sends = by_cases (is_announcing c.session) (i
         holding (sends_some c.link (open_up Initiator (client_core c) turns rests.stands both.0) (sends.owing (stuck_own b c.handshake.owed both.1)))
 
 -- so it doesn't where it isn't stuck
-pub clear_quiet : (c : ClientState) (turns : List Turn) (b : Blockage) → ClientSound c → ClientRests c turns → EndSends (client_core c) b → b ≡ Clear → is_announcing c.session ≡ false
+pub clear_quiet : (c : ClientState) (turns : List Utterance) (b : Blockage) → ClientSound c → ClientRests c turns → EndSends (client_core c) b → b ≡ Clear → is_announcing c.session ≡ false
 clear_quiet c turns b sound rests sends clear =
     announces_so c turns b sound rests sends ∙ ap (λ (x : Blockage). is_some c.session && is_stuck_with_own x c.handshake.owed) clear ∙ and_false (is_some c.session)

@@ -11,7 +11,7 @@ use Rattle.ldc_packet.specs.declared.packet.Subtype.TheVariants.{Ack}
 use Rattle.ldc_queue.specs.declared.end.ChannelState.TheVariants.{Up}
 use Rattle.ldc_queue.specs.declared.end.End.TheVariants.{B}
 use Rattle.ldc_queue.specs.OneStream.{IsFront}
-use Rattle.ldc_queue.specs.Transcript.{Turn}
+use Rattle.ldc_queue.specs.Transcript.{Utterance}
 use Rattle.vio_tag.specs.declared.cause.Cause.{Cause}
 use Rattle.vio_tag.specs.declared.cause.Cause.TheVariants as the_cause
 use Rattle.vio_tag.specs.declared.message.Message.{Message}
@@ -88,12 +88,12 @@ goes_on s session n ident start end bytes take is fits spells hears =
     )
 
 -- WHAT IT MAY HEAR: as many slots as it announced
-pub answered_asked : (slots : ℕ) (o : Option ServerSession) (q : Option ServerCounts) (turns : List Turn) → ServerOrder slots o q turns
+pub answered_asked : (slots : ℕ) (o : Option ServerSession) (q : Option ServerCounts) (turns : List Utterance) → ServerOrder slots o q turns
     → range_sum slots 2 (said turns) ≤ range_sum slots 1 (heard turns)
 answered_asked slots o q turns order = grind arith
 
 -- the next answer of the server is one that the client takes
-ack_fits : (shape : Shape) (d : Deal) (c : ClientState) (session : ClientSession) (turns : List Turn) (bytes : List ℕ)
+ack_fits : (shape : Shape) (d : Deal) (c : ClientState) (session : ClientSession) (turns : List Utterance) (bytes : List ℕ)
     → (at : AtPlace false d Initiator c.handshake turns) → at.place ≡ AllSaid → c.session ≡ Some session → c.slots ≡ shape.slots → shape.slots ≤ 256
     → acked_of c.session ≡ range_sum shape.slots 2 (heard turns) → (is : IsData Responder shape.slots d.sid (range_count 2 (heard turns)) (range_sum shape.slots 2 (heard turns)) bytes)
     → range_sum shape.slots 2 (heard turns ++ bytes ∷ []) ≤ session.announced

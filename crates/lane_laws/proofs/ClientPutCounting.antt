@@ -5,7 +5,7 @@ use Rattle.std.proofs.lemmas.Nat.{mod_below}
 use Rattle.ldc_link.specs.LinkState.{is_up}
 use Rattle.ldc_link.specs.Putting.{behind_put}
 use Rattle.ldc_packet.specs.declared.packet.Subtype.TheVariants.{Info}
-use Rattle.ldc_queue.specs.Transcript.{Said, Turn}
+use Rattle.ldc_queue.specs.Transcript.{Said, Utterance}
 use Rattle.vio_tag.specs.Spelling.{canonical}
 use Rattle.vio_handshake.specs.declared.handshake.Handshake.{Handshake}
 use Rattle.channel_model.specs.Sayings.{half_said, said}
@@ -21,7 +21,7 @@ use Rattle.dring.specs.Slots.{range_length}
 use Rattle.channel_laws.proofs.Apart.{false_is_true, some_same}
 use Rattle.channel_laws.proofs.PutSayings.{SaysWhole, SaysOn}
 use Rattle.lane_laws.proofs.RangeSums.{count_more, count_said, sum_more, sum_said}
-use Rattle.lane_laws.proofs.RangeTurns.{range_turns}
+use Rattle.lane_laws.proofs.RangeLaps.{range_turns}
 use Rattle.lane_laws.proofs.RangesSaid.{said_one, said_range}
 use Rattle.lane_laws.proofs.Sharing.{in_order}
 use Rattle.lane_laws.specs.Counted.{ClientCounted, ClientHolds, acked_of, announced_of, infos_of, range_count, range_sum}
@@ -43,7 +43,7 @@ same_said (Some s) = (refl, refl, refl, refl)
 abbrev pub put_as : PutKind → ClientState → ClientState
 put_as kind c = record c { link = behind_put c.link; handshake = handshake_behind kind c.handshake; session = session_behind kind c }
 
-abbrev pub counts_as : Shape → Bool → List Turn → List ℕ → ℕ → ℕ → Option ClientCounts → Option ClientCounts
+abbrev pub counts_as : Shape → Bool → List Utterance → List ℕ → ℕ → ℕ → Option ClientCounts → Option ClientCounts
 counts_as shape opens turns packet sid done k = opened_client opens sid done
     (change_client (λ (x : ClientCounts). record x {
       announced = x.announced + length_in shape.slots (range_ended 1 (half_said turns) packet);
@@ -51,20 +51,20 @@ counts_as shape opens turns packet sid done k = opened_client opens sid done
     }) k)
 
 -- what is said after it
-pub record SaidOf (shape : Shape) (c : ClientState) (p : Option ClientSession) (turns : List Turn) (packet : List ℕ) : Type 0 where
+pub record SaidOf (shape : Shape) (c : ClientState) (p : Option ClientSession) (turns : List Utterance) (packet : List ℕ) : Type 0 where
   pub same : SameButSaid c.session p
   pub announced : announced_of p ≡ range_sum shape.slots 1 (said (Said packet ∷ turns))
   pub infos : infos_of p ≡ range_count 1 (said (Said packet ∷ turns))
 
-pub says_agrees : (shape : Shape) (c : ClientState) (p : Option ClientSession) (turns : List Turn) (packet : List ℕ) (sid done : ℕ) (k : Option ClientCounts) → ClientCounted shape c turns done k
+pub says_agrees : (shape : Shape) (c : ClientState) (p : Option ClientSession) (turns : List Utterance) (packet : List ℕ) (sid done : ℕ) (k : Option ClientCounts) → ClientCounted shape c turns done k
     → SaidOf shape c p turns packet → ClientAgrees p done (counts_as shape false turns packet sid done k)
 says_agrees shape c p turns packet sid done k counted says = grind (arith, sum_said, count_said)
 
 -- A PACKET THAT GOES ON
-on_holds : (c : ClientState) (turns : List Turn) (packet : List ℕ) → SaysOn c.link turns packet → ClientHolds c turns → ClientHolds (record c { link = behind_put c.link }) (Said packet ∷ turns)
+on_holds : (c : ClientState) (turns : List Utterance) (packet : List ℕ) → SaysOn c.link turns packet → ClientHolds c turns → ClientHolds (record c { link = behind_put c.link }) (Said packet ∷ turns)
 on_holds c turns packet on holds = λ session is now. on.whole ∙ holds session is now
 
-pub goes_counting : (shape : Shape) (c : ClientState) (turns : List Turn) (packet : List ℕ) (sid done : ℕ) (k : Option ClientCounts) → SaysOn c.link turns packet → ClientCounted shape c turns done k
+pub goes_counting : (shape : Shape) (c : ClientState) (turns : List Utterance) (packet : List ℕ) (sid done : ℕ) (k : Option ClientCounts) → SaysOn c.link turns packet → ClientCounted shape c turns done k
     → ClientCounted shape (put_as Goes c) (Said packet ∷ turns) done (counts_as shape false turns packet sid done k)
 goes_counting shape c turns packet sid done k on counted =
     let announced : announced_of c.session ≡ range_sum shape.slots 1 (said (Said packet ∷ turns)) = counted.announced ∙ ap (range_sum shape.slots 1) (sym on.messages) in
@@ -79,7 +79,7 @@ goes_counting shape c turns packet sid done k on counted =
     }
 
 -- WITH RDX its link comes up, and held nothing
-pub comes_counting : (shape : Shape) (c : ClientState) (turns : List Turn) (packet : List ℕ) (sid done : ℕ) (k : Option ClientCounts) → ClientRests c turns → ClientUtters c turns → is_up c.link ≡ false
+pub comes_counting : (shape : Shape) (c : ClientState) (turns : List Utterance) (packet : List ℕ) (sid done : ℕ) (k : Option ClientCounts) → ClientRests c turns → ClientUtters c turns → is_up c.link ≡ false
     → SaysOn c.link turns packet → ClientCounted shape c turns done k
     → ClientCounted shape (put_as ComesUp c) (Said packet ∷ turns) done (counts_as shape false turns packet sid done k)
 comes_counting shape c turns packet sid done k rests utters down on counted = grind arith
@@ -91,11 +91,11 @@ pub record OwnInfo (c : ClientState) (bytes : List ℕ) : Type 0 where
   pub announcing : session.announcing ≡ true
   pub bytes_are : bytes ≡ canonical (announcement c session)
 
-pub own_info : (c : ClientState) (turns : List Turn) (o : Option ClientSession) → c.session ≡ o → is_announcing o ≡ true → ClientHolds c turns → OwnInfo c (half_said turns ++ c.link.to_send)
+pub own_info : (c : ClientState) (turns : List Utterance) (o : Option ClientSession) → c.session ≡ o → is_announcing o ≡ true → ClientHolds c turns → OwnInfo c (half_said turns ++ c.link.to_send)
 own_info c turns None is own holds = absurd (cc)
 own_info c turns (Some session) is own holds = record { session = session; is = is; announcing = own; bytes_are = holds session is own }
 
-pub none_left : (c : ClientState) (turns : List Turn) (packet : List ℕ) (handshake : Handshake) (session : Option ClientSession) → SaysWhole c.link turns packet
+pub none_left : (c : ClientState) (turns : List Utterance) (packet : List ℕ) (handshake : Handshake) (session : Option ClientSession) → SaysWhole c.link turns packet
     → ((s : ClientSession) → session ≡ Some s → s.announcing ≡ true → ⊥)
     → ClientHolds (record c { link = behind_put c.link; handshake = handshake; session = session }) (Said packet ∷ turns)
 none_left c turns packet handshake session last never = λ s is now. absurd (never s is now)
@@ -107,7 +107,7 @@ announced_more announced published before now more long was some is adds length 
 infos_more : (infos before now more one : ℕ) → infos ≡ before → now ≡ more → more ≡ before + one → one ≡ 1 → infos + 1 ≡ now
 infos_more infos before now more one was is adds single = omega arith
 
-pub own_counting : (shape : Shape) (c : ClientState) (turns : List Turn) (packet : List ℕ) (sid done : ℕ) (k : Option ClientCounts) → ClientSound c → is_announcing c.session ≡ true
+pub own_counting : (shape : Shape) (c : ClientState) (turns : List Utterance) (packet : List ℕ) (sid done : ℕ) (k : Option ClientCounts) → ClientSound c → is_announcing c.session ≡ true
     → SaysWhole c.link turns packet → ClientCounted shape c turns done k
     → ClientCounted shape (put_as EndsOwn c) (Said packet ∷ turns) done (counts_as shape false turns packet sid done k)
 own_counting shape c turns packet sid done k sound own last counted =

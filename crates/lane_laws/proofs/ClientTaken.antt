@@ -4,7 +4,7 @@ use Rattle.std.proofs.Common.{◌≡◌, ℕ, Bool, true, false, Some, None, Lis
 use Rattle.std.specs.Prelude.{⊤}
 use Rattle.ldc_link.specs.Following.{Follows}
 use Rattle.ldc_link.specs.LinkState.{LinkState, cleared, is_up}
-use Rattle.ldc_queue.specs.Transcript.{Heard as Heard_, Turn}
+use Rattle.ldc_queue.specs.Transcript.{Heard as Heard_, Utterance}
 use Rattle.vio_tag.specs.declared.message.Message.{Message}
 use Rattle.vio_tag.specs.Form.{IsWellFormed}
 use Rattle.vio_tag.specs.Spelling.{SpellsMessage}
@@ -19,23 +19,23 @@ use Rattle.channel_laws.proofs.Apart.{none_is_some}
 use Rattle.channel_laws.proofs.EndStanding.{heard_leaves}
 use Rattle.channel_laws.proofs.EndCases.{HearsUp, link_hears}
 use Rattle.channel_laws.proofs.HandshakeCases.{HandshakeTook, goes_took, opens_took}
-use Rattle.channel_laws.proofs.TurnCases.{with_whole}
+use Rattle.channel_laws.proofs.UtteranceCases.{with_whole}
 
 -- a message is whole by the packet
-pub record HearsMessage (turns : List Turn) (packet : List ℕ) (message : Message) : Type 0 where
+pub record HearsMessage (turns : List Utterance) (packet : List ℕ) (message : Message) : Type 0 where
   pub bytes : List ℕ
   pub messages : heard (Heard_ packet ∷ turns) ≡ heard turns ++ bytes ∷ []
   pub form : IsWellFormed message
   pub spells : SpellsMessage bytes message
 
-pub record ClientHearsPart (s : ClientState) (turns : List Turn) (packet : List ℕ) (t : ClientState) : Type 0 where
+pub record ClientHearsPart (s : ClientState) (turns : List Utterance) (packet : List ℕ) (t : ClientState) : Type 0 where
   pub link : LinkState
   pub left : link.to_send ≡ s.link.to_send
   pub up : is_up s.link ≡ true → is_up link ≡ true
   pub messages : heard (Heard_ packet ∷ turns) ≡ heard turns
   pub is : t ≡ record s { link = link }
 
-pub record ClientHandshakes (s : ClientState) (turns : List Turn) (packet : List ℕ) (t : ClientState) : Type 0 where
+pub record ClientHandshakes (s : ClientState) (turns : List Utterance) (packet : List ℕ) (t : ClientState) : Type 0 where
   pub link : LinkState
   pub left : link.to_send ≡ s.link.to_send
   pub up : is_up s.link ≡ true
@@ -47,7 +47,7 @@ pub record ClientHandshakes (s : ClientState) (turns : List Turn) (packet : List
   pub took : HandshakeTook s.handshake message handshake opens
   pub is : t ≡ record s { link = link; handshake = handshake }
 
-pub record ClientAcked (s : ClientState) (turns : List Turn) (packet : List ℕ) (t : ClientState) : Type 0 where
+pub record ClientAcked (s : ClientState) (turns : List Utterance) (packet : List ℕ) (t : ClientState) : Type 0 where
   pub link : LinkState
   pub left : link.to_send ≡ s.link.to_send
   pub up : is_up s.link ≡ true
@@ -57,10 +57,10 @@ pub record ClientAcked (s : ClientState) (turns : List Turn) (packet : List ℕ)
   pub ack : Acks s message
   pub is : t ≡ acknowledged (record s { link = link }) ack.session (range_length s.slots ack.start ack.end)
 
-abbrev pub ClientTook : ClientState → List Turn → List ℕ → ClientState → Type 0
+abbrev pub ClientTook : ClientState → List Utterance → List ℕ → ClientState → Type 0
 ClientTook s turns packet t = ClientHearsPart s turns packet t ⊎ (ClientHandshakes s turns packet t ⊎ ClientAcked s turns packet t)
 
-abbrev TookOn : ClientState → List Turn → List ℕ → ClientTake → Type 0
+abbrev TookOn : ClientState → List Utterance → List ℕ → ClientTake → Type 0
 TookOn s turns packet (GoesOn t) = ClientTook s turns packet t
 TookOn s turns packet (Resets cause) = ⊤
 
@@ -74,7 +74,7 @@ pub was_up : (up : Bool) (whole : Option (List ℕ)) (bytes : List ℕ) → (up 
 was_up true whole bytes quiet is = refl
 was_up false whole bytes quiet is = none_is_some (sym (quiet refl) ∙ is)
 
-answers : (s : ClientState) (turns : List Turn) (packet : List ℕ) (k : LinkState) (message : Message) → k.to_send ≡ s.link.to_send → is_up s.link ≡ true → is_up k ≡ true
+answers : (s : ClientState) (turns : List Utterance) (packet : List ℕ) (k : LinkState) (message : Message) → k.to_send ≡ s.link.to_send → is_up s.link ≡ true → is_up k ≡ true
     → HearsMessage turns packet message → Answers s k message (TookOn s turns packet)
 answers s turns packet k message left up stays hears = record {
   goes = λ opens h to.
@@ -84,7 +84,7 @@ answers s turns packet k message left up stays hears = record {
   refuses = λ cause refuses. tt;
 }
 
-pub client_took_what : (s : ClientState) (turns : List Turn) (packet : List ℕ) (t : ClientState) → Follows s.link turns → s.link.whole ≡ None
+pub client_took_what : (s : ClientState) (turns : List Utterance) (packet : List ℕ) (t : ClientState) → Follows s.link turns → s.link.whole ≡ None
     → ClientTakes s packet (GoesOn t) → ClientTook s turns packet t
 client_took_what s turns packet t follows none takes =
     let by : GoesBy s packet t = goes_by s packet t takes in

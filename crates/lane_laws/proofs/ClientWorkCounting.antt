@@ -6,7 +6,7 @@ use Rattle.ldc_link.specs.declared.phase.Role.{Role}
 use Rattle.ldc_link.specs.declared.phase.Role.TheVariants.{Initiator}
 use Rattle.ldc_link.specs.LinkState.{is_up}
 use Rattle.ldc_link.specs.Putting.{behind_put, owes}
-use Rattle.ldc_queue.specs.Transcript.{Said, Turn}
+use Rattle.ldc_queue.specs.Transcript.{Said, Utterance}
 use Rattle.vio_tag.specs.declared.message.Message.{Message}
 use Rattle.vio_tag.specs.Spelling.{canonical}
 use Rattle.vio_handshake.specs.declared.handshake.Phase.{Phase}
@@ -55,7 +55,7 @@ record PutsOwed (c : ClientState) (bytes : List ℕ) : Type 0 where
   may : MayOwe c.handshake.phase message.subtype message.body
   none : range_in 1 (Some bytes) ≡ None
 
-puts_owed : (shape : Shape) (c : ClientState) (turns : List Turn) (packet : List ℕ) (done : ℕ) (k : Option ClientCounts) → ClientRests c turns → is_announcing c.session ≡ false → SaysWhole c.link turns packet
+puts_owed : (shape : Shape) (c : ClientState) (turns : List Utterance) (packet : List ℕ) (done : ℕ) (k : Option ClientCounts) → ClientRests c turns → is_announcing c.session ≡ false → SaysWhole c.link turns packet
     → ClientCounted shape c turns done k → PutsOwed c (half_said turns ++ c.link.to_send)
 puts_owed shape c turns packet done k rests own last counted =
     let holds = owed_held Initiator (client_core c) turns rests.stands own last.some in
@@ -67,17 +67,17 @@ puts_owed shape c turns packet done k rests own last counted =
       none = ap (λ (xs : List ℕ). range_in 1 (Some xs)) holds.is ∙ owed_no_range c.handshake.phase 1 holds.message (inl refl) may;
     }
 
-record SumsSame (shape : Shape) (turns : List Turn) (packet : List ℕ) : Type 0 where
+record SumsSame (shape : Shape) (turns : List Utterance) (packet : List ℕ) : Type 0 where
   ranges : range_sum shape.slots 1 (said (Said packet ∷ turns)) ≡ range_sum shape.slots 1 (said turns)
   infos : range_count 1 (said (Said packet ∷ turns)) ≡ range_count 1 (said turns)
 
-sums_same : (shape : Shape) (c : ClientState) (turns : List Turn) (packet : List ℕ) → SaysWhole c.link turns packet → PutsOwed c (half_said turns ++ c.link.to_send) → SumsSame shape turns packet
+sums_same : (shape : Shape) (c : ClientState) (turns : List Utterance) (packet : List ℕ) → SaysWhole c.link turns packet → PutsOwed c (half_said turns ++ c.link.to_send) → SumsSame shape turns packet
 sums_same shape c turns packet last owed = grind (arith, sum_more, count_more)
 
 pub none_more : (n : ℕ) → n ≡ n + 0
 none_more n = omega arith
 
-handshake_as : (opens : Bool) (shape : Shape) (c : ClientState) (turns : List Turn) (packet : List ℕ) (sid done : ℕ) (k : Option ClientCounts) → opens_by_put c.handshake.role c.handshake.phase ≡ opens
+handshake_as : (opens : Bool) (shape : Shape) (c : ClientState) (turns : List Utterance) (packet : List ℕ) (sid done : ℕ) (k : Option ClientCounts) → opens_by_put c.handshake.role c.handshake.phase ≡ opens
     → ClientRests c turns → first_id c ≡ done → is_announcing c.session ≡ false → SaysWhole c.link turns packet → ClientCounted shape c turns done k
     → ClientCounted shape (record c { link = behind_put c.link; handshake = handshake_sent c.handshake; session = opened_if opens c }) (Said packet ∷ turns) done (counts_as shape opens turns packet sid done k)
 handshake_as true shape c turns packet sid done k is rests first own last counted =
@@ -108,14 +108,14 @@ handshake_as false shape c turns packet sid done k is rests first own last count
       agrees = says_agrees shape c c.session turns packet sid done k counted (record { same = same_said c.session; announced = announced; infos = infos });
     }
 
-pub handshake_counting : (shape : Shape) (c : ClientState) (turns : List Turn) (packet : List ℕ) (sid done : ℕ) (k : Option ClientCounts) → ClientRests c turns → first_id c ≡ done
+pub handshake_counting : (shape : Shape) (c : ClientState) (turns : List Utterance) (packet : List ℕ) (sid done : ℕ) (k : Option ClientCounts) → ClientRests c turns → first_id c ≡ done
     → is_announcing c.session ≡ false → SaysWhole c.link turns packet → ClientCounted shape c turns done k
     → ClientCounted shape (put_as EndsHandshake c) (Said packet ∷ turns) done (counts_as shape (put_opens EndsHandshake c.handshake) turns packet sid done k)
 handshake_counting shape c turns packet sid done k rests first own last counted =
     handshake_as (opens_by_put c.handshake.role c.handshake.phase) shape c turns packet sid done k refl rests first own last counted
 
 -- IT HOLDS a message
-record Known (c : ClientState) (turns : List Turn) : Type 0 where
+record Known (c : ClientState) (turns : List Utterance) : Type 0 where
   sound : ClientSound c
   rests : ClientRests c turns
   utters : ClientUtters c turns
@@ -124,19 +124,19 @@ record Known (c : ClientState) (turns : List Turn) : Type 0 where
 no_own : (c : ClientState) (session : ClientSession) → ClientSound c → c.link.to_send ≡ [] → c.session ≡ Some session → session.announcing ≡ true → ⊥
 no_own c session sound empty is announces = absurd (omega (arith, sound.own (ap is_announcing is ∙ announces), ap length empty))
 
-says_counting : (shape : Shape) (c : ClientState) (turns : List Turn) (message : Message) (done : ℕ) (k : Option ClientCounts) → Known c turns → owes c.link ≡ false → c.handshake.owed ≡ Some message
+says_counting : (shape : Shape) (c : ClientState) (turns : List Utterance) (message : Message) (done : ℕ) (k : Option ClientCounts) → Known c turns → owes c.link ≡ false → c.handshake.owed ≡ Some message
     → ClientCounted shape c turns done k → ClientCounted shape (holding message c) turns done k
 says_counting shape c turns message done k known free owed counted = grind arith
 
-announces_counting : (shape : Shape) (c : ClientState) (turns : List Turn) (session : ClientSession) (done : ℕ) (k : Option ClientCounts) → Known c turns → owes c.link ≡ false
+announces_counting : (shape : Shape) (c : ClientState) (turns : List Utterance) (session : ClientSession) (done : ℕ) (k : Option ClientCounts) → Known c turns → owes c.link ≡ false
     → c.session ≡ Some session → ClientCounted shape c turns done k → ClientCounted shape (announcing session (holding (announcement c session) c)) turns done k
 announces_counting shape c turns session done k known free is counted = grind arith
 
-held_is : (shape : Shape) (one other : ClientState) (turns : List Turn) (done : ℕ) (k : Option ClientCounts) → Some one ≡ Some other → ClientCounted shape one turns done k
+held_is : (shape : Shape) (one other : ClientState) (turns : List Utterance) (done : ℕ) (k : Option ClientCounts) → Some one ≡ Some other → ClientCounted shape one turns done k
     → ClientCounted shape other turns done k
 held_is shape one other turns done k is counted = let same : one ≡ other = some_same is in subst (λ (x : ClientState). ClientCounted shape x turns done k) same counted
 
-pub client_holds_counting : (shape : Shape) (c : ClientState) (at : Seen) (rule : ClientRule) (held : ClientState) (turns : List Turn) (done : ℕ) (k : Option ClientCounts) → ClientSound c
+pub client_holds_counting : (shape : Shape) (c : ClientState) (at : Seen) (rule : ClientRule) (held : ClientState) (turns : List Utterance) (done : ℕ) (k : Option ClientCounts) → ClientSound c
     → ClientRests c turns → ClientUtters c turns → ClientMay c at rule → client_holds rule c ≡ Some held → ClientCounted shape c turns done k → ClientCounted shape held turns done k
 client_holds_counting shape c at Puts held turns done k sound rests utters may is counted = held_is shape c held turns done k is counted
 client_holds_counting shape c at (Says message) held turns done k sound rests utters may is counted =
@@ -152,7 +152,7 @@ published_agrees : (o : Option ClientSession) (session : ClientSession) (done : 
     → ClientAgrees (Some (record session { published = session.published + 1 })) done (change_client (λ (c : ClientCounts). record c { published = c.published + 1 }) k)
 published_agrees o session done k is agrees = grind arith
 
-pub client_publishes_counting : (shape : Shape) (c : ClientState) (at : Seen) (memory : List ℕ) (id : ℕ) (t : ClientState) (new : List ℕ) (turns : List Turn) (done : ℕ) (k : Option ClientCounts)
+pub client_publishes_counting : (shape : Shape) (c : ClientState) (at : Seen) (memory : List ℕ) (id : ℕ) (t : ClientState) (new : List ℕ) (turns : List Utterance) (done : ℕ) (k : Option ClientCounts)
     → ClientSound c → ClientRests c turns → ClientPublishes c at memory id t new → ClientCounted shape c turns done k
     → ClientCounted shape t turns done (change_client (λ (x : ClientCounts). record x { published = x.published + 1 }) k)
 client_publishes_counting shape c at memory id t new turns done k sound rests step counted =
@@ -171,11 +171,11 @@ client_publishes_counting shape c at memory id t new turns done k sound rests st
     })
 
 -- it completes one
-pub client_completes_counting : (shape : Shape) (c : ClientState) (at : Seen) (memory : List ℕ) (id operation status : ℕ) (bytes : List ℕ) (t : ClientState) (new : List ℕ) (turns : List Turn)
+pub client_completes_counting : (shape : Shape) (c : ClientState) (at : Seen) (memory : List ℕ) (id operation status : ℕ) (bytes : List ℕ) (t : ClientState) (new : List ℕ) (turns : List Utterance)
     (done : ℕ) (k : Option ClientCounts) → ClientCompletes c at memory id operation status bytes t new → ClientCounted shape c turns done k → ClientCounted shape t turns (done + 1) k
 client_completes_counting shape c at memory id operation status bytes t new turns done k step counted = grind (arith, client_may)
 
 -- and what is asked of it
-pub client_admits_counting : (shape : Shape) (c : ClientState) (event : Admitted) (t : ClientState) (turns : List Turn) (done : ℕ) (k : Option ClientCounts) → ClientAdmits c event t
+pub client_admits_counting : (shape : Shape) (c : ClientState) (event : Admitted) (t : ClientState) (turns : List Utterance) (done : ℕ) (k : Option ClientCounts) → ClientAdmits c event t
     → ClientCounted shape c turns done k → ClientCounted shape t turns done k
 client_admits_counting shape c event t turns done k admits counted = grind arith

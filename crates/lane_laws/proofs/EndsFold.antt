@@ -7,7 +7,7 @@ use Rattle.ldc_link.specs.declared.phase.Role.TheVariants.{Initiator, Responder}
 use Rattle.ldc_link.specs.LinkState.{is_up}
 use Rattle.ldc_queue.specs.declared.end.End.TheVariants.{A, B}
 use Rattle.ldc_queue.specs.Messages.{is_empty}
-use Rattle.ldc_queue.specs.Transcript.{Heard as Heard_, Said, Turn}
+use Rattle.ldc_queue.specs.Transcript.{Heard as Heard_, Said, Utterance}
 use Rattle.vio_tag.specs.declared.message.Message.{Message}
 use Rattle.vio_tag.specs.Spelling.{canonical}
 use Rattle.lane_laws.proofs.ServerSpeaking.{server_holds_link}
@@ -172,12 +172,12 @@ pub client_end : (s : LaneState) (l : DiskLog) → BothAre s l → FoldsSo Initi
 client_end s l both so sids = search (client_left_is, client_announces)
 
 -- THE SERVER
-pub infos_are : (turns : List Turn) → infos_heard turns ≡ range_count 1 (heard turns)
+pub infos_are : (turns : List Utterance) → infos_heard turns ≡ range_count 1 (heard turns)
 infos_are [] = refl
 infos_are (Said packet ∷ turns) = infos_are turns
 infos_are (Heard_ packet ∷ turns) = omega (arith, infos_are turns, count_heard 1 packet turns)
 
-range_agrees : (slots : ℕ) (o : Option ServerSession) (d : Option ServerCounts) (turns : List Turn) → ServerOrder slots o d turns → ranged o ≡ range_in_work turns → RangeAgrees o turns
+range_agrees : (slots : ℕ) (o : Option ServerSession) (d : Option ServerCounts) (turns : List Utterance) → ServerOrder slots o d turns → ranged o ≡ range_in_work turns → RangeAgrees o turns
 range_agrees slots o d turns order is = grind (arith, infos_are)
 
 module _ (s : LaneState) (l : DiskLog) (both : BothAre s l) where

@@ -5,7 +5,7 @@ use Rattle.runs.specs.Lawful.{log_append, run_lawful}
 use Rattle.runs.specs.Run.{Run, run_push}
 use Rattle.ldc_queue.specs.declared.end.End.{End}
 use Rattle.ldc_queue.specs.declared.end.End.TheVariants.{A, B}
-use Rattle.ldc_queue.specs.Transcript.{Turn}
+use Rattle.ldc_queue.specs.Transcript.{Utterance}
 use Rattle.vio_tag.specs.declared.cause.Cause.{Cause}
 use Rattle.channel_model.specs.Sayings.{heard}
 use Rattle.channel_model.specs.WireEvent.{Blocked, ByRestart, ByScript, ByStep, ByTick, Declines, Giver, Idle, Injected, Joined, Lost, Poked, Reset, Sent, Took, WireEvent, giver}
@@ -14,7 +14,7 @@ use Rattle.lane_laws.specs.DiskLog.{DiskLog, after, nothing_yet}
 use Rattle.disk_model.specs.ClientState.{joined_client}
 use Rattle.disk_model.specs.DiskEvent.{Asks, Desc, DiskEvent, Done, Finished, Misplaced, Moved, OnWire, Published, Calms, Stopped, Stored, Switched, Switches, Worked, Works}
 use Rattle.disk_model.specs.LaneState.{IsShape, LaneState, Shape, fresh}
-use Rattle.disk_model.specs.LaneStep.{CallsReset, LaneStep, ResetBy, TurnStep, WireStep, WorkStep}
+use Rattle.disk_model.specs.LaneStep.{CallsReset, LaneStep, ResetBy, SwitchedStep, WireStep, WorkStep}
 use Rattle.disk_model.specs.ServerState.{ServerState, joined_server, restarted_server}
 use Rattle.lane_laws.proofs.FlightClient.{client_admits_flies, falls_fly}
 use Rattle.lane_laws.proofs.FlightRuns.{InFlight, StepKnown, began, client_anew, client_on, client_wire, end_wire, flight_is, knows_at, log_at, server_anew, server_on, server_wire}
@@ -36,7 +36,7 @@ client_called shape events s cause packet lost t known calls flight =
     flight_is (record s { client = joined_client s.client; wire = wire_moved s.wire (Reset A cause packet lost); near = _ }) t [] calls.2
     (client_anew s (joined_client s.client) (log_at shape events).transcript.client (knows_at shape events s (OnWire (Reset A cause packet lost)) t known).rests.client.stands refl flight)
 
-server_called : (s : LaneState) (v : ServerState) (cause : Cause) (packet : Option (List ℕ)) (lost : ℕ) (t : LaneState) (turns : List Turn) → Flight (wire_moved s.wire (Joined B 0)) s.client v turns
+server_called : (s : LaneState) (v : ServerState) (cause : Cause) (packet : Option (List ℕ)) (lost : ℕ) (t : LaneState) (turns : List Utterance) → Flight (wire_moved s.wire (Joined B 0)) s.client v turns
     → CallsReset s (record s { server = v }) cause B packet lost t → InFlight t turns
 server_called s v cause packet lost t turns anew calls = flight_is (record s { server = v; wire = wire_moved s.wire (Reset B cause packet lost); near = _ }) t turns calls.2 anew
 
@@ -57,7 +57,7 @@ reset_by ByTick A shape events s cause packet lost t known step flight = client_
 reset_by ByTick B shape events s cause packet lost t known step flight = absurd step
 
 -- A PACKET IS LOST
-lost_by : (e : End) (s : LaneState) (packet : List ℕ) (t : LaneState) (turns : List Turn) → WireStep s (Lost e packet) t → InFlight s turns → InFlight t turns
+lost_by : (e : End) (s : LaneState) (packet : List ℕ) (t : LaneState) (turns : List Utterance) → WireStep s (Lost e packet) t → InFlight s turns → InFlight t turns
 lost_by A s packet t turns step flight =
     flight_is (record s { wire = wire_moved s.wire (Lost A packet) }) t turns step.1 (record {
       few = client_loses s.wire.wire.end_a s.wire.wire.end_b (length s.wire.wire.to_a) (length (drop 1 s.wire.wire.to_a)) (length s.wire.wire.to_b) s.wire.lossy (client_packets s.client)
@@ -71,10 +71,10 @@ lost_by B s packet t turns step flight =
       pieces = flight.pieces;
     })
 
-never_forged : (s t u : LaneState) (turns : List Turn) → t ≡ u → u.wire.forged ≡ true → t.wire.forged ≡ false → InFlight t turns
+never_forged : (s t u : LaneState) (turns : List Utterance) → t ≡ u → u.wire.forged ≡ true → t.wire.forged ≡ false → InFlight t turns
 never_forged s t u turns is forged clean = true_is_false (sym forged ∙ sym (ap (λ (x : LaneState). x.wire.forged) is) ∙ clean)
 
-poked_by : (e : End) (s : LaneState) (at : ℕ) (bytes : List ℕ) (t : LaneState) (turns : List Turn) → WireStep s (Poked e at bytes) t → t.wire.forged ≡ false → InFlight t turns
+poked_by : (e : End) (s : LaneState) (at : ℕ) (bytes : List ℕ) (t : LaneState) (turns : List Utterance) → WireStep s (Poked e at bytes) t → t.wire.forged ≡ false → InFlight t turns
 poked_by A s at bytes t turns step clean = never_forged s t (record s { wire = wire_moved s.wire (Poked A at bytes); memory = _ }) turns step.1 refl clean
 poked_by B s at bytes t turns step clean = absurd step
 
@@ -94,7 +94,7 @@ on_wire shape events s (Poked e at bytes) t known step flight = poked_by e s at 
 on_wire shape events s (Declines d) t known step flight = flight_is s t (log_at shape events).transcript.client step.1 flight
 
 -- THE WORK
-works : (s : LaneState) (event : Worked) (t : LaneState) (turns : List Turn) → ClientSound s.client → WorkStep s event t → InFlight s turns → InFlight t turns
+works : (s : LaneState) (event : Worked) (t : LaneState) (turns : List Utterance) → ClientSound s.client → WorkStep s event t → InFlight s turns → InFlight t turns
 works s (Published id) t turns sound step flight =
     client_on s t turns (ap (λ (x : LaneState). x.wire) step.is) (ap (λ (x : LaneState). x.server) step.is)
     (falls_fly 0 1 s.client t.client (publishes_falls s.client (at_client s) s.memory id t.client t.memory sound step.step)) flight
@@ -116,7 +116,7 @@ works s (Finished slot status) t turns sound step flight =
 works s Misplaced t turns sound step flight = absurd step
 
 -- STOPS, and what changes nothing
-turns_fly : (s : LaneState) (event : Switched) (t : LaneState) (turns : List Turn) → TurnStep s event t → InFlight s turns → InFlight t turns
+turns_fly : (s : LaneState) (event : Switched) (t : LaneState) (turns : List Utterance) → SwitchedStep s event t → InFlight s turns → InFlight t turns
 turns_fly s event t turns step flight = grind arith
 
 flight_step : (shape : Shape) (events : List DiskEvent) (s : LaneState) (event : DiskEvent) (t : LaneState) → StepKnown shape events s event t → LaneStep s event t

@@ -5,7 +5,7 @@ use Rattle.runs.specs.Run.{Run}
 use Rattle.ldc_link.specs.declared.phase.Role.TheVariants.{Initiator, Responder}
 use Rattle.ldc_queue.specs.declared.end.End.{End}
 use Rattle.ldc_queue.specs.declared.end.End.TheVariants.{A, B}
-use Rattle.ldc_queue.specs.Transcript.{Heard as Heard_, Said as Said_, Turn}
+use Rattle.ldc_queue.specs.Transcript.{Heard as Heard_, Said as Said_, Utterance}
 use Rattle.channel_model.specs.Sayings.{half_heard, heard}
 use Rattle.channel_model.specs.WireEvent.{Blocked, Idle, Joined, Reset, Sent, Took, WireEvent}
 use Rattle.channel_model.specs.WireLog.{wire_moved}
@@ -21,7 +21,7 @@ use Rattle.disk_model.specs.ServerRule as server_rules
 use Rattle.disk_model.specs.ServerState.{ServerState, joined_server}
 use Rattle.channel_laws.specs.Standing.{EndStands}
 use Rattle.lane_laws.proofs.ClientHolding.{holds_up}
-use Rattle.lane_laws.proofs.FallsInTurn.{client_takes, server_takes}
+use Rattle.lane_laws.proofs.FallsByTaking.{client_takes, server_takes}
 use Rattle.lane_laws.proofs.FlightClient.{ClientFlies, falls_fly}
 use Rattle.lane_laws.proofs.FlightServer.{FewPieces, ServerFlies, server_takes_flies}
 use Rattle.lane_laws.proofs.FlightServer as server_flies
@@ -40,15 +40,15 @@ use Rattle.lane_laws.specs.Budget.{infos_begun}
 use Rattle.lane_laws.specs.ChannelEnds.{client_core, server_core}
 use Rattle.lane_laws.specs.Counted.{range_count}
 use Rattle.lane_laws.specs.Remaining.{client_packets, server_packets}
-use Rattle.lane_laws.specs.RemainingSteps.{ServerTurn, total_at}
+use Rattle.lane_laws.specs.RemainingSteps.{ServerHeard, total_at}
 use Rattle.lane_laws.specs.RuleFacts.{ClientMay, ServerMay}
 use Rattle.lane_laws.proofs.LaneViews.{at_client, at_server}
 
 -- a lane and what its client said and heard
-abbrev pub InFlight : LaneState → List Turn → Type 0
+abbrev pub InFlight : LaneState → List Utterance → Type 0
 InFlight s turns = Flight s.wire s.client s.server turns
 
-pub flight_is : (s t : LaneState) (turns : List Turn) → t ≡ s → InFlight s turns → InFlight t turns
+pub flight_is : (s t : LaneState) (turns : List Utterance) → t ≡ s → InFlight s turns → InFlight t turns
 flight_is s t turns is flight = subst (λ (x : LaneState). InFlight x turns) (sym is) flight
 
 -- what is known of a step
@@ -66,10 +66,10 @@ pub knows_at : (shape : Shape) (events : List DiskEvent) (s : LaneState) (event 
 knows_at shape events s event t known = run_knows shape events s known.sound known.run
 
 -- AN END that begins
-pub client_anew : (s : LaneState) (c : ClientState) (turns : List Turn) → EndStands Initiator (client_core s.client) turns → c ≡ joined_client s.client → InFlight s turns → Flight (wire_moved s.wire (Joined A 0)) c s.server []
+pub client_anew : (s : LaneState) (c : ClientState) (turns : List Utterance) → EndStands Initiator (client_core s.client) turns → c ≡ joined_client s.client → InFlight s turns → Flight (wire_moved s.wire (Joined A 0)) c s.server []
 client_anew s c turns stands is flight = grind arith
 
-pub server_anew : (s : LaneState) (v : ServerState) (turns : List Turn) → server_packets v ≡ 8 → v.work ≡ None → InFlight s turns → Flight (wire_moved s.wire (Joined B 0)) s.client v turns
+pub server_anew : (s : LaneState) (v : ServerState) (turns : List Utterance) → server_packets v ≡ 8 → v.work ≡ None → InFlight s turns → Flight (wire_moved s.wire (Joined B 0)) s.client v turns
 server_anew s v turns eight none flight = record {
   few = server_begins s.wire.wire.end_a s.wire.wire.end_b s.wire.wire.to_a s.wire.wire.to_b s.wire.lossy (client_packets s.client) (server_packets s.server) (server_packets v)
       (range_count 2 (heard turns)) (infos_begun s.client.session) eight flight.few;
@@ -77,10 +77,10 @@ server_anew s v turns eight none flight = record {
 }
 
 -- AN END that goes on
-pub client_on : (s t : LaneState) (turns : List Turn) → t.wire ≡ s.wire → t.server ≡ s.server → ClientFlies 0 s.client t.client → InFlight s turns → InFlight t turns
+pub client_on : (s t : LaneState) (turns : List Utterance) → t.wire ≡ s.wire → t.server ≡ s.server → ClientFlies 0 s.client t.client → InFlight s turns → InFlight t turns
 client_on s t turns wire server flies flight = grind arith
 
-pub server_on : (s t : LaneState) (turns : List Turn) → t.wire ≡ s.wire → t.client ≡ s.client → ServerFlies 0 0 s.server t.server → InFlight s turns → InFlight t turns
+pub server_on : (s t : LaneState) (turns : List Utterance) → t.wire ≡ s.wire → t.client ≡ s.client → ServerFlies 0 0 s.server t.server → InFlight s turns → InFlight t turns
 server_on s t turns wire client flies flight = grind arith
 
 -- THE CLIENT takes a packet
@@ -92,7 +92,7 @@ client_took : (shape : Shape) (events : List DiskEvent) (s : LaneState) (packet 
     → InFlight s (log_at shape events).transcript.client → InFlight t (Heard_ packet ∷ (log_at shape events).transcript.client)
 client_took shape events s packet opens t known flight =
     let l = log_at shape events in
-    let turns : List Turn = l.transcript.client in
+    let turns : List Utterance = l.transcript.client in
     let step = known.step in
     let may : ClientMay s.client (at_client s) (client_rules.Takes packet) = subst (ClientMay s.client (at_client s)) step.step.0 (client_may s.client (at_client s)) in
     let falls = client_takes shape events s packet opens t known.sound known.run known.clean_s step in
@@ -109,7 +109,7 @@ client_sent : (shape : Shape) (events : List DiskEvent) (s : LaneState) (packet 
     → InFlight s (log_at shape events).transcript.client → InFlight t (Said_ packet ∷ (log_at shape events).transcript.client)
 client_sent shape events s packet opens t known flight =
     let l = log_at shape events in
-    let turns : List Turn = l.transcript.client in
+    let turns : List Utterance = l.transcript.client in
     let step = known.step in
     let knows : Knows s l = knows_at shape events s (OnWire (Sent A packet opens)) t known in
     let up = holds_up s.client (at_client s) (client_rules.client_rule s.client (at_client s)) step.step.held (client_may s.client (at_client s)) step.step.holds in
@@ -147,7 +147,7 @@ server_took shape events s packet opens t known flight =
     let knows : Knows s l = knows_at shape events s (OnWire (Took B packet opens)) t known in
     let may : ServerMay s.server (at_server s) (server_rules.Takes packet) = subst (ServerMay s.server (at_server s)) step.1.step.1.0 (server_may s.server (at_server s)) in
     let most = total_at s.wire.wire.end_a s.client in
-    let turn : ServerTurn most s.server t.server = server_takes shape events s packet opens t known.sound known.run known.clean_s step in
+    let turn : ServerHeard most s.server t.server = server_takes shape events s packet opens t known.sound known.run known.clean_s step in
     let took = server_took_what s.server l.transcript.server packet t.server opens knows.rests.server.stands.link.follows knows.rests.server.whole step.1.step.1.1 in
     let flies : ServerFlies 0 1 s.server t.server = server_takes_flies most s.server t.server l.transcript.server packet opens turn took in
     flight_is (record s { wire = wire_moved s.wire (Took B packet opens); server = t.server; memory = t.memory; near = s.near }) t l.transcript.client step.1.is (record {
@@ -171,7 +171,7 @@ server_sent shape events s packet opens t known flight =
       pieces = flies.pieces flight.pieces;
     })
 
-pub began : (s : LaneState) (v : ServerState) (turns said : List Turn) → EndStands Responder (server_core s.server) said → v ≡ joined_server s.server → InFlight s turns
+pub began : (s : LaneState) (v : ServerState) (turns said : List Utterance) → EndStands Responder (server_core s.server) said → v ≡ joined_server s.server → InFlight s turns
     → Flight (wire_moved s.wire (Joined B 0)) s.client v turns
 began s v turns said stands is flight = server_anew s v turns (ap server_packets is ∙ begun_answers s.server said stands) (ap (λ (x : ServerState). x.work) is) flight
 

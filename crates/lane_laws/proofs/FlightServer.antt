@@ -3,7 +3,7 @@
 use Rattle.std.proofs.Common.{◌≡◌, ℕ, ◌+◌, ◌≤◌, inl, inr, Bool, Option, Some, None, List, sym, ap, subst, arith}
 use Rattle.std.specs.Prelude.{⊤}
 use Rattle.cookie_copy.specs.declared.fault.CopyFault.{CopyFault}
-use Rattle.ldc_queue.specs.Transcript.{Turn}
+use Rattle.ldc_queue.specs.Transcript.{Utterance}
 use Rattle.vdisk_msg.specs.Descriptor as slot_says
 use Rattle.vdisk_msg.specs.Pieces.{unit_count}
 use Rattle.channel_model.specs.Seeing.{Seen}
@@ -18,7 +18,7 @@ use Rattle.lane_laws.proofs.Ruling.{server_may}
 use Rattle.lane_laws.proofs.ServerTaken.{ServerTook}
 use Rattle.lane_laws.specs.Budget.{range_left}
 use Rattle.lane_laws.specs.Remaining.{pieces_left, server_packets}
-use Rattle.lane_laws.specs.RemainingSteps.{ServerTurn}
+use Rattle.lane_laws.specs.RemainingSteps.{ServerHeard}
 use Rattle.lane_laws.specs.RuleFacts.{ServerMay}
 
 abbrev pub FewPieces : Option Work → Type 0
@@ -38,14 +38,14 @@ pub falls_fly : (put : ℕ) (s t : ServerState) → ServerFalls put s t → Serv
 falls_fly put s t falls = record { packets = omega (arith, falls.packets); pieces = same_pieces s t falls.work }
 
 -- IT TAKES one
-took_work : (s t : ServerState) (turns : List Turn) (packet : List ℕ) (opens : Bool) → ServerTook s turns packet t opens → t.work ≡ s.work
+took_work : (s t : ServerState) (turns : List Utterance) (packet : List ℕ) (opens : Bool) → ServerTook s turns packet t opens → t.work ≡ s.work
 took_work s t turns packet opens took = grind arith
 
-turn_packets : (most : ℕ) (v u : ServerState) → ServerTurn most v u → server_packets u + 0 ≤ server_packets v + 1
+turn_packets : (most : ℕ) (v u : ServerState) → ServerHeard most v u → server_packets u + 0 ≤ server_packets v + 1
 turn_packets most v u (inl hears) = omega (arith, hears.packets)
 turn_packets most v u (inr asks) = omega (arith, asks.1.packets)
 
-pub server_takes_flies : (most : ℕ) (s t : ServerState) (turns : List Turn) (packet : List ℕ) (opens : Bool) → ServerTurn most s t → ServerTook s turns packet t opens → ServerFlies 0 1 s t
+pub server_takes_flies : (most : ℕ) (s t : ServerState) (turns : List Utterance) (packet : List ℕ) (opens : Bool) → ServerHeard most s t → ServerTook s turns packet t opens → ServerFlies 0 1 s t
 server_takes_flies most s t turns packet opens turn took = record { packets = turn_packets most s t turn; pieces = same_pieces s t (took_work s t turns packet opens took) }
 
 -- ITS WORK

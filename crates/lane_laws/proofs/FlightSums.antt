@@ -3,7 +3,7 @@
 use Rattle.std.proofs.Common.{◌≡◌, ℕ, ◌+◌, ◌≤◌, Bool, true, List, [], ◌∷◌, ◌++◌, length, arith, length-append}
 use Rattle.ldc_queue.specs.declared.end.ChannelState.{ChannelState}
 use Rattle.ldc_queue.specs.declared.end.ChannelState.TheVariants.{Down, Resetting, Up}
-use Rattle.ldc_queue.specs.Transcript.{Turn}
+use Rattle.ldc_queue.specs.Transcript.{Utterance}
 use Rattle.ldc_queue.specs.Wire.{peer_behind, queue_behind}
 use Rattle.channel_model.specs.Sayings.{heard}
 use Rattle.channel_model.specs.WireLog.{WireLog, lossy_behind}
@@ -26,7 +26,7 @@ abbrev pub FewFly : ChannelState → ChannelState → ℕ → ℕ → Bool → �
 FewFly x y to_a to_b lossy client server answers infos =
     to_a + to_b + live_count x 9 client + live_count y 8 server + live_count x 0 answers + one_where lossy ≤ 17 + live_count x 0 infos
 
-pub record Flight (w : WireLog) (c : ClientState) (v : ServerState) (turns : List Turn) : Type 0 where
+pub record Flight (w : WireLog) (c : ClientState) (v : ServerState) (turns : List Utterance) : Type 0 where
   pub few : FewFly w.wire.end_a w.wire.end_b (length w.wire.to_a) (length w.wire.to_b) w.lossy (client_packets c) (server_packets v) (range_count 2 (heard turns)) (infos_begun c.session)
   pub pieces : FewPieces v.work
 

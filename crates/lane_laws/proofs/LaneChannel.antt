@@ -4,7 +4,7 @@ use Rattle.runs.specs.Lawful.{Lawful, log_append, log_of}
 use Rattle.runs.specs.Run.{Run, run_push}
 use Rattle.ldc_link.specs.declared.phase.Role.{Role}
 use Rattle.ldc_link.specs.declared.phase.Role.TheVariants.{Initiator, Responder}
-use Rattle.ldc_queue.specs.Transcript.{Turn}
+use Rattle.ldc_queue.specs.Transcript.{Utterance}
 use Rattle.vio_handshake.specs.declared.session.Offer.{Offer}
 use Rattle.vio_handshake.specs.Offers.{Match}
 use Rattle.lane_laws.proofs.EndMoves.{transcript_same}
@@ -101,7 +101,7 @@ pub no_sids : (shape : Shape) (events : List DiskEvent) (s : LaneState) → IsSh
 no_sids shape events s sound run =
     last_sid_none shape.entries (asks_of shape) (answers_of shape) (map core_event events) (core_of s) (lane_fits shape sound) (lane_cores shape events s sound run)
 
-pub link_agrees : (role : Role) (c : EndCore) (turns : List Turn) → EndStands role c turns → LinkAgrees c.link turns
+pub link_agrees : (role : Role) (c : EndCore) (turns : List Utterance) → EndStands role c turns → LinkAgrees c.link turns
 link_agrees role c turns stands = grind (arith, count_said_is, count_heard_is, half_heard_is)
 
 -- WHERE NOBODY FORGED both links stand at one place, both handshakes too, and the two ends converse

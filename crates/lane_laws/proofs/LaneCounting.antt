@@ -4,7 +4,7 @@ use Rattle.std.specs.Prelude.{⊤}
 use Rattle.runs.specs.Lawful.{log_of, run_lawful}
 use Rattle.runs.specs.Run.{Run}
 use Rattle.ldc_queue.specs.declared.end.End.TheVariants.{A, B}
-use Rattle.ldc_queue.specs.Transcript.{Heard as Heard_, Said, Turn}
+use Rattle.ldc_queue.specs.Transcript.{Heard as Heard_, Said, Utterance}
 use Rattle.vdisk_msg.specs.declared.request.Request.{Request}
 use Rattle.channel_model.specs.TranscriptLog.{nothing_said}
 use Rattle.channel_model.specs.Sayings.{half_heard, half_said}
@@ -57,7 +57,7 @@ pub few_slots : (s : LaneState) (l : DiskLog) → Knows s l → l.shape.slots �
 few_slots s l knows = omega (arith, knows.counted.client.slots, knows.all.sound.slots)
 
 -- THE CLIENT puts a packet
-put_counting : (kind : PutKind) (shape : Shape) (c : ClientState) (turns : List Turn) (packet : List ℕ) (sid done : ℕ) (k : Option ClientCounts) → ClientSound c → ClientRests c turns
+put_counting : (kind : PutKind) (shape : Shape) (c : ClientState) (turns : List Utterance) (packet : List ℕ) (sid done : ℕ) (k : Option ClientCounts) → ClientSound c → ClientRests c turns
     → ClientUtters c turns → first_id c ≡ done → PutSays kind (is_announcing c.session) c.link turns packet → ClientCounted shape c turns done k
     → ClientCounted shape (put_as kind c) (Said packet ∷ turns) done (counts_as shape (put_opens kind c.handshake) turns packet sid done k)
 put_counting Goes shape c turns packet sid done k sound rests utters first says counted = goes_counting shape c turns packet sid done k says counted

@@ -4,7 +4,7 @@ use Rattle.runs.specs.Lawful.{Lawful, run_lawful}
 use Rattle.runs.specs.Run.{Run}
 use Rattle.ldc_queue.specs.declared.end.End.{End}
 use Rattle.ldc_queue.specs.declared.end.End.TheVariants.{A, B}
-use Rattle.ldc_queue.specs.Transcript.{Turn}
+use Rattle.ldc_queue.specs.Transcript.{Utterance}
 use Rattle.vio_tag.specs.declared.cause.Cause.{Cause}
 use Rattle.vio_tag.specs.declared.cause.Cause.TheVariants as the_cause
 use Rattle.channel_model.specs.ResetSays.{WireResetAt}
@@ -30,7 +30,7 @@ abbrev pub Stands : LaneState → TranscriptLog → Type 0
 Stands s transcript = ClientSound s.client × LaneRests s transcript
 
 -- a reset that no step gave
-asked_why : (turns : List Turn) (cause : Cause) (packet : Option (List ℕ)) → packet ≡ None → WhyReset turns None cause → WhyReset turns packet cause
+asked_why : (turns : List Utterance) (cause : Cause) (packet : Option (List ℕ)) → packet ≡ None → WhyReset turns None cause → WhyReset turns packet cause
 asked_why turns cause packet is why = subst (λ (p : Option (List ℕ)). WhyReset turns p cause) (sym is) why
 
 end_why : (e : End) (s : LaneState) (transcript : TranscriptLog) (cause : Cause) (packet : Option (List ℕ)) (lost : ℕ) (t : LaneState) → Stands s transcript → EndOnWire e s (Reset e cause packet lost) t

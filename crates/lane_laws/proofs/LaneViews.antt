@@ -4,7 +4,7 @@ use Rattle.std.proofs.Common.{◌≡◌, ℕ, ◌+◌, ◌≤◌, Bool, true, fa
 use Rattle.std.specs.Prelude.{◌||◌, ⊤}
 use Rattle.ldc_queue.specs.declared.end.End.{End}
 use Rattle.ldc_queue.specs.declared.end.End.TheVariants.{A, B}
-use Rattle.ldc_queue.specs.Transcript.{Turn}
+use Rattle.ldc_queue.specs.Transcript.{Utterance}
 use Rattle.ldc_queue.specs.Wire.{peer_of}
 use Rattle.vio_bytes.specs.Place.{put_at}
 use Rattle.vio_tag.specs.declared.cause.Cause.{Cause}
@@ -17,7 +17,7 @@ use Rattle.disk_model.specs.ClientState.{ClientState, joined_client}
 use Rattle.disk_model.specs.ClientStep.{ClientAdmits, ClientStep}
 use Rattle.disk_model.specs.DiskEvent.{Accepted, Admitted, Asks, Calm, CalmReset, Calms, DiskEvent, Done, Misplaced, OnWire, Published, Started, Stopped, Stored, Switched, Switches, Worked, Works}
 use Rattle.disk_model.specs.LaneState.{LaneState, NearCounts, near_disturbed}
-use Rattle.disk_model.specs.LaneStep.{EndOnWire, LaneStep, ResetBy, CalmStep, ServerWorks, TurnStep, WireStep, WorkStep, failed_worked, near_on_wire, near_worked, reach}
+use Rattle.disk_model.specs.LaneStep.{EndOnWire, LaneStep, ResetBy, CalmStep, ServerWorks, SwitchedStep, WireStep, WorkStep, failed_worked, near_on_wire, near_worked, reach}
 use Rattle.disk_model.specs.ServerState.{ServerState, joined_server, restarted_server}
 use Rattle.disk_model.specs.ServerStep.{ServerStep}
 use Rattle.channel_laws.specs.Blockage.{Blockage, Clear}
@@ -243,7 +243,7 @@ work_view s (Done id operation status bytes) t step = client_acts s (Works (Done
 work_view s Misplaced t step = absurd step
 work_view s event t step = server_works s step.0 event t tt step.1
 
-turn_view : (s : LaneState) (event : Switched) (t : LaneState) → TurnStep s event t → LaneView s (Switches event) t
+turn_view : (s : LaneState) (event : Switched) (t : LaneState) → SwitchedStep s event t → LaneView s (Switches event) t
 turn_view s Stopped t step = server_called s (Switches Stopped) (restarted_server s.server) t tt ServerStopped step.1
 turn_view s event t step = no_end s (Switches event) t tt tt step.1
 
@@ -265,7 +265,7 @@ lane_view s (Calms event) t step = no_end s (Calms event) t tt tt (calm_same s e
 
 -- AN END'S SIDE OF THE LOG: what it said and heard, whether it was blocked, and the counts of its session. An event beside it leaves its side.
 pub record ClientSide : Type 0 where
-  pub turns : List Turn
+  pub turns : List Utterance
   pub blocked : Blockage
   pub done : ℕ
   pub counts : Option ClientCounts
@@ -274,7 +274,7 @@ abbrev pub client_side : DiskLog → ClientSide
 client_side l = record { turns = l.transcript.client; blocked = l.blocked.client; done = l.work.done; counts = l.work.client }
 
 pub record ServerSide : Type 0 where
-  pub turns : List Turn
+  pub turns : List Utterance
   pub blocked : Blockage
   pub counts : Option ServerCounts
 

@@ -1,7 +1,7 @@
 -- What the packets of a client leave of its session's places, and what those of a server leave of its descriptor in work.
 use Rattle.std.proofs.Common.{◌≡◌, ℕ, Bool, true, false, Option, Some, None, List, inl, inr, refl, sym, ap, ◌∙◌, subst, arith}
 use Rattle.ldc_link.specs.Following.{Follows}
-use Rattle.ldc_queue.specs.Transcript.{Turn}
+use Rattle.ldc_queue.specs.Transcript.{Utterance}
 use Rattle.disk_model.specs.ClientPutting.{client_holds, client_kind, opened_if, session_behind}
 use Rattle.disk_model.specs.ClientRule as client
 use Rattle.disk_model.specs.ClientState.{ClientSession, ClientState, first_id, opened_session}
@@ -42,7 +42,7 @@ pub record ClientLeaves (c t : ClientState) : Type 0 where
 pub leaves_same : (c t : ClientState) → t ≡ c → ClientLeaves c t
 leaves_same c t is = record { ever = ap (λ (x : ClientState). x.ever_published) is; keeps = keeps_same c.session t.session (ap (λ (x : ClientState). x.session) is) }
 
-took_leaves : (c : ClientState) (turns : List Turn) (packet : List ℕ) (t : ClientState) → ClientTook c turns packet t → ClientLeaves c t
+took_leaves : (c : ClientState) (turns : List Utterance) (packet : List ℕ) (t : ClientState) → ClientTook c turns packet t → ClientLeaves c t
 took_leaves c turns packet t (inl part) =
     record { ever = ap (λ (x : ClientState). x.ever_published) part.is; keeps = keeps_same c.session t.session (ap (λ (x : ClientState). x.session) part.is) }
 took_leaves c turns packet t (inr (inl handshakes)) =
@@ -52,7 +52,7 @@ took_leaves c turns packet t (inr (inr acked)) = record {
   keeps = subst (λ (o : Option ClientSession). Keeps c.session o) (sym (ap (λ (x : ClientState). x.session) acked.is)) (keeps_some c.session acked.ack.session _ acked.ack.session_is refl refl);
 }
 
-pub client_took : (c : ClientState) (turns : List Turn) (packet : List ℕ) (t : ClientState) → Follows c.link turns → c.link.whole ≡ None → ClientTakes c packet (GoesOn t) → ClientLeaves c t
+pub client_took : (c : ClientState) (turns : List Utterance) (packet : List ℕ) (t : ClientState) → Follows c.link turns → c.link.whole ≡ None → ClientTakes c packet (GoesOn t) → ClientLeaves c t
 client_took c turns packet t follows none takes = took_leaves c turns packet t (client_took_what c turns packet t follows none takes)
 
 pub held_leaves : (c : ClientState) (at : Seen) (rule : client.ClientRule) (held : ClientState) → ClientMay c at rule → client_holds rule c ≡ Some held → ClientLeaves c held
@@ -90,10 +90,10 @@ client_opened c at memory packet t new sends =
     }
 
 -- THE SERVER
-took_work : (s : ServerState) (turns : List Turn) (packet : List ℕ) (t : ServerState) (opens : Bool) → ServerTook s turns packet t opens → t.work ≡ s.work
+took_work : (s : ServerState) (turns : List Utterance) (packet : List ℕ) (t : ServerState) (opens : Bool) → ServerTook s turns packet t opens → t.work ≡ s.work
 took_work s turns packet t opens took = grind arith
 
-pub server_took : (s : ServerState) (turns : List Turn) (packet : List ℕ) (t : ServerState) (opens : Bool) → Follows s.link turns → s.link.whole ≡ None
+pub server_took : (s : ServerState) (turns : List Utterance) (packet : List ℕ) (t : ServerState) (opens : Bool) → Follows s.link turns → s.link.whole ≡ None
     → ServerTakes s packet (ServerGoesOn t opens) → t.work ≡ s.work
 server_took s turns packet t opens follows none takes = took_work s turns packet t opens (server_took_what s turns packet t opens follows none takes)
 

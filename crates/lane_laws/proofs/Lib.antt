@@ -12,7 +12,7 @@ pub mod ClientTaken
 pub mod ClientWorkCounting
 pub mod CountedRuns
 pub mod DataHeard
-pub mod FallsInTurn
+pub mod FallsByTaking
 pub mod HeardAsSaid
 pub mod HeardFront
 pub mod IdleRuns
@@ -28,7 +28,7 @@ pub mod OnTheWay
 pub mod TickLaw
 pub mod NoOwnReset
 pub mod RangeSums
-pub mod RangeTurns
+pub mod RangeLaps
 pub mod RangesSaid
 pub mod ReachedFacts
 pub mod RemainingBounds
@@ -171,7 +171,7 @@ pub mod EndsWorking
 pub mod NewSessions
 pub mod NearOrder
 pub mod AckedFinished
-pub mod CountsTurn
+pub mod CountsFollow
 pub mod ClientMoves
 pub mod ServerMoves
 pub mod LaneCores

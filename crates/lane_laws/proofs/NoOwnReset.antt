@@ -11,7 +11,7 @@ use Rattle.cookie_copy.proofs.OwnPages.{no_fault_range}
 use Rattle.cookie_copy.specs.declared.fault.Access.TheVariants as access
 use Rattle.cookie_copy.specs.declared.fault.CopyFault.{CopyFault}
 use Rattle.cookie_copy.specs.Faults.{both_up, first_copy_fault, is_aligned, is_aligned_cookie}
-use Rattle.dring.proofs.Turning.{slot_fits}
+use Rattle.dring.proofs.Laps.{slot_fits}
 use Rattle.dring.specs.declared.peer.RingFault.{RingFault}
 use Rattle.dring.specs.declared.peer.RingFault.TheVariants as refused
 use Rattle.dring.specs.Reaching.{RefusesFetch}

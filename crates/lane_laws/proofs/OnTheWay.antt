@@ -12,7 +12,7 @@ use Rattle.ldc_queue.specs.declared.end.ChannelState.TheVariants.{Up}
 use Rattle.ldc_queue.specs.declared.end.End.TheVariants.{A, B}
 use Rattle.ldc_queue.specs.Numbered.{numbered}
 use Rattle.ldc_queue.specs.OneStream.{IsFront, OneWay, live}
-use Rattle.ldc_queue.specs.Transcript.{Turn, numbered_heard, numbered_said}
+use Rattle.ldc_queue.specs.Transcript.{Utterance, numbered_heard, numbered_said}
 use Rattle.lane_laws.specs.Agreement.{ServerAgrees}
 use Rattle.disk_model.specs.DiskEvent.{DiskEvent}
 use Rattle.lane_laws.specs.DiskLog.{DiskLog, after, nothing_yet}
@@ -173,12 +173,12 @@ behind_seqs seq taken told front seqs is =
     (seqs_past 0 taken (drop (length taken) told) (subst (λ (xs : List (List ℕ)). SeqsFrom 1 (filter (is_range 1) xs)) (split taken told front) seqs))
 
 -- THE SERVER'S PLACE is counted by what it heard and said
-record PlaceIs (slots : ℕ) (o : Option ServerSession) (q : Option ServerCounts) (turns : List Turn) : Type 0 where
+record PlaceIs (slots : ℕ) (o : Option ServerSession) (q : Option ServerCounts) (turns : List Utterance) : Type 0 where
   asked : range_sum slots 1 (heard turns) ≡ asked_by q
   answered : range_sum slots 2 (said turns) ≡ answered_by q
   seq : wrapped (range_count 1 (heard turns) + 1) ≡ expected_by o
 
-place_is : (slots : ℕ) (o : Option ServerSession) (w : Option Work) (q : Option ServerCounts) (turns : List Turn) → ServerOrder slots o q turns → ServerAgrees o w q → PlaceIs slots o q turns
+place_is : (slots : ℕ) (o : Option ServerSession) (w : Option Work) (q : Option ServerCounts) (turns : List Utterance) → ServerOrder slots o q turns → ServerAgrees o w q → PlaceIs slots o q turns
 place_is slots o w q turns order agrees = grind arith
 
 -- ONE DIRECTION between two ends that are up

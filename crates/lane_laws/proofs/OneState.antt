@@ -1,7 +1,7 @@
 -- Two lanes that agree with one log are the same, but for their memories and what the log has no bytes of.
 use Rattle.std.proofs.Common.{◌≡◌, ℕ, false, Option, List, sym, ap, ◌∙◌, arith}
 use Rattle.ldc_link.specs.LinkState.{LinkState}
-use Rattle.ldc_queue.specs.Transcript.{Turn}
+use Rattle.ldc_queue.specs.Transcript.{Utterance}
 use Rattle.vio_tag.specs.declared.message.Message.{Message}
 use Rattle.vio_handshake.specs.declared.handshake.Handshake.{Handshake}
 use Rattle.lane_laws.specs.Agreement.{AgreesWithLog, LinkAgrees, NearAgrees, RangeAgrees, ServerAgrees, WorkNextAgrees}
@@ -17,7 +17,7 @@ use Rattle.lane_laws.specs.WorkLog.{ServerCounts}
 use Rattle.lane_laws.specs.SameEnds.{SameClient, SameLane, SameServer, SameWork}
 
 -- LINKS are one where their fields are
-same_link : (k m : LinkState) (turns : List Turn) → k.role ≡ m.role → k.phase ≡ m.phase → k.to_send ≡ m.to_send → LinkAgrees k turns → LinkAgrees m turns → k ≡ m
+same_link : (k m : LinkState) (turns : List Utterance) → k.role ≡ m.role → k.phase ≡ m.phase → k.to_send ≡ m.to_send → LinkAgrees k turns → LinkAgrees m turns → k ≡ m
 same_link k m turns role phase left one other = grind arith
 
 -- CLIENTS
@@ -25,7 +25,7 @@ pub same_client : (s t : LaneState) (l : DiskLog) → AgreesWithLog s l → Agre
 same_client s t l one other = grind arith
 
 -- SERVERS
-same_counts : (o p : Option ServerSession) (v w : Option Work) (k : Option ServerCounts) (turns : List Turn) → ServerAgrees o v k → ServerAgrees p w k → RangeAgrees o turns → RangeAgrees p turns → o ≡ p
+same_counts : (o p : Option ServerSession) (v w : Option Work) (k : Option ServerCounts) (turns : List Utterance) → ServerAgrees o v k → ServerAgrees p w k → RangeAgrees o turns → RangeAgrees p turns → o ≡ p
 same_counts o p v w k turns one other range ranged = grind arith
 
 server_same : (owed : Option Message) (v w : ServerState) (half : List ℕ) (blockage : Blockage) → v.handshake ≡ w.handshake → v.session ≡ w.session

@@ -10,7 +10,7 @@ use Rattle.ldc_packet.specs.declared.packet.Subtype.TheVariants.{Ack, Info}
 use Rattle.ldc_link.specs.LinkState.{LinkState}
 use Rattle.ldc_queue.specs.declared.end.End.TheVariants.{A, B}
 use Rattle.ldc_queue.specs.Transcript as turn
-use Rattle.ldc_queue.specs.Transcript.{Turn}
+use Rattle.ldc_queue.specs.Transcript.{Utterance}
 use Rattle.vio_bytes.specs.Place.{number_at}
 use Rattle.vio_tag.specs.declared.message.Message.{Message}
 use Rattle.vio_tag.specs.declared.message.MsgBody.TheVariants.{DringData}
@@ -42,7 +42,7 @@ use Rattle.channel_model.specs.Ranges.{wrapped}
 use Rattle.dring.specs.Slots.{range_length}
 use Rattle.disk_model.specs.ServerState.{ServerState, SlotRange}
 use Rattle.disk_model.specs.ServerStep.{ServerSends}
-use Rattle.channel_laws.proofs.TurnCases.{heard_none, heard_some, said_none, said_some}
+use Rattle.channel_laws.proofs.UtteranceCases.{heard_none, heard_some, said_none, said_some}
 use Rattle.lane_laws.proofs.ClientFolds.{clear_quiet}
 use Rattle.lane_laws.proofs.ClientPuts.{putting}
 use Rattle.lane_laws.proofs.ClientTaken.{ClientAcked, ClientTook, HearsMessage, client_took_what}
@@ -52,7 +52,7 @@ use Rattle.lane_laws.proofs.EndsFold.{BothAre, held_session, infos_are}
 use Rattle.lane_laws.proofs.IdleLaw.{past_all}
 use Rattle.lane_laws.proofs.IdleRules.{published_all}
 use Rattle.lane_laws.proofs.RuleTests.{PublishedAll, TakesFree}
-use Rattle.lane_laws.proofs.RangeTurns.{range_turns}
+use Rattle.lane_laws.proofs.RangeLaps.{range_turns}
 use Rattle.lane_laws.proofs.RangesSaid.{data_no_group, end_is, heard_no_group, heard_no_range, ident_is, sid_is, no_data, other_subtype, owed_no_range, range_is, said_is, seq_is, start_is, state_is}
 use Rattle.lane_laws.proofs.Requesting.{held_kept}
 use Rattle.lane_laws.proofs.Ruling.{client_may}
@@ -81,15 +81,15 @@ if_none range holds is = subst (λ (r : Option (List ℕ)). IfRange r holds) (sy
 if_some : (range : Option (List ℕ)) (holds : List ℕ → Type 0) (bytes : List ℕ) → range ≡ Some bytes → holds bytes → IfRange range holds
 if_some range holds bytes is now = subst (λ (r : Option (List ℕ)). IfRange r holds) (sym is) now
 
-goes_none : (k : ℕ) (turns : List Turn) (packet : List ℕ) → said (turn.Said packet ∷ turns) ≡ said turns → range_ended k (half_said turns) packet ≡ None
+goes_none : (k : ℕ) (turns : List Utterance) (packet : List ℕ) → said (turn.Said packet ∷ turns) ≡ said turns → range_ended k (half_said turns) packet ≡ None
 goes_none k turns packet same = ap (range_in k) (said_none turns packet same)
 
-owed_none : (k : ℕ) (phase : Phase) (owed : Option Message) (link : LinkState) (turns : List Turn) (packet : List ℕ) → (k ≡ 1) ⊎ (k ≡ 2) → OwedFits phase owed
+owed_none : (k : ℕ) (phase : Phase) (owed : Option Message) (link : LinkState) (turns : List Utterance) (packet : List ℕ) → (k ≡ 1) ⊎ (k ≡ 2) → OwedFits phase owed
     → CarriesOwed owed (half_said turns ++ link.to_send) → SaysWhole link turns packet → range_ended k (half_said turns) packet ≡ None
 owed_none k phase owed link turns packet kind fits holds last = grind (arith, said_some, owed_no_range)
 
 -- the end's own range, as it is said
-record SaysRange (k : ℕ) (turns : List Turn) (packet bytes : List ℕ) (sid seq ident start end state : ℕ) : Type 0 where
+record SaysRange (k : ℕ) (turns : List Utterance) (packet bytes : List ℕ) (sid seq ident start end state : ℕ) : Type 0 where
   of_session : sid_of bytes ≡ sid % 2 ^ 32
   of_ring : ident_of bytes ≡ ident % 2 ^ 64
   range : range_ended k (half_said turns) packet ≡ Some bytes
@@ -98,7 +98,7 @@ record SaysRange (k : ℕ) (turns : List Turn) (packet bytes : List ℕ) (sid se
   ends : end_of bytes ≡ end
   states : state_of bytes ≡ state % 256
 
-says_range : (k n : ℕ) (s : Subtype) (seq ident start end state : ℕ) (link : LinkState) (turns : List Turn) (packet : List ℕ) → subtype_code s ≡ k → seq < 2 ^ 64 → start < 2 ^ 32 → end < 2 ^ 32
+says_range : (k n : ℕ) (s : Subtype) (seq ident start end state : ℕ) (link : LinkState) (turns : List Utterance) (packet : List ℕ) → subtype_code s ≡ k → seq < 2 ^ 64 → start < 2 ^ 32 → end < 2 ^ 32
     → half_said turns ++ link.to_send ≡ canonical (record { subtype = s; sid = n; body = DringData seq ident start end state }) → SaysWhole link turns packet
     → SaysRange k turns packet (half_said turns ++ link.to_send) n seq ident start end state
 says_range k n s seq ident start end state link turns packet kind small_seq small_start small_end is last = grind (arith, sid_is, ident_is, said_some, said_is, seq_is, start_is, end_is, state_is)
@@ -322,21 +322,21 @@ said_ack s l packet opens t sound both told sends =
     rests.stands.link.follows sends.packet)
 
 -- NO OTHER RANGE is heard
-other_none : (k : ℕ) (turns : List Turn) (packet : List ℕ) (message : Message) (hears : HearsMessage turns packet message) → range_in k (Some hears.bytes) ≡ None
+other_none : (k : ℕ) (turns : List Utterance) (packet : List ℕ) (message : Message) (hears : HearsMessage turns packet message) → range_in k (Some hears.bytes) ≡ None
     → range_ended k (half_heard turns) packet ≡ None
 other_none k turns packet message hears none = ap (range_in k) (heard_some turns packet hears.bytes hears.messages) ∙ none
 
 apart : (code k : ℕ) (bytes : List ℕ) → subtype_at bytes ≡ code → k ≢ code → range_in k (Some bytes) ≡ None
 apart code k bytes is other = other_subtype k bytes (λ (same : subtype_at bytes ≡ k). other (sym same ∙ is))
 
-no_message : (turns : List Turn) (packet message : List ℕ) → ended_by (half_heard turns) packet ≡ None → ended_by (half_heard turns) packet ≡ Some message → ⊥
+no_message : (turns : List Utterance) (packet message : List ℕ) → ended_by (half_heard turns) packet ≡ None → ended_by (half_heard turns) packet ≡ Some message → ⊥
 no_message turns packet message none some = let never : None ≡ Some message = sym none ∙ some in absurd (cc)
 
-whole_is : (turns : List Turn) (packet message : List ℕ) (one : Message) (hears : HearsMessage turns packet one) → number_at 2 2 hears.bytes ≢ 0x0101
+whole_is : (turns : List Utterance) (packet message : List ℕ) (one : Message) (hears : HearsMessage turns packet one) → number_at 2 2 hears.bytes ≢ 0x0101
     → ended_by (half_heard turns) packet ≡ Some message → number_at 2 2 message ≢ 0x0101
 whole_is turns packet message one hears not some = grind (arith, heard_some)
 
-client_no_other : (s t : ClientState) (turns : List Turn) (packet : List ℕ) → ClientTook s turns packet t → HearsNoOther 2 turns packet
+client_no_other : (s t : ClientState) (turns : List Utterance) (packet : List ℕ) → ClientTook s turns packet t → HearsNoOther 2 turns packet
 client_no_other s t turns packet (inl part) = record {
   ranges = λ other not. ap (range_in other) (heard_none turns packet part.messages);
   groups = λ message some. absurd (no_message turns packet message (heard_none turns packet part.messages) some);
@@ -357,7 +357,7 @@ client_no_other s t turns packet (inr (inr acked)) = record {
       (data_no_group acked.hears.bytes acked.message acked.ack.seq acked.ack.ident acked.ack.start acked.ack.end acked.ack.state acked.hears.spells acked.ack.body_is) some;
 }
 
-server_no_other : (s t : ServerState) (turns : List Turn) (packet : List ℕ) (opens : Bool) → ServerTook s turns packet t opens → HearsNoOther 1 turns packet
+server_no_other : (s t : ServerState) (turns : List Utterance) (packet : List ℕ) (opens : Bool) → ServerTook s turns packet t opens → HearsNoOther 1 turns packet
 server_no_other s t turns packet opens (inl part) = record {
   ranges = λ other not. ap (range_in other) (heard_none turns packet part.messages);
   groups = λ message some. absurd (no_message turns packet message (heard_none turns packet part.messages) some);

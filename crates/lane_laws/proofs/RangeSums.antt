@@ -2,7 +2,7 @@
 use Rattle.std.proofs.Common.{◌≡◌, ℕ, ◌+◌, ◌≤◌, Bool, true, false, Option, Some, None, List, [], ◌∷◌, ◌++◌, refl, arith}
 use Rattle.std.specs.Prelude.{◌&&◌}
 use Rattle.ldc_queue.specs.Fragments.{Fragment, fragment_at, is_part}
-use Rattle.ldc_queue.specs.Transcript.{Heard as Heard_, Said, Turn}
+use Rattle.ldc_queue.specs.Transcript.{Heard as Heard_, Said, Utterance}
 use Rattle.channel_model.specs.Sayings.{half_heard, half_said, heard, said, whole_by, whole_past}
 use Rattle.channel_model.specs.Messages.{range_ended, range_in, whole_with}
 use Rattle.lane_laws.specs.WorkLog.{length_in, one_in}
@@ -35,22 +35,22 @@ by_end f sum subtype true part half messages none more = by_stop part.stop
     by_stop false = omega (arith, none)
 by_end f sum subtype false part half messages none more = omega (arith, none)
 
-pub sum_said : (slots subtype : ℕ) (packet : List ℕ) (turns : List Turn)
+pub sum_said : (slots subtype : ℕ) (packet : List ℕ) (turns : List Utterance)
     → range_sum slots subtype (said (Said packet ∷ turns)) ≡ range_sum slots subtype (said turns) + length_in slots (range_ended subtype (half_said turns) packet)
 sum_said slots subtype packet turns =
     by_end (length_in slots) (range_sum slots subtype) subtype (is_part packet) (fragment_at packet) (half_said turns) (said turns) refl (sum_more slots subtype)
 
-pub sum_heard : (slots subtype : ℕ) (packet : List ℕ) (turns : List Turn)
+pub sum_heard : (slots subtype : ℕ) (packet : List ℕ) (turns : List Utterance)
     → range_sum slots subtype (heard (Heard_ packet ∷ turns)) ≡ range_sum slots subtype (heard turns) + length_in slots (range_ended subtype (half_heard turns) packet)
 sum_heard slots subtype packet turns =
     by_end (length_in slots) (range_sum slots subtype) subtype (is_part packet) (fragment_at packet) (half_heard turns) (heard turns) refl (sum_more slots subtype)
 
-pub count_said : (subtype : ℕ) (packet : List ℕ) (turns : List Turn)
+pub count_said : (subtype : ℕ) (packet : List ℕ) (turns : List Utterance)
     → range_count subtype (said (Said packet ∷ turns)) ≡ range_count subtype (said turns) + one_in (range_ended subtype (half_said turns) packet)
 count_said subtype packet turns =
     by_end one_in (range_count subtype) subtype (is_part packet) (fragment_at packet) (half_said turns) (said turns) refl (count_more subtype)
 
-pub count_heard : (subtype : ℕ) (packet : List ℕ) (turns : List Turn)
+pub count_heard : (subtype : ℕ) (packet : List ℕ) (turns : List Utterance)
     → range_count subtype (heard (Heard_ packet ∷ turns)) ≡ range_count subtype (heard turns) + one_in (range_ended subtype (half_heard turns) packet)
 count_heard subtype packet turns =
     by_end one_in (range_count subtype) subtype (is_part packet) (fragment_at packet) (half_heard turns) (heard turns) refl (count_more subtype)

@@ -12,7 +12,7 @@ use Rattle.ldc_packet.specs.declared.packet.Subtype.TheVariants.{Ack, Info}
 use Rattle.ldc_queue.specs.declared.end.ChannelState.TheVariants.{Up}
 use Rattle.ldc_queue.specs.declared.end.End.TheVariants.{A, B}
 use Rattle.ldc_queue.specs.OneStream.{IsFront}
-use Rattle.ldc_queue.specs.Transcript.{Said, Turn}
+use Rattle.ldc_queue.specs.Transcript.{Said, Utterance}
 use Rattle.vio_handshake.proofs.Places.{AllSaid, Deal, Place, VersionSaid, handshake_at, message_at}
 use Rattle.vio_handshake.specs.declared.handshake.Handshake.{Handshake}
 use Rattle.vio_handshake.specs.declared.session.Session.{Session}
@@ -148,11 +148,11 @@ other_apart : (m : Message) → IsOther m → IsApart (canonical m)
 other_apart m is = omega (arith, is.code, envelope_reads m.subtype m.sid m.body is.plain)
 
 -- AN END THAT HOLDS a message, at its place
-record HeldAt (role : Role) (d : Deal) (held : EndCore) (turns : List Turn) : Type 0 where
+record HeldAt (role : Role) (d : Deal) (held : EndCore) (turns : List Utterance) : Type 0 where
   stands : EndStands role held turns
   at : is_up held.link ≡ true → AtPlace false d role held.handshake turns
 
-held_at : (role : Role) (d : Deal) (c held : EndCore) (turns : List Turn) → EndStands role c turns → EndWaits c held → (is_up c.link ≡ true → AtPlace false d role c.handshake turns)
+held_at : (role : Role) (d : Deal) (c held : EndCore) (turns : List Utterance) → EndStands role c turns → EndWaits c held → (is_up c.link ≡ true → AtPlace false d role c.handshake turns)
     → HeldAt role d held turns
 held_at role d c held turns stands waits at = record {
   stands = held_stands role c held turns waits.what stands waits.holds;
@@ -160,7 +160,7 @@ held_at role d c held turns stands waits at = record {
       (held_handshake c held waits.what waits.holds) refl refl;
 }
 
-owed_apart : (role : Role) (d : Deal) (held : EndCore) (turns : List Turn) (bytes : List ℕ) → HeldAt role d held turns → CarriesOwed held.handshake.owed bytes → IsApart bytes
+owed_apart : (role : Role) (d : Deal) (held : EndCore) (turns : List Utterance) (bytes : List ℕ) → HeldAt role d held turns → CarriesOwed held.handshake.owed bytes → IsApart bytes
 owed_apart role d held turns bytes here holds = by_turn (here.at (owing_up role held turns holds.message here.stands holds.owed))
   where
     by_turn : AtPlace false d role held.handshake turns → IsApart bytes
@@ -175,17 +175,17 @@ owed_apart role d held turns bytes here holds = by_turn (here.at (owing_up role 
           | inr (inr last) ↦ (some_is_none (owed ∙ owes_none false d role at.place last))
         ]
 
-draft_there : (role : Role) (d : Deal) (held : EndCore) (turns : List Turn) → HeldAt role d held turns → held.is_open ≡ true → held.handshake.draft ≡ (handshake_at false d role AllSaid).draft
+draft_there : (role : Role) (d : Deal) (held : EndCore) (turns : List Utterance) → HeldAt role d held turns → held.is_open ≡ true → held.handshake.draft ≡ (handshake_at false d role AllSaid).draft
 draft_there role d held turns here opened = grind arith
 
 -- THE CLIENT'S OWN is an INFO
-own_data : (shape : Shape) (d : Deal) (held : ClientState) (turns : List Turn) (l : DiskLog) (bytes : List ℕ) → 1 ≤ shape.slots → HeldAt Initiator d (client_core held) turns
+own_data : (shape : Shape) (d : Deal) (held : ClientState) (turns : List Utterance) (l : DiskLog) (bytes : List ℕ) → 1 ≤ shape.slots → HeldAt Initiator d (client_core held) turns
     → ClientCounted shape held turns l.work.done l.work.client → OwnInfo held bytes
     → IsData Initiator shape.slots d.sid (range_count 1 (said turns)) (range_sum shape.slots 1 (said turns)) bytes
 own_data shape d held turns l bytes some here counted info = grind arith
 
 -- THE SERVER'S is the answer to its range
-answer_data : (shape : Shape) (d : Deal) (held : ServerState) (turns : List Turn) (bytes : List ℕ) (c : ServerCounts) → IsShape shape → HeldAt Responder d (server_core held) turns
+answer_data : (shape : Shape) (d : Deal) (held : ServerState) (turns : List Utterance) (bytes : List ℕ) (c : ServerCounts) → IsShape shape → HeldAt Responder d (server_core held) turns
     → ServerCounted shape held turns (Some c) → HoldsAnswer held bytes
     → IsData Responder shape.slots d.sid (range_count 2 (said turns)) (range_sum shape.slots 2 (said turns)) bytes
 answer_data shape d held turns bytes c sound here counted a =

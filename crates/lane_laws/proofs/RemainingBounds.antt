@@ -3,7 +3,7 @@ use Rattle.std.proofs.Common.{◌≡◌, ℕ, ◌+◌, ◌*◌, ◌<◌, Bool, t
 use Rattle.ldc_queue.specs.declared.end.ChannelState.TheVariants.{Up}
 use Rattle.ldc_queue.specs.declared.end.End.{End}
 use Rattle.ldc_queue.specs.declared.end.End.TheVariants.{A, B}
-use Rattle.ldc_queue.specs.Transcript.{Turn}
+use Rattle.ldc_queue.specs.Transcript.{Utterance}
 use Rattle.ldc_queue.specs.Wire.{Wire}
 use Rattle.ldc_link.specs.declared.phase.Role.TheVariants.{Initiator, Responder}
 use Rattle.channel_model.specs.TranscriptLog.{TranscriptLog}
@@ -30,7 +30,7 @@ pub fresh_remains : (shape : Shape) → remaining (fresh shape) ≡ 36
 fresh_remains shape = omega arith
 
 -- THE CLIENT is reset, which was up
-begins_a : (w : Wire) (lossy : Bool) (c : ClientState) (v : ServerState) (turns : List Turn) → EndStands Initiator (client_core c) turns → w.end_a ≡ Up
+begins_a : (w : Wire) (lossy : Bool) (c : ClientState) (v : ServerState) (turns : List Utterance) → EndStands Initiator (client_core c) turns → w.end_a ≡ Up
     → left (joined_a w.end_a w) (lossy_behind w.end_a lossy) (joined_client c) v ≡ 35 + 16 * length c.pending
 begins_a w lossy c v turns stands up = grind arith
 

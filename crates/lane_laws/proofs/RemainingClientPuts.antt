@@ -6,7 +6,7 @@ use Rattle.ldc_link.specs.declared.phase.LinkPhase.{LinkPhase}
 use Rattle.ldc_link.specs.declared.phase.Role.TheVariants.{Initiator}
 use Rattle.ldc_link.specs.LinkState.{LinkState}
 use Rattle.ldc_queue.specs.declared.end.ChannelState.TheVariants.{Up}
-use Rattle.ldc_queue.specs.Transcript.{Turn}
+use Rattle.ldc_queue.specs.Transcript.{Utterance}
 use Rattle.vio_handshake.specs.Rules.{opens_by_put}
 use Rattle.disk_model.specs.ClientPutting.{announced, client_holds, client_kind, client_put, is_announcing, opened_if, session_behind}
 use Rattle.disk_model.specs.ClientRule.{Announces, ClientRule, Completes, Publishes, client_rule}
@@ -73,7 +73,7 @@ abbrev begun_by : ClientRule → ℕ
 begun_by (Announces session) = 1
 begun_by _ = 0
 
-holds_spend : (s : ClientState) (at : Seen) (rule : ClientRule) (held : ClientState) (turns : List Turn) → ClientMay s at rule → client_holds rule s ≡ Some held → ClientSound s
+holds_spend : (s : ClientState) (at : Seen) (rule : ClientRule) (held : ClientState) (turns : List Utterance) → ClientMay s at rule → client_holds rule s ≡ Some held → ClientSound s
     → EndStands Initiator (client_core s) turns → ClientSpends (begun_by rule) 0 s held
 holds_spend s at rule held turns may holds sound stands = grind arith
 
@@ -107,12 +107,12 @@ shut_none : (open_one : Option ClientSession) → is_some open_one ≡ false →
 shut_none None shut = refl
 shut_none (Some session) shut = absurd (cc shut)
 
-put_spends : (c : ClientState) (turns : List Turn) → ClientSound c → EndStands Initiator (client_core c) turns → ClientSpends 0 0 c (client_put c)
+put_spends : (c : ClientState) (turns : List Utterance) → ClientSound c → EndStands Initiator (client_core c) turns → ClientSpends 0 0 c (client_put c)
 put_spends c turns sound stands =
     kind_spends (client_kind c) c (own_in_kind c.link.phase c.link (is_announcing c.session))
     (λ opens. shut_none c.session (stands.opened ∙ (opening_shut c.handshake.role c.handshake.phase opens).1)) sound.counts
 
-pub blocked_falls : (s : ClientState) (at : Seen) (held : ClientState) (turns : List Turn) → client_holds (client_rule s at) s ≡ Some held → ClientSound s
+pub blocked_falls : (s : ClientState) (at : Seen) (held : ClientState) (turns : List Utterance) → client_holds (client_rule s at) s ≡ Some held → ClientSound s
     → EndStands Initiator (client_core s) turns → ClientFalls 0 0 s held
 blocked_falls s at held turns holds sound stands =
     let may = client_may s at in
@@ -127,7 +127,7 @@ blocked_falls s at held turns holds sound stands =
       spends = holds_spend s at (client_rule s at) held turns may holds sound stands;
     }
 
-pub sends_falls : (s : ClientState) (at : Seen) (memory packet : List ℕ) (opens : Bool) (t : ClientState) (new : List ℕ) (turns : List Turn) → ClientSends s at memory packet opens t new
+pub sends_falls : (s : ClientState) (at : Seen) (memory packet : List ℕ) (opens : Bool) (t : ClientState) (new : List ℕ) (turns : List Utterance) → ClientSends s at memory packet opens t new
     → ClientSound s → EndStands Initiator (client_core s) turns → ClientFalls 1 0 s t
 sends_falls s at memory packet opens t new turns sends sound stands =
     let may = client_may s at in

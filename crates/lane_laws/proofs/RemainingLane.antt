@@ -4,7 +4,7 @@ use Rattle.ldc_link.specs.declared.phase.Role.TheVariants.{Initiator, Responder}
 use Rattle.ldc_queue.specs.declared.end.ChannelState.{ChannelState}
 use Rattle.ldc_queue.specs.declared.end.ChannelState.TheVariants.{Up}
 use Rattle.ldc_queue.specs.declared.end.End.TheVariants.{A, B}
-use Rattle.ldc_queue.specs.Transcript.{Turn}
+use Rattle.ldc_queue.specs.Transcript.{Utterance}
 use Rattle.ldc_queue.specs.Wire.{Wire, configured, peer_behind, put_for, queue_behind}
 use Rattle.channel_model.specs.WireEvent.{Joined, Sent, WireEvent}
 use Rattle.channel_model.specs.WireLog.{lossy_behind, wire_moved}
@@ -53,10 +53,10 @@ server_puts_one : (w : Wire) (lossy : Bool) (c : ClientState) (v u : ServerState
 server_puts_one w lossy c v u packet up lower = grind (arith, length-append)
 
 -- AN END JOINS: one that isn't up counts as one that begins
-pub begun_answers : (v : ServerState) (turns : List Turn) → EndStands Responder (server_core v) turns → server_packets (joined_server v) ≡ 8
+pub begun_answers : (v : ServerState) (turns : List Utterance) → EndStands Responder (server_core v) turns → server_packets (joined_server v) ≡ 8
 begun_answers v turns stands = search
 
-pub begun_server : (v : ServerState) (turns : List Turn) → EndStands Responder (server_core v) turns → server_left Up (joined_server v) ≡ 16
+pub begun_server : (v : ServerState) (turns : List Utterance) → EndStands Responder (server_core v) turns → server_left Up (joined_server v) ≡ 16
 begun_server v turns stands = omega (arith, begun_answers v turns stands)
 
 abbrev pub joined_a : ChannelState → Wire → Wire
@@ -65,11 +65,11 @@ joined_a x w = record { end_a = Up; end_b = peer_behind x w.end_b; to_a = queue_
 abbrev pub joined_b : ChannelState → Wire → Wire
 joined_b x w = record { end_a = peer_behind x w.end_a; end_b = Up; to_a = queue_behind x w.to_a; to_b = queue_behind x w.to_b }
 
-client_joins : (e : ChannelState) (w : Wire) (lossy : Bool) (c : ClientState) (v : ServerState) (turns : List Turn) → EndStands Initiator (client_core c) turns → w.end_a ≡ e → w.end_a ≢ Up
+client_joins : (e : ChannelState) (w : Wire) (lossy : Bool) (c : ClientState) (v : ServerState) (turns : List Utterance) → EndStands Initiator (client_core c) turns → w.end_a ≡ e → w.end_a ≢ Up
     → left (joined_a w.end_a w) (lossy_behind w.end_a lossy) (joined_client c) v + 1 ≤ left w lossy c v
 client_joins e w lossy c v turns stands is down = grind arith
 
-server_joins : (e : ChannelState) (w : Wire) (lossy : Bool) (c : ClientState) (v : ServerState) (turns : List Turn) → EndStands Responder (server_core v) turns → w.end_b ≡ e → w.end_b ≢ Up
+server_joins : (e : ChannelState) (w : Wire) (lossy : Bool) (c : ClientState) (v : ServerState) (turns : List Utterance) → EndStands Responder (server_core v) turns → w.end_b ≡ e → w.end_b ≢ Up
     → left (joined_b w.end_b w) (lossy_behind w.end_b lossy) c (joined_server v) + 1 ≤ left w lossy c v
 server_joins e w lossy c v turns stands is down = grind arith
 

@@ -2,7 +2,7 @@
 use Rattle.std.proofs.Common.{◌≡◌, ℕ, ◌+◌, ◌*◌, ◌≤◌, Bool, Option, Some, None, List, refl, ap, ◌∙◌, arith}
 use Rattle.ldc_link.specs.declared.phase.Role.TheVariants.{Responder}
 use Rattle.ldc_queue.specs.declared.end.ChannelState.TheVariants.{Up}
-use Rattle.ldc_queue.specs.Transcript.{Turn}
+use Rattle.ldc_queue.specs.Transcript.{Utterance}
 use Rattle.channel_model.specs.EndPuts.{EndsOwn, PutKind}
 use Rattle.channel_model.specs.Seeing.{Seen}
 use Rattle.disk_model.specs.ServerPutting.{server_holds, server_kind, session_behind}
@@ -43,7 +43,7 @@ held_work s rule held holds =
 same_serving : (s held : ServerState) → SameWork s held → serving_left held.work held.session ≡ serving_left s.work s.session
 same_serving s held same = ap (λ (w : Option Work). serving_left w held.session) same.work ∙ ap (serving_left s.work) same.session
 
-pub blocked_falls : (s : ServerState) (at : Seen) (held : ServerState) (turns : List Turn) → server_holds (server_rule s at) s ≡ Some held → EndStands Responder (server_core s) turns
+pub blocked_falls : (s : ServerState) (at : Seen) (held : ServerState) (turns : List Utterance) → server_holds (server_rule s at) s ≡ Some held → EndStands Responder (server_core s) turns
     → ServerFalls 0 s held
 blocked_falls s at held turns holds stands =
     let same = held_work s (server_rule s at) held holds in
@@ -63,7 +63,7 @@ answered_serving : (kind : PutKind) (work : Option Work) (session : Option Serve
 answered_serving EndsOwn work None = refl
 answered_serving _ work _ = refl
 
-pub sends_falls : (s : ServerState) (at : Seen) (packet : List ℕ) (opens : Bool) (t : ServerState) (turns : List Turn) → ServerSends s at packet opens t
+pub sends_falls : (s : ServerState) (at : Seen) (packet : List ℕ) (opens : Bool) (t : ServerState) (turns : List Utterance) → ServerSends s at packet opens t
     → EndStands Responder (server_core s) turns → ServerFalls 1 s t
 sends_falls s at packet opens t turns sends stands =
     let says = server_says s at packet opens t sends in

@@ -1,7 +1,7 @@
 -- A server that takes a packet, where its end has no more to put than before: it asks for nothing, or the server is asked for a range.
 use Rattle.std.proofs.Common.{◌≡◌, ℕ, ◌^◌, ◌+◌, ◌-◌, ◌*◌, ◌%◌, ◌≤◌, ◌<◌, Bool, true, false, Option, Some, None, List, refl, sym, ap, ◌∙◌, arith, inl, inr}
 use Rattle.std.specs.Prelude.{◌&&◌, is_none}
-use Rattle.ldc_queue.specs.Transcript.{Turn}
+use Rattle.ldc_queue.specs.Transcript.{Utterance}
 use Rattle.channel_model.specs.Ranges.{wrapped}
 use Rattle.dring.specs.Slots.{range_length}
 use Rattle.disk_model.specs.ServerState.{ServerSession, ServerState, SlotRange, Work, opened_server}
@@ -13,7 +13,7 @@ use Rattle.lane_laws.proofs.ServerTaken.{ServerAsked, ServerTook}
 use Rattle.lane_laws.specs.Budget.{one_range, range_left}
 use Rattle.lane_laws.specs.ChannelEnds.{server_core}
 use Rattle.lane_laws.specs.Remaining.{asked_in, server_packets, serving_left, unfinished, work_left}
-use Rattle.lane_laws.specs.RemainingSteps.{ServerIsAsked, ServerTurn}
+use Rattle.lane_laws.specs.RemainingSteps.{ServerIsAsked, ServerHeard}
 use Rattle.lane_laws.proofs.ServerMoves.{answers_less}
 
 packets_most : (s t : ServerState) (ranges : ℕ) → packets_left (server_core t) ≤ packets_left (server_core s) → range_left t.session ≡ ranges → server_packets t ≤ server_packets s + ranges
@@ -77,9 +77,9 @@ asked_for most s t session next is now finished work packets asks =
     sums now was behind before is same rises = omega (arith, is, same, rises)
 
 -- THE PACKET
-pub server_turns : (most : ℕ) (s t : ServerState) (turns : List Turn) (packet : List ℕ) (opens : Bool) → TakesFree s → packets_left (server_core t) ≤ packets_left (server_core s)
+pub server_turns : (most : ℕ) (s t : ServerState) (turns : List Utterance) (packet : List ℕ) (opens : Bool) → TakesFree s → packets_left (server_core t) ≤ packets_left (server_core s)
     → (opens ≡ true → (s.session ≡ None) × (s.work ≡ None))
-    → (ServerAsked s turns packet t opens → (asked_in s.session < asked_in t.session) × (asked_in t.session ≤ most)) → ServerTook s turns packet t opens → ServerTurn most s t
+    → (ServerAsked s turns packet t opens → (asked_in s.session < asked_in t.session) × (asked_in t.session ≤ most)) → ServerTook s turns packet t opens → ServerHeard most s t
 server_turns most s t turns packet opens free packets opened asks (inl part) = inl (record {
   packets = omega (arith, packets_most s t 0 packets (ap (λ (v : ServerState). range_left v.session) part.is ∙ no_range s.session free.range));
   asked = ap (λ (v : ServerState). asked_in v.session) part.is;

@@ -19,7 +19,7 @@ use Rattle.lane_laws.proofs.RemainingLane.{falls_is, left}
 use Rattle.lane_laws.proofs.LaneViews.{at_client, at_server}
 use Rattle.lane_laws.proofs.Ruling.{client_may, server_may}
 use Rattle.lane_laws.specs.Remaining.{remaining}
-use Rattle.lane_laws.specs.RemainingSteps.{ServerHears, ServerIsAsked, ServerTurn, total_at}
+use Rattle.lane_laws.specs.RemainingSteps.{ServerHears, ServerIsAsked, ServerHeard, total_at}
 use Rattle.lane_laws.specs.RuleFacts.{ClientMay, ServerMay}
 
 -- a packet that waits is one more
@@ -42,7 +42,7 @@ server_is_asked : (w : Wire) (lossy : Bool) (c : ClientState) (v u : ServerState
 server_is_asked w lossy c v u packet count up first asks = grind arith
 
 server_took : (w : Wire) (lossy : Bool) (c : ClientState) (v u : ServerState) (packet : List ℕ) → w.end_b ≡ Up → slice_get w.to_b 0 ≡ Some packet
-    → ServerTurn (total_at w.end_a c) v u → left (taken_for B w) lossy c u + 1 ≤ left w lossy c v
+    → ServerHeard (total_at w.end_a c) v u → left (taken_for B w) lossy c u + 1 ≤ left w lossy c v
 server_took w lossy c v u packet up first (inl hears) = server_hears w lossy c v u packet up first hears
 server_took w lossy c v u packet up first (inr asks) = server_is_asked w lossy c v u packet asks.0 up first asks.1
 
@@ -54,7 +54,7 @@ client_took_falls s packet opens t lower step =
     falls_is s t (record s { wire = wire_moved s.wire (Took A packet opens); client = t.client; memory = t.memory; near = s.near }) step.is
     (client_took s.wire.wire s.wire.lossy s.client t.client s.server packet may.0 may.1 lower)
 
-pub server_took_falls : (s : LaneState) (packet : List ℕ) (opens : Bool) (t : LaneState) → ServerTurn (total_at s.wire.wire.end_a s.client) s.server t.server
+pub server_took_falls : (s : LaneState) (packet : List ℕ) (opens : Bool) (t : LaneState) → ServerHeard (total_at s.wire.wire.end_a s.client) s.server t.server
     → LaneStep s (OnWire (Took B packet opens)) t → remaining t + 1 ≤ remaining s
 server_took_falls s packet opens t turn step =
     let may : ServerMay s.server (at_server s) (server_rules.Takes packet) = subst (ServerMay s.server (at_server s)) step.1.step.1.0 (server_may s.server (at_server s)) in

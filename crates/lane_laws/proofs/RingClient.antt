@@ -2,7 +2,7 @@
 -- opens.
 use Rattle.std.proofs.Common.{◌≡◌, ℕ, ◌*◌, ◌<◌, ◌≤◌, List, [], ◌∷◌, length, None, inr, refl, ap, ◌∙◌, arith}
 use Rattle.std.specs.Prelude.{drop, slice_index}
-use Rattle.dring.proofs.Turning.{one_slot_front, slot_cleared, slot_front, slot_reads_back}
+use Rattle.dring.proofs.Laps.{one_slot_front, slot_cleared, slot_front, slot_reads_back}
 use Rattle.dring.specs.Slots.{free_slots, free_state, slot_bytes}
 use Rattle.vdisk_msg.proofs.Repeated.{length-repeated}
 use Rattle.vdisk_msg.proofs.Written.{is_admitted}

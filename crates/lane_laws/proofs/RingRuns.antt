@@ -6,7 +6,7 @@ use Rattle.std.proofs.lemmas.List.{drop-replicate, length-replicate, take-replic
 use Rattle.std.proofs.lemmas.Option.{slice_get_within}
 use Rattle.cookie_copy.specs.Identity.{IsIdentity}
 use Rattle.cookie_copy.specs.declared.fault.CopyFault.{CopyFault}
-use Rattle.dring.proofs.Turning.{slot_fits}
+use Rattle.dring.proofs.Laps.{slot_fits}
 use Rattle.dring.specs.Slots.{slot_bytes}
 use Rattle.map_table.specs.declared.table.Entry.{Entry}
 use Rattle.vdisk_msg.specs.Check.{first_defect}

@@ -3,7 +3,7 @@
 use Rattle.std.proofs.Common.{◌≡◌, ℕ, ◌+◌, ◌*◌, ◌<◌, ◌≤◌, true, List, length, None, inl, inr, refl, sym, ap, ◌∙◌, subst, arith}
 use Rattle.cookie_copy.specs.Identity.{IsIdentity}
 use Rattle.cookie_copy.specs.declared.fault.Access.TheVariants as access
-use Rattle.dring.proofs.Turning.{one_slot_put, slot_put}
+use Rattle.dring.proofs.Laps.{one_slot_put, slot_put}
 use Rattle.dring.specs.Slots.{OneSlot, slot_bytes}
 use Rattle.vdisk_msg.specs.Descriptor.{canonical}
 use Rattle.vdisk_msg.specs.declared.desc.DiskDesc.{DiskDesc}

@@ -24,7 +24,7 @@ pub of_client : (s : LaneState) (l : DiskLog) (c : ClientSession) → s.client.s
 of_client s l c is agree = of_client_if s.client.session l.work.done l.work.client c is agree.client
 
 -- what is published is within one turn behind what is done
-pub record RingTurn (k : ClientCounts) (done slots : ℕ) : Type 0 where
+pub record WithinRing (k : ClientCounts) (done slots : ℕ) : Type 0 where
   pub based : k.base ≤ done
   pub turn : k.base + k.published ≤ done + slots
 

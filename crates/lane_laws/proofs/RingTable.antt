@@ -3,7 +3,7 @@ use Rattle.std.proofs.Common.{◌≡◌, ◌≢◌, ℕ, ◌+◌, ◌-◌, ◌%�
 use Rattle.std.specs.Prelude.{slice_get, slice_index, zero, suc, replicate}
 use Rattle.std.proofs.lemmas.List.{length-set}
 use Rattle.std.proofs.lemmas.Option.{slice_get_within}
-use Rattle.dring.proofs.Turning.{one_turn}
+use Rattle.dring.proofs.Laps.{one_turn}
 use Rattle.dring.specs.Slots.{OneSlot, free_state, slot_bytes}
 use Rattle.vdisk_msg.specs.declared.request.Request.{Request}
 use Rattle.lane_laws.specs.RingLog.{Free, SlotLog}

@@ -27,7 +27,7 @@ use Rattle.disk_model.specs.ServerRule as server_rules
 use Rattle.disk_model.specs.ServerState.{ServerSession}
 use Rattle.disk_model.specs.ServerWork.{header_of, slot_fetched, with_word}
 use Rattle.lane_laws.proofs.RingServer.{Reaches, header_long, writes_word}
-use Rattle.lane_laws.proofs.RingSessions.{OfServer, RingTurn, of_server, one_ring, sizes_of, unwrapped}
+use Rattle.lane_laws.proofs.RingSessions.{OfServer, WithinRing, of_server, one_ring, sizes_of, unwrapped}
 use Rattle.lane_laws.proofs.RingTable.{each_set, got_same, id_is, set_holds, some_entry}
 use Rattle.lane_laws.proofs.RingWrites.{ring_fetched}
 use Rattle.lane_laws.proofs.Ruling.{server_may}
@@ -58,7 +58,7 @@ memory_is s l known = known.memory.long ∙ ap memory_long (slots_is s l known.s
 pub some_slots : (s : LaneState) (l : DiskLog) → Known s l → 1 ≤ l.shape.slots
 some_slots s l known = omega (arith, slots_is s l known.stands, known.memory.some)
 
-pub turn_in : (s : LaneState) (l : DiskLog) (k : ClientCounts) → Known s l → l.work.client ≡ Some k → RingTurn k l.work.done l.shape.slots
+pub turn_in : (s : LaneState) (l : DiskLog) (k : ClientCounts) → Known s l → l.work.client ≡ Some k → WithinRing k l.work.done l.shape.slots
 turn_in s l k known is = grind arith
 
 pub ids_in : (s : LaneState) (l : DiskLog) (k : ClientCounts) → Known s l → l.work.client ≡ Some k → IdsStand l.shape.slots l.work.done l.ring (Some k)

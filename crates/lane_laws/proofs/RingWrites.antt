@@ -8,7 +8,7 @@ use Rattle.cookie_copy.specs.declared.fault.CopyFault.{CopyFault}
 use Rattle.cookie_copy.specs.Faults.{first_copy_fault, held, is_aligned, is_aligned_cookie}
 use Rattle.cookie_copy.specs.Identity.{IsIdentity, copied_in, copied_out}
 use Rattle.cookie_copy.specs.Moved.{moved_out}
-use Rattle.dring.proofs.Turning.{slot_fits}
+use Rattle.dring.proofs.Laps.{slot_fits}
 use Rattle.dring.specs.Slots.{OneSlot, slot_bytes}
 use Rattle.map_table.specs.declared.cookie.Cookie.{Cookie}
 use Rattle.vdisk_msg.specs.Requested.{buffer_cookies, cookie_count, ring_pages}

@@ -3,7 +3,7 @@ use Rattle.std.proofs.Common.{◌≡◌, ℕ, ◌+◌, inl, inr, Bool, true, fal
 use Rattle.std.specs.Prelude.{is_some}
 use Rattle.ldc_link.specs.declared.phase.Role.TheVariants.{Responder}
 use Rattle.ldc_link.specs.LinkState.{LinkState, is_up}
-use Rattle.ldc_queue.specs.Transcript.{Heard as Heard_, Turn}
+use Rattle.ldc_queue.specs.Transcript.{Heard as Heard_, Utterance}
 use Rattle.vio_handshake.specs.declared.handshake.Handshake.{Handshake}
 use Rattle.vio_handshake.specs.declared.handshake.Phase.{Phase}
 use Rattle.vio_handshake.specs.declared.handshake.Phase.TheVariants.{Open}
@@ -29,18 +29,18 @@ use Rattle.vio_tag.specs.declared.message.Message.{Message}
 use Rattle.lane_laws.specs.LaneRests.{ServerRests, ServerUtters}
 
 -- IT BEGINS
-pub server_begins_counting : (shape : Shape) (v : ServerState) (turns : List Turn) (d : Option ServerCounts) → ServerCounted shape v turns d → ServerCounted shape (joined_server v) [] None
+pub server_begins_counting : (shape : Shape) (v : ServerState) (turns : List Utterance) (d : Option ServerCounts) → ServerCounted shape v turns d → ServerCounted shape (joined_server v) [] None
 server_begins_counting shape v turns d counted = grind arith
 
-pub server_restarts_counting : (shape : Shape) (v : ServerState) (turns : List Turn) (d : Option ServerCounts) → ServerCounted shape v turns d → ServerCounted shape (restarted_server v) [] None
+pub server_restarts_counting : (shape : Shape) (v : ServerState) (turns : List Utterance) (d : Option ServerCounts) → ServerCounted shape v turns d → ServerCounted shape (restarted_server v) [] None
 server_restarts_counting shape v turns d counted = grind arith
 
 -- THE LOG counts what is heard
-abbrev asks_more : Shape → List Turn → List ℕ → Option ServerCounts → Option ServerCounts
+abbrev asks_more : Shape → List Utterance → List ℕ → Option ServerCounts → Option ServerCounts
 asks_more shape turns packet d = change_server (λ (c : ServerCounts). record c { asked = c.asked + length_in shape.slots (range_ended 1 (half_heard turns) packet) }) d
 
 -- where no range is heard
-order_same : (shape : Shape) (o : Option ServerSession) (d : Option ServerCounts) (turns : List Turn) (packet : List ℕ)
+order_same : (shape : Shape) (o : Option ServerSession) (d : Option ServerCounts) (turns : List Utterance) (packet : List ℕ)
     → range_sum shape.slots 1 (heard (Heard_ packet ∷ turns)) ≡ range_sum shape.slots 1 (heard turns)
     → range_count 1 (heard (Heard_ packet ∷ turns)) ≡ range_count 1 (heard turns) → ServerOrder shape.slots o d turns
     → ServerOrder shape.slots o (asks_more shape turns packet d) (Heard_ packet ∷ turns)
@@ -50,11 +50,11 @@ agrees_same : (o : Option ServerSession) (w : Option Work) (d : Option ServerCou
     → ServerAgrees o w (change_server (λ (c : ServerCounts). record c { asked = c.asked + n }) d)
 agrees_same o w d n none agrees = grind arith
 
-abbrev Behind : Shape → List Turn → List ℕ → ℕ → Option ServerCounts → Bool → ServerState → Type 0
+abbrev Behind : Shape → List Utterance → List ℕ → ℕ → Option ServerCounts → Bool → ServerState → Type 0
 Behind shape turns packet sid d opens t = ServerCounted shape t (Heard_ packet ∷ turns) (opened_counts opens sid (asks_more shape turns packet d))
 
 -- IT TAKES a packet: a part of a message, or one of its link's handshake, with which the link may come up
-holds_risen : (b : Bool) (v : ServerState) (k : LinkState) (turns : List Turn) → is_up v.link ≡ b → k.to_send ≡ v.link.to_send → (is_up v.link ≡ false → v.link.to_send ≡ []) → ServerHolds v turns
+holds_risen : (b : Bool) (v : ServerState) (k : LinkState) (turns : List Utterance) → is_up v.link ≡ b → k.to_send ≡ v.link.to_send → (is_up v.link ≡ false → v.link.to_send ≡ []) → ServerHolds v turns
     → ServerHolds (record v { link = k; handshake = handshake_risen v.link k v.handshake }) turns
 holds_risen false v k turns is left idle holds = λ owing some. absurd (omega (arith, some, ap length left, ap length (idle is)))
 holds_risen true v k turns is left idle holds =
@@ -71,7 +71,7 @@ holds_risen true v k turns is left idle holds =
       bytes_are = ap (λ (xs : List ℕ). half_said turns ++ xs) left ∙ answer.bytes_are;
     })
 
-takes_part : (shape : Shape) (v t : ServerState) (turns : List Turn) (packet : List ℕ) (sid : ℕ) (d : Option ServerCounts) (opens : Bool) → ServerUtters v turns → ServerCounted shape v turns d
+takes_part : (shape : Shape) (v t : ServerState) (turns : List Utterance) (packet : List ℕ) (sid : ℕ) (d : Option ServerCounts) (opens : Bool) → ServerUtters v turns → ServerCounted shape v turns d
     → ServerHearsPart v turns packet t opens → Behind shape turns packet sid d opens t
 takes_part shape v t turns packet sid d opens utters counted part =
     let same : range_sum shape.slots 1 (heard (Heard_ packet ∷ turns)) ≡ range_sum shape.slots 1 (heard turns) = ap (range_sum shape.slots 1) part.messages in
@@ -97,7 +97,7 @@ closed (Some session) phase opened never = absurd (never (opened refl))
 pub no_work : (o : Option ServerSession) (w : Option Work) (d : Option ServerCounts) → o ≡ None → ServerAgrees o w d → w ≡ None
 no_work o w d is agrees = grind arith
 
-nothing_asked : (slots : ℕ) (o : Option ServerSession) (d : Option ServerCounts) (turns : List Turn) → o ≡ None → ServerOrder slots o d turns → NothingAsked slots turns
+nothing_asked : (slots : ℕ) (o : Option ServerSession) (d : Option ServerCounts) (turns : List Utterance) → o ≡ None → ServerOrder slots o d turns → NothingAsked slots turns
 nothing_asked slots None d turns is order = order
 nothing_asked slots (Some s) d turns is order = absurd (cc is)
 
@@ -107,11 +107,11 @@ opened_work None sid is = (refl, refl)
 opened_work (Some work) sid is = absurd (cc is)
 
 -- a message of the handshake is no INFO
-no_more_infos : (turns : List Turn) (packet : List ℕ) (message : Message) → (hears : HearsMessage turns packet message) → IsNoData message.body
+no_more_infos : (turns : List Utterance) (packet : List ℕ) (message : Message) → (hears : HearsMessage turns packet message) → IsNoData message.body
     → range_count 1 (heard (Heard_ packet ∷ turns)) ≡ range_count 1 (heard turns)
 no_more_infos turns packet message hears apart = grind (arith, count_more)
 
-takes_handshake : (opens : Bool) (shape : Shape) (v t : ServerState) (turns : List Turn) (packet : List ℕ) (sid : ℕ) (d : Option ServerCounts) → ServerRests v turns → TakesFree v
+takes_handshake : (opens : Bool) (shape : Shape) (v t : ServerState) (turns : List Utterance) (packet : List ℕ) (sid : ℕ) (d : Option ServerCounts) → ServerRests v turns → TakesFree v
     → ServerCounted shape v turns d → ServerHandshakes v turns packet t opens → Behind shape turns packet sid d opens t
 takes_handshake false shape v t turns packet sid d rests free counted handshakes =
     let bytes = handshakes.hears.bytes in
@@ -169,16 +169,16 @@ pub wraps_more : (a b n : ℕ) → a ≡ wrapped b → wrapped (a + n) ≡ wrapp
 wraps_more a b n is = omega (arith, is)
 
 -- in session the server's ring has as many slots as the lane's
-pub own_slots : (shape : Shape) (v : ServerState) (turns : List Turn) (d : Option ServerCounts) → ServerRests v turns → is_some v.session ≡ true → ServerCounted shape v turns d
+pub own_slots : (shape : Shape) (v : ServerState) (turns : List Utterance) (d : Option ServerCounts) → ServerRests v turns → is_some v.session ≡ true → ServerCounted shape v turns d
     → v.handshake.draft.peer_slots ≡ shape.slots
 own_slots shape v turns d rests now counted =
     rests.fits.ring refl (ap (has_named Responder) (rests.opened now)) ∙ counted.slots
 
-takes_ask : (shape : Shape) (v t : ServerState) (turns : List Turn) (packet : List ℕ) (sid : ℕ) (d : Option ServerCounts) (opens : Bool) → ServerRests v turns → TakesFree v
+takes_ask : (shape : Shape) (v t : ServerState) (turns : List Utterance) (packet : List ℕ) (sid : ℕ) (d : Option ServerCounts) (opens : Bool) → ServerRests v turns → TakesFree v
     → ServerCounted shape v turns d → ServerAsked v turns packet t opens → Behind shape turns packet sid d opens t
 takes_ask shape v t turns packet sid d opens rests free counted asks = grind (arith, sum_heard, sum_more, count_more)
 
-pub server_takes_counting : (shape : Shape) (v t : ServerState) (turns : List Turn) (packet : List ℕ) (sid : ℕ) (d : Option ServerCounts) (opens : Bool) → ServerRests v turns → ServerUtters v turns
+pub server_takes_counting : (shape : Shape) (v t : ServerState) (turns : List Utterance) (packet : List ℕ) (sid : ℕ) (d : Option ServerCounts) (opens : Bool) → ServerRests v turns → ServerUtters v turns
     → TakesFree v → ServerCounted shape v turns d → ServerTook v turns packet t opens
     → ServerCounted shape t (Heard_ packet ∷ turns) (opened_counts opens sid (asks_more shape turns packet d))
 server_takes_counting shape v t turns packet sid d opens rests utters free counted (inl part) = takes_part shape v t turns packet sid d opens utters counted part
@@ -186,5 +186,5 @@ server_takes_counting shape v t turns packet sid d opens rests utters free count
 server_takes_counting shape v t turns packet sid d opens rests utters free counted (inr (inr asks)) = takes_ask shape v t turns packet sid d opens rests free counted asks
 
 -- its session opens where it had none
-pub opens_new : (v t : ServerState) (turns : List Turn) (packet : List ℕ) → ServerRests v turns → ServerTook v turns packet t true → v.session ≡ None
+pub opens_new : (v t : ServerState) (turns : List Utterance) (packet : List ℕ) → ServerRests v turns → ServerTook v turns packet t true → v.session ≡ None
 opens_new v t turns packet rests took = grind arith

@@ -2,7 +2,7 @@
 use Rattle.std.proofs.Common.{◌≡◌, ◌≢◌, ℕ, ◌+◌, ◌≤◌, Bool, true, false, Option, Some, None, List, ◌∷◌, refl, sym, ap, ◌∙◌, subst, arith}
 use Rattle.std.specs.Prelude.{is_none, is_some, ◌==◌}
 use Rattle.std.proofs.lemmas.Bool.Decides.{nat_tests}
-use Rattle.ldc_queue.specs.Transcript.{Said, Turn}
+use Rattle.ldc_queue.specs.Transcript.{Said, Utterance}
 use Rattle.vdisk_msg.specs.Descriptor.{disk_desc_of}
 use Rattle.vdisk_msg.specs.Pieces.{pieces}
 use Rattle.lane_laws.specs.Agreement.{ServerAgrees, ServerCountsAgree, WorkAgrees}
@@ -42,7 +42,7 @@ range_fetched slots blocks bytes (Some range) c stands = stands
 wraps_one : (a b : ℕ) → a ≡ wrapped b → wrapped (a + 1) ≡ wrapped (b + 1)
 wraps_one a b is = omega (arith, is)
 
-fetched_both : (slots blocks : ℕ) (o : Option ServerSession) (w : Option Work) (d : Option ServerCounts) (turns : List Turn) (session : ServerSession) (bytes : List ℕ)
+fetched_both : (slots blocks : ℕ) (o : Option ServerSession) (w : Option Work) (d : Option ServerCounts) (turns : List Utterance) (session : ServerSession) (bytes : List ℕ)
     → o ≡ Some session → w ≡ None → (session.finished == session.asked) ≡ false → ServerOrder slots o d turns → ServerAgrees o w d
     → ServerOrder slots (Some (record session { descs = wrapped (session.descs + 1) })) (change_server (fetched_log blocks bytes) d) turns
     × ServerAgrees (Some (record session { descs = wrapped (session.descs + 1) })) (Some (record { bytes = bytes; progress = first_progress blocks (disk_desc_of bytes) }))
@@ -69,7 +69,7 @@ fetched_both slots blocks (Some s) w (Some c) turns session bytes is none unfini
       ),
     )
 
-pub server_fetches_counting : (shape : Shape) (v : ServerState) (at : Seen) (reach : Reach) (slot : ℕ) (bytes : List ℕ) (t : ServerState) (new : List ℕ) (turns : List Turn)
+pub server_fetches_counting : (shape : Shape) (v : ServerState) (at : Seen) (reach : Reach) (slot : ℕ) (bytes : List ℕ) (t : ServerState) (new : List ℕ) (turns : List Utterance)
     (d : Option ServerCounts) → ServerRests v turns → ServerFetches v at reach slot bytes t new → ServerCounted shape v turns d
     → ServerCounted shape t turns (change_server (λ (c : ServerCounts). record c { descs = c.descs + 1; desc = bytes; owed = pieces (disk_desc_of bytes) shape.blocks 0x0e }) d)
 server_fetches_counting shape v at reach slot bytes t new turns d rests step counted =
@@ -98,20 +98,20 @@ server_fetches_counting shape v at reach slot bytes t new turns d rests step cou
 abbrev pub finished_log : ServerCounts → ServerCounts
 finished_log c = record c { finished = c.finished + 1; owed = rest_of c.owed }
 
-pub server_finishes_counting : (shape : Shape) (v : ServerState) (at : Seen) (reach : Reach) (slot status : ℕ) (t : ServerState) (new : List ℕ) (turns : List Turn)
+pub server_finishes_counting : (shape : Shape) (v : ServerState) (at : Seen) (reach : Reach) (slot status : ℕ) (t : ServerState) (new : List ℕ) (turns : List Utterance)
     (d : Option ServerCounts) → ServerRests v turns → ServerFinishes v at reach slot status t new → ServerCounted shape v turns d
     → ServerCounted shape t turns (change_server (λ (c : ServerCounts). record c { finished = c.finished + 1; owed = rest_of c.owed }) d)
 server_finishes_counting shape v at reach slot status t new turns d rests step counted = grind (arith, server_free)
 
 -- EACH PACKET that it puts; its session never opens by one
-put_counting : (kind : PutKind) (shape : Shape) (v : ServerState) (turns : List Turn) (packet : List ℕ) (d : Option ServerCounts) → shape.slots ≤ 256 → ServerRests v turns → ServerUtters v turns
+put_counting : (kind : PutKind) (shape : Shape) (v : ServerState) (turns : List Utterance) (packet : List ℕ) (d : Option ServerCounts) → shape.slots ≤ 256 → ServerRests v turns → ServerUtters v turns
     → PutSays kind (is_none v.handshake.owed) v.link turns packet → ServerCounted shape v turns d → ServerCounted shape (put_as kind v) (Said packet ∷ turns) (answers_more shape turns packet d)
 put_counting Goes shape v turns packet d few rests utters says counted = goes_counting shape v turns packet d says counted
 put_counting ComesUp shape v turns packet d few rests utters says counted = comes_counting shape v turns packet d utters says.1 says.0 counted
 put_counting EndsOwn shape v turns packet d few rests utters says counted = own_counting shape v turns packet d few says.1 says.0 counted
 put_counting EndsHandshake shape v turns packet d few rests utters says counted = handshake_counting shape v turns packet d rests says.1 says.0 counted
 
-pub server_puts_counting : (shape : Shape) (v : ServerState) (at : Seen) (packet : List ℕ) (opens : Bool) (t : ServerState) (turns : List Turn) (d : Option ServerCounts) → shape.slots ≤ 256
+pub server_puts_counting : (shape : Shape) (v : ServerState) (at : Seen) (packet : List ℕ) (opens : Bool) (t : ServerState) (turns : List Utterance) (d : Option ServerCounts) → shape.slots ≤ 256
     → ServerSends v at packet opens t → ServerRests v turns → ServerUtters v turns → ServerCounted shape v turns d
     → ServerCounted shape t (Said packet ∷ turns) (answers_more shape turns packet d) × (opens ≡ false)
 server_puts_counting shape v at packet opens t turns d few sends rests utters counted =

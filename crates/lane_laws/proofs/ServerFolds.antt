@@ -4,7 +4,7 @@ use Rattle.std.specs.Prelude.{is_none}
 use Rattle.cookie_copy.specs.declared.fault.CopyFault.{CopyFault}
 use Rattle.ldc_packet.specs.declared.packet.Subtype.TheVariants.{Ack}
 use Rattle.ldc_packet.specs.Spelling.{subtype_code}
-use Rattle.ldc_queue.specs.Transcript.{Heard as Heard_, Said, Turn}
+use Rattle.ldc_queue.specs.Transcript.{Heard as Heard_, Said, Utterance}
 use Rattle.vio_tag.specs.declared.message.MsgBody.TheVariants.{DringData}
 use Rattle.vio_tag.specs.Spelling.{SpellsBody, envelope_code}
 use Rattle.lane_laws.proofs.Speaking.{server_holds_owed}
@@ -19,7 +19,7 @@ use Rattle.disk_model.specs.ServerState.{ServerSession, ServerState, SlotRange}
 use Rattle.disk_model.specs.ServerStep.{ServerFetches, ServerFinishes, ServerMoves, ServerStores}
 use Rattle.cookie_copy.specs.Reach.{Reach}
 use Rattle.channel_laws.proofs.PutSayings.{PutSays}
-use Rattle.channel_laws.proofs.TurnCases.{heard_none, heard_some, said_none, said_some}
+use Rattle.channel_laws.proofs.UtteranceCases.{heard_none, heard_some, said_none, said_some}
 use Rattle.lane_laws.proofs.RangesSaid.{heard_no_range, is_data, no_data, owed_no_range, range_is}
 use Rattle.lane_laws.proofs.RulesFree.{ServerFree, server_free}
 use Rattle.lane_laws.proofs.ServerCounting.{opens_new}
@@ -36,15 +36,15 @@ abbrev pub ranged : Option ServerSession → Option SlotRange
 ranged None = None
 ranged (Some session) = session.range
 
-abbrev pub RangeIs : Option ServerSession → List Turn → Type 0
+abbrev pub RangeIs : Option ServerSession → List Utterance → Type 0
 RangeIs session turns = ranged session ≡ range_in_work turns
 
 -- IT TAKES A PACKET: a range that it is asked for is in its work from then on
-heard_same : (turns : List Turn) (packet : List ℕ) (ended : Option (List ℕ)) → ended_by (half_heard turns) packet ≡ ended → range_in 1 ended ≡ None → range_in_work turns ≡ range_in_work (Heard_ packet ∷ turns)
+heard_same : (turns : List Utterance) (packet : List ℕ) (ended : Option (List ℕ)) → ended_by (half_heard turns) packet ≡ ended → range_in 1 ended ≡ None → range_in_work turns ≡ range_in_work (Heard_ packet ∷ turns)
 heard_same turns packet ended is none =
     sym (ap (λ (o : Option (List ℕ)). asked_by (range_in 1 o) (range_in_work turns)) is ∙ ap (λ (o : Option (List ℕ)). asked_by o (range_in_work turns)) none)
 
-heard_range : (turns : List Turn) (packet bytes : List ℕ) → ended_by (half_heard turns) packet ≡ Some bytes → range_in 1 (Some bytes) ≡ Some bytes
+heard_range : (turns : List Utterance) (packet bytes : List ℕ) → ended_by (half_heard turns) packet ≡ Some bytes → range_in 1 (Some bytes) ≡ Some bytes
     → Some (range_of bytes) ≡ range_in_work (Heard_ packet ∷ turns)
 heard_range turns packet bytes is range =
     sym (ap (λ (o : Option (List ℕ)). asked_by (range_in 1 o) (range_in_work turns)) is ∙ ap (λ (o : Option (List ℕ)). asked_by o (range_in_work turns)) range)
@@ -56,7 +56,7 @@ opened_none : (opens : Bool) (o : Option ServerSession) → (opens ≡ true → 
 opened_none true o new = sym (ap ranged (new refl))
 opened_none false o new = refl
 
-pub server_takes_so : (s t : ServerState) (turns : List Turn) (packet : List ℕ) (opens : Bool) → ServerRests s turns → RangeIs s.session turns → ServerTook s turns packet t opens
+pub server_takes_so : (s t : ServerState) (turns : List Utterance) (packet : List ℕ) (opens : Bool) → ServerRests s turns → RangeIs s.session turns → ServerTook s turns packet t opens
     → RangeIs t.session (Heard_ packet ∷ turns)
 server_takes_so s t turns packet opens rests is (inl part) =
     ap (λ (x : ServerState). ranged x.session) part.is ∙ is ∙ heard_same turns packet None (heard_none turns packet part.messages) refl
@@ -73,11 +73,11 @@ server_takes_so s t turns packet opens rests is (inr (inr asks)) =
     (range_is 1 asks.hears.bytes (asks.hears.spells.envelope ∙ ap envelope_code asks.info.body_is) (asks.hears.spells.subtype ∙ ap subtype_code asks.info.subtype_is))
 
 -- IT PUTS A PACKET: with its answer its range is done
-said_same : (turns : List Turn) (packet : List ℕ) (ended : Option (List ℕ)) → ended_by (half_said turns) packet ≡ ended → range_in 2 ended ≡ None → range_in_work turns ≡ range_in_work (Said packet ∷ turns)
+said_same : (turns : List Utterance) (packet : List ℕ) (ended : Option (List ℕ)) → ended_by (half_said turns) packet ≡ ended → range_in 2 ended ≡ None → range_in_work turns ≡ range_in_work (Said packet ∷ turns)
 said_same turns packet ended is none =
     sym (ap (λ (o : Option (List ℕ)). answered_by (range_in 2 o) (range_in_work turns)) is ∙ ap (λ (o : Option (List ℕ)). answered_by o (range_in_work turns)) none)
 
-said_range : (turns : List Turn) (packet bytes : List ℕ) → ended_by (half_said turns) packet ≡ Some bytes → is_range 2 bytes ≡ true → None ≡ range_in_work (Said packet ∷ turns)
+said_range : (turns : List Utterance) (packet bytes : List ℕ) → ended_by (half_said turns) packet ≡ Some bytes → is_range 2 bytes ≡ true → None ≡ range_in_work (Said packet ∷ turns)
 said_range turns packet bytes is range =
     sym (ap (λ (o : Option (List ℕ)). answered_by (range_in 2 o) (range_in_work turns)) is ∙ ap (λ (b : Bool). answered_by (range_if b bytes) (range_in_work turns)) range)
 
@@ -85,13 +85,13 @@ answered_none : (o : Option ServerSession) → ranged (answered o) ≡ None
 answered_none None = refl
 answered_none (Some session) = refl
 
-pub record Holding (v : ServerState) (turns : List Turn) : Type 0 where
+pub record Holding (v : ServerState) (turns : List Utterance) : Type 0 where
   pub range : ranged v.session ≡ range_in_work turns
   pub owed : OwedFits v.handshake.phase v.handshake.owed
   pub rests : ServerRests v turns
   pub holds : ServerHolds v turns
 
-pub server_puts_so : (turns : List Turn) (packet : List ℕ) (kind : PutKind) (v : ServerState) → Holding v turns → PutSays kind (is_none v.handshake.owed) v.link turns packet
+pub server_puts_so : (turns : List Utterance) (packet : List ℕ) (kind : PutKind) (v : ServerState) → Holding v turns → PutSays kind (is_none v.handshake.owed) v.link turns packet
     → RangeIs (put_as kind v).session (Said packet ∷ turns)
 server_puts_so turns packet Goes v held says = held.range ∙ said_same turns packet None (said_none turns packet says.messages) refl
 server_puts_so turns packet ComesUp v held says = held.range ∙ said_same turns packet None (said_none turns packet says.0.messages) refl
@@ -109,20 +109,20 @@ server_puts_so turns packet EndsHandshake v held says =
     held.range ∙ said_same turns packet (Some bytes) (said_some turns packet bytes says.0.messages) none
 
 -- ITS WORK leaves all but the counts of its session
-pub server_fetches_so : (s : ServerState) (at : Seen) (reach : Reach) (slot : ℕ) (bytes : List ℕ) (t : ServerState) (new : List ℕ) (turns : List Turn)
+pub server_fetches_so : (s : ServerState) (at : Seen) (reach : Reach) (slot : ℕ) (bytes : List ℕ) (t : ServerState) (new : List ℕ) (turns : List Utterance)
     → ServerFetches s at reach slot bytes t new → RangeIs s.session turns → RangeIs t.session turns
 server_fetches_so s at reach slot bytes t new turns step is =
     let free : ServerFree s (Fetches step.session) = subst (ServerFree s) step.rule (server_free s at) in
     ap (λ (x : ServerState). ranged x.session) step.is ∙ sym (ap ranged free.0.session_is) ∙ is
 
-pub server_moves_so : (s t : ServerState) (at : Seen) (reach : Reach) (unit : ℕ) (fault : Option CopyFault) (new : List ℕ) (turns : List Turn)
+pub server_moves_so : (s t : ServerState) (at : Seen) (reach : Reach) (unit : ℕ) (fault : Option CopyFault) (new : List ℕ) (turns : List Utterance)
     → ServerMoves s at reach unit fault t new → RangeIs s.session turns → RangeIs t.session turns
 server_moves_so s t at reach unit fault new turns step is = ap (λ (x : ServerState). ranged x.session) step.is ∙ is
 
-pub server_stores_so : (s t : ServerState) (at : Seen) (operation block count : ℕ) (failed : Bool) (gave : List ℕ) (turns : List Turn)
+pub server_stores_so : (s t : ServerState) (at : Seen) (operation block count : ℕ) (failed : Bool) (gave : List ℕ) (turns : List Utterance)
     → ServerStores s at operation block count failed gave t → RangeIs s.session turns → RangeIs t.session turns
 server_stores_so s t at operation block count failed gave turns step is = ap (λ (x : ServerState). ranged x.session) step.is ∙ is
 
-pub server_finishes_so : (s : ServerState) (at : Seen) (reach : Reach) (slot status : ℕ) (t : ServerState) (new : List ℕ) (turns : List Turn)
+pub server_finishes_so : (s : ServerState) (at : Seen) (reach : Reach) (slot status : ℕ) (t : ServerState) (new : List ℕ) (turns : List Utterance)
     → ServerFinishes s at reach slot status t new → RangeIs s.session turns → RangeIs t.session turns
 server_finishes_so s at reach slot status t new turns step is = grind (arith, server_free)

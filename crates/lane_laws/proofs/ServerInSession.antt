@@ -10,7 +10,7 @@ use Rattle.ldc_link.specs.LinkState.{LinkState, cleared, is_up}
 use Rattle.ldc_packet.specs.declared.packet.Subtype.TheVariants.{Info}
 use Rattle.ldc_queue.specs.declared.end.ChannelState.TheVariants.{Up}
 use Rattle.ldc_queue.specs.OneStream.{IsFront}
-use Rattle.ldc_queue.specs.Transcript.{Turn}
+use Rattle.ldc_queue.specs.Transcript.{Utterance}
 use Rattle.vio_bytes.specs.Place.{number_at}
 use Rattle.vio_tag.specs.declared.message.Message.{Message}
 use Rattle.vio_tag.specs.Spelling.{SpellsMessage}
@@ -76,12 +76,12 @@ goes_on s session n ident start end bytes take is fits spells hears =
     )
 
 -- the number that it waits for
-number_of : (slots : ℕ) (o : Option ServerSession) (q : Option ServerCounts) (turns : List Turn) (session : ServerSession) → o ≡ Some session → ServerOrder slots o q turns
+number_of : (slots : ℕ) (o : Option ServerSession) (q : Option ServerCounts) (turns : List Utterance) (session : ServerSession) → o ≡ Some session → ServerOrder slots o q turns
     → session.seq ≡ wrapped (range_count 1 (heard turns) + 1)
 number_of slots o q turns session is order = grind arith
 
 -- the next range of the client is one that the server takes
-info_fits : (shape : Shape) (d : Deal) (v : ServerState) (session : ServerSession) (turns : List Turn) (bytes : List ℕ)
+info_fits : (shape : Shape) (d : Deal) (v : ServerState) (session : ServerSession) (turns : List Utterance) (bytes : List ℕ)
     → (at : AtPlace false d Responder v.handshake turns) → at.place ≡ AllSaid → d.asks.slots ≡ shape.slots → shape.slots ≤ 256 → d.sid < 2 ^ 32
     → session.seq ≡ wrapped (range_count 1 (heard turns) + 1) → session.asked ≡ range_sum shape.slots 1 (heard turns)
     → (is : IsData Initiator shape.slots d.sid (range_count 1 (heard turns)) (range_sum shape.slots 1 (heard turns)) bytes)

@@ -5,7 +5,7 @@ use Rattle.ldc_link.specs.declared.phase.Role.TheVariants.{Responder}
 use Rattle.ldc_link.specs.LinkState.{LinkState, is_up, offered}
 use Rattle.ldc_link.specs.Putting.{behind_put}
 use Rattle.ldc_packet.specs.declared.packet.Subtype.TheVariants.{Ack}
-use Rattle.ldc_queue.specs.Transcript.{Said, Turn}
+use Rattle.ldc_queue.specs.Transcript.{Said, Utterance}
 use Rattle.vio_tag.specs.declared.message.Message.{Message}
 use Rattle.vio_tag.specs.Spelling.{canonical}
 use Rattle.channel_model.specs.Sayings.{half_said, heard, said}
@@ -36,18 +36,18 @@ answer_with : (v : ServerState) (k : LinkState) (bytes : List ℕ) → HoldsAnsw
 answer_with v k bytes a = search
 
 -- IT HOLDS a message
-says_answer : (v : ServerState) (turns : List Turn) (message : Message) → half_said turns ≡ [] → (v.handshake.owed ≡ Some message) ⊎ AnswersFree v message → v.handshake.owed ≡ None
+says_answer : (v : ServerState) (turns : List Utterance) (message : Message) → half_said turns ≡ [] → (v.handshake.owed ≡ Some message) ⊎ AnswersFree v message → v.handshake.owed ≡ None
     → HoldsAnswer v (half_said turns ++ canonical message)
 says_answer v turns message half is none = grind arith
 
-says_up : (v : ServerState) (turns : List Turn) (message : Message) → ServerRests v turns → (v.handshake.owed ≡ Some message) ⊎ AnswersFree v message → is_up v.link ≡ true
+says_up : (v : ServerState) (turns : List Utterance) (message : Message) → ServerRests v turns → (v.handshake.owed ≡ Some message) ⊎ AnswersFree v message → is_up v.link ≡ true
 says_up v turns message rests (inl owed) = owing_up Responder (server_core v) turns message rests.stands owed
 says_up v turns message rests (inr a) = open_up Responder (server_core v) turns rests.stands (ap is_some a.session_is)
 
-held_is : (shape : Shape) (one other : ServerState) (turns : List Turn) (d : Option ServerCounts) → Some one ≡ Some other → ServerCounted shape one turns d → ServerCounted shape other turns d
+held_is : (shape : Shape) (one other : ServerState) (turns : List Utterance) (d : Option ServerCounts) → Some one ≡ Some other → ServerCounted shape one turns d → ServerCounted shape other turns d
 held_is shape one other turns d is counted = let same : one ≡ other = some_same is in subst (λ (x : ServerState). ServerCounted shape x turns d) same counted
 
-pub server_holds_counting : (shape : Shape) (v : ServerState) (rule : ServerRule) (held : ServerState) (turns : List Turn) (d : Option ServerCounts) → ServerRests v turns → ServerUtters v turns
+pub server_holds_counting : (shape : Shape) (v : ServerState) (rule : ServerRule) (held : ServerState) (turns : List Utterance) (d : Option ServerCounts) → ServerRests v turns → ServerUtters v turns
     → ServerFree v rule → server_holds rule v ≡ Some held → ServerCounted shape v turns d → ServerCounted shape held turns d
 server_holds_counting shape v Puts held turns d rests utters free is counted = held_is shape v held turns d is counted
 server_holds_counting shape v (Says message) held turns d rests utters free is counted =
@@ -64,11 +64,11 @@ server_holds_counting shape v (Says message) held turns d rests utters free is c
 server_holds_counting shape v _ held turns d rests utters free is counted = none_is_some is
 
 -- THE LOG counts what is said
-abbrev pub answers_more : Shape → List Turn → List ℕ → Option ServerCounts → Option ServerCounts
+abbrev pub answers_more : Shape → List Utterance → List ℕ → Option ServerCounts → Option ServerCounts
 answers_more shape turns packet d = change_server (λ (c : ServerCounts). record c { answered = c.answered + length_in shape.slots (range_ended 2 (half_said turns) packet) }) d
 
 -- where no range is said
-order_same : (shape : Shape) (o : Option ServerSession) (d : Option ServerCounts) (turns : List Turn) (packet : List ℕ)
+order_same : (shape : Shape) (o : Option ServerSession) (d : Option ServerCounts) (turns : List Utterance) (packet : List ℕ)
     → range_sum shape.slots 2 (said (Said packet ∷ turns)) ≡ range_sum shape.slots 2 (said turns) → ServerOrder shape.slots o d turns
     → ServerOrder shape.slots o (answers_more shape turns packet d) (Said packet ∷ turns)
 order_same shape o d turns packet same order = grind (arith, sum_said, count_said)
@@ -82,7 +82,7 @@ abbrev pub put_as : PutKind → ServerState → ServerState
 put_as kind v = record v { link = behind_put v.link; handshake = handshake_behind kind v.handshake; session = session_behind kind v.session }
 
 -- A PACKET THAT GOES ON
-pub goes_counting : (shape : Shape) (v : ServerState) (turns : List Turn) (packet : List ℕ) (d : Option ServerCounts) → SaysOn v.link turns packet → ServerCounted shape v turns d
+pub goes_counting : (shape : Shape) (v : ServerState) (turns : List Utterance) (packet : List ℕ) (d : Option ServerCounts) → SaysOn v.link turns packet → ServerCounted shape v turns d
     → ServerCounted shape (put_as Goes v) (Said packet ∷ turns) (answers_more shape turns packet d)
 goes_counting shape v turns packet d on counted =
     let same : range_sum shape.slots 2 (said (Said packet ∷ turns)) ≡ range_sum shape.slots 2 (said turns) = ap (range_sum shape.slots 2) on.messages in
@@ -97,12 +97,12 @@ goes_counting shape v turns packet d on counted =
       agrees = agrees_same v.session v.work d (length_in shape.slots (range_ended 2 (half_said turns) packet)) none counted.agrees;
     }
 
-pub comes_counting : (shape : Shape) (v : ServerState) (turns : List Turn) (packet : List ℕ) (d : Option ServerCounts) → ServerUtters v turns → is_up v.link ≡ false → SaysOn v.link turns packet
+pub comes_counting : (shape : Shape) (v : ServerState) (turns : List Utterance) (packet : List ℕ) (d : Option ServerCounts) → ServerUtters v turns → is_up v.link ≡ false → SaysOn v.link turns packet
     → ServerCounted shape v turns d → ServerCounted shape (put_as ComesUp v) (Said packet ∷ turns) (answers_more shape turns packet d)
 comes_counting shape v turns packet d utters down on counted = grind arith
 
 -- A MESSAGE OF THE HANDSHAKE is put whole
-pub handshake_counting : (shape : Shape) (v : ServerState) (turns : List Turn) (packet : List ℕ) (d : Option ServerCounts) → ServerRests v turns → is_none v.handshake.owed ≡ false → SaysWhole v.link turns packet
+pub handshake_counting : (shape : Shape) (v : ServerState) (turns : List Utterance) (packet : List ℕ) (d : Option ServerCounts) → ServerRests v turns → is_none v.handshake.owed ≡ false → SaysWhole v.link turns packet
     → ServerCounted shape v turns d → ServerCounted shape (put_as EndsHandshake v) (Said packet ∷ turns) (answers_more shape turns packet d)
 handshake_counting shape v turns packet d rests some last counted =
     let bytes = half_said turns ++ v.link.to_send in
@@ -137,18 +137,18 @@ work_most None c agrees = omega (arith, agrees.1)
 work_most (Some work) c agrees = omega (arith, agrees.2)
 
 -- a range whose last descriptor is finished: as many are as were asked for, counted without bound
-pub all_finished : (slots : ℕ) (s : ServerSession) (w : Option Work) (c : ServerCounts) (turns : List Turn) (range : SlotRange) → slots ≤ 256 → s.finished ≡ s.asked
+pub all_finished : (slots : ℕ) (s : ServerSession) (w : Option Work) (c : ServerCounts) (turns : List Utterance) (range : SlotRange) → slots ≤ 256 → s.finished ≡ s.asked
     → RangeStands slots (Some range) c → InServerOrder slots s c turns → ServerCountsAgree s c → WorkAgrees w c → c.finished ≡ c.asked
 all_finished slots s w c turns range few ended stands order counts work = grind arith
 
-answered_order : (slots n : ℕ) (o : Option ServerSession) (w : Option Work) (d : Option ServerCounts) (turns behind : List Turn) (session : ServerSession) (range : SlotRange) → slots ≤ 256
+answered_order : (slots n : ℕ) (o : Option ServerSession) (w : Option Work) (d : Option ServerCounts) (turns behind : List Utterance) (session : ServerSession) (range : SlotRange) → slots ≤ 256
     → o ≡ Some session → Answered slots session range n → range_sum slots 2 (said behind) ≡ range_sum slots 2 (said turns) + n
     → (1 ≤ n → range_count 2 (said behind) ≡ range_count 2 (said turns) + 1) → heard behind ≡ heard turns → ServerOrder slots o d turns → ServerAgrees o w d
     → ServerOrder slots (answered o) (change_server (λ (c : ServerCounts). record c { answered = c.answered + n }) d) behind
     × ServerAgrees (answered o) w (change_server (λ (c : ServerCounts). record c { answered = c.answered + n }) d)
 answered_order slots n o w d turns behind session range few is answers said_is counted heard_is order agrees = grind arith
 
-pub own_counting : (shape : Shape) (v : ServerState) (turns : List Turn) (packet : List ℕ) (d : Option ServerCounts) → shape.slots ≤ 256 → is_none v.handshake.owed ≡ true → SaysWhole v.link turns packet
+pub own_counting : (shape : Shape) (v : ServerState) (turns : List Utterance) (packet : List ℕ) (d : Option ServerCounts) → shape.slots ≤ 256 → is_none v.handshake.owed ≡ true → SaysWhole v.link turns packet
     → ServerCounted shape v turns d → ServerCounted shape (put_as EndsOwn v) (Said packet ∷ turns) (answers_more shape turns packet d)
 own_counting shape v turns packet d few none last counted =
     let bytes = half_said turns ++ v.link.to_send in

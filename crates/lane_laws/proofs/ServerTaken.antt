@@ -4,7 +4,7 @@ use Rattle.std.proofs.Common.{◌≡◌, ℕ, Bool, true, false, Option, None, L
 use Rattle.std.specs.Prelude.{◌&&◌, not, if◌then◌else◌, ⊤}
 use Rattle.ldc_link.specs.Following.{Follows}
 use Rattle.ldc_link.specs.LinkState.{LinkState, cleared, is_up}
-use Rattle.ldc_queue.specs.Transcript.{Heard as Heard_, Turn}
+use Rattle.ldc_queue.specs.Transcript.{Heard as Heard_, Utterance}
 use Rattle.vio_tag.specs.declared.message.Message.{Message}
 use Rattle.vio_handshake.specs.declared.handshake.Handshake.{Handshake}
 use Rattle.vio_handshake.specs.State.{handshake_up}
@@ -17,9 +17,9 @@ use Rattle.lane_laws.proofs.ServerAnswers.{Answers, Asks, GoesBy, comes_to, goes
 use Rattle.channel_laws.proofs.EndStanding.{heard_leaves}
 use Rattle.channel_laws.proofs.EndCases.{HearsUp, link_hears}
 use Rattle.channel_laws.proofs.HandshakeCases.{HandshakeTook}
-use Rattle.channel_laws.proofs.TurnCases.{with_whole}
+use Rattle.channel_laws.proofs.UtteranceCases.{with_whole}
 
-pub record ServerHearsPart (s : ServerState) (turns : List Turn) (packet : List ℕ) (t : ServerState) (opens : Bool) : Type 0 where
+pub record ServerHearsPart (s : ServerState) (turns : List Utterance) (packet : List ℕ) (t : ServerState) (opens : Bool) : Type 0 where
   pub link : LinkState
   pub left : link.to_send ≡ s.link.to_send
   pub up : is_up s.link ≡ true → is_up link ≡ true
@@ -27,7 +27,7 @@ pub record ServerHearsPart (s : ServerState) (turns : List Turn) (packet : List 
   pub is : t ≡ record s { link = link; handshake = handshake_risen s.link link s.handshake }
   pub opens_is : opens ≡ false
 
-pub record ServerHandshakes (s : ServerState) (turns : List Turn) (packet : List ℕ) (t : ServerState) (opens : Bool) : Type 0 where
+pub record ServerHandshakes (s : ServerState) (turns : List Utterance) (packet : List ℕ) (t : ServerState) (opens : Bool) : Type 0 where
   pub link : LinkState
   pub left : link.to_send ≡ s.link.to_send
   pub up : is_up s.link ≡ true
@@ -38,7 +38,7 @@ pub record ServerHandshakes (s : ServerState) (turns : List Turn) (packet : List
   pub took : HandshakeTook s.handshake message handshake opens
   pub is : t ≡ record s { link = link; handshake = handshake; session = opened_or opens s.session }
 
-pub record ServerAsked (s : ServerState) (turns : List Turn) (packet : List ℕ) (t : ServerState) (opens : Bool) : Type 0 where
+pub record ServerAsked (s : ServerState) (turns : List Utterance) (packet : List ℕ) (t : ServerState) (opens : Bool) : Type 0 where
   pub link : LinkState
   pub left : link.to_send ≡ s.link.to_send
   pub up : is_up s.link ≡ true
@@ -49,14 +49,14 @@ pub record ServerAsked (s : ServerState) (turns : List Turn) (packet : List ℕ)
   pub is : t ≡ asked (record s { link = link }) info.session info.range
   pub opens_is : opens ≡ false
 
-abbrev pub ServerTook : ServerState → List Turn → List ℕ → ServerState → Bool → Type 0
+abbrev pub ServerTook : ServerState → List Utterance → List ℕ → ServerState → Bool → Type 0
 ServerTook s turns packet t opens = ServerHearsPart s turns packet t opens ⊎ (ServerHandshakes s turns packet t opens ⊎ ServerAsked s turns packet t opens)
 
-abbrev TookOn : ServerState → List Turn → List ℕ → ServerTake → Type 0
+abbrev TookOn : ServerState → List Utterance → List ℕ → ServerTake → Type 0
 TookOn s turns packet (GoesOn t opens) = ServerTook s turns packet t opens
 TookOn s turns packet (Resets cause) = ⊤
 
-answers : (s : ServerState) (turns : List Turn) (packet : List ℕ) (k : LinkState) (message : Message) → k.to_send ≡ s.link.to_send → is_up s.link ≡ true → is_up k ≡ true
+answers : (s : ServerState) (turns : List Utterance) (packet : List ℕ) (k : LinkState) (message : Message) → k.to_send ≡ s.link.to_send → is_up s.link ≡ true → is_up k ≡ true
     → HearsMessage turns packet message → Answers (record s { link = k }) message (TookOn s turns packet)
 answers s turns packet k message left up stays hears = record {
   goes = λ opens h to. inr (inl (record { link = k; left = left; up = up; stays = stays; message = message; hears = hears; handshake = h; took = took_to s.handshake message opens h to; is = refl }));
@@ -71,7 +71,7 @@ still true true h is = refl
 still true false h is = absurd (cc)
 still false c h is = refl
 
-pub server_took_what : (s : ServerState) (turns : List Turn) (packet : List ℕ) (t : ServerState) (opens : Bool) → Follows s.link turns → s.link.whole ≡ None
+pub server_took_what : (s : ServerState) (turns : List Utterance) (packet : List ℕ) (t : ServerState) (opens : Bool) → Follows s.link turns → s.link.whole ≡ None
     → ServerTakes s packet (GoesOn t opens) → ServerTook s turns packet t opens
 server_took_what s turns packet t opens follows none takes =
     let by : GoesBy s packet t opens = goes_by s packet t opens takes in

@@ -4,7 +4,7 @@ use Rattle.std.specs.Prelude.{is_some, nat_lt, not, ◌||◌, ◌==◌, suc, if�
 use Rattle.std.proofs.lemmas.Bool.{ltb-false, ltb-true}
 use Rattle.cookie_copy.specs.declared.fault.CopyFault.{CopyFault}
 use Rattle.ldc_link.specs.Putting.{owes}
-use Rattle.ldc_queue.specs.Transcript.{Turn}
+use Rattle.ldc_queue.specs.Transcript.{Utterance}
 use Rattle.vdisk_msg.specs.Check.{first_defect, has_size, holds_cookies, is_allowed, is_within, moves_data}
 use Rattle.vdisk_msg.specs.declared.desc.DescFault.{DescFault}
 use Rattle.vdisk_msg.specs.declared.desc.DescFault.TheVariants.{Cookies, Operation, Range, Size}
@@ -143,15 +143,15 @@ stores_on _ work operation block count failed gave next stores below = absurd st
 
 -- THE LOG after a piece
 -- a server whose session is open and whose link owes nothing holds nothing
-pub holds_none : (v t : ServerState) (turns : List Turn) → ServerRests v turns → is_some v.session ≡ true → owes v.link ≡ false → t.link ≡ v.link → ServerHolds t turns
+pub holds_none : (v t : ServerState) (turns : List Utterance) → ServerRests v turns → is_some v.session ≡ true → owes v.link ≡ false → t.link ≡ v.link → ServerHolds t turns
 holds_none v t turns rests now free same = grind arith
 
-pub server_moves_counting : (shape : Shape) (v : ServerState) (at : Seen) (reach : Reach) (unit : ℕ) (fault : Option CopyFault) (t : ServerState) (new : List ℕ) (turns : List Turn)
+pub server_moves_counting : (shape : Shape) (v : ServerState) (at : Seen) (reach : Reach) (unit : ℕ) (fault : Option CopyFault) (t : ServerState) (new : List ℕ) (turns : List Utterance)
     (d : Option ServerCounts) → ServerRests v turns → ServerMoves v at reach unit fault t new → ServerCounted shape v turns d
     → ServerCounted shape t turns (change_server (λ (c : ServerCounts). record c { owed = moved_rest fault c.owed }) d)
 server_moves_counting shape v at reach unit fault t new turns d rests step counted = grind (arith, server_free, moves_on)
 
-pub server_stores_counting : (shape : Shape) (v : ServerState) (at : Seen) (operation block count : ℕ) (failed : Bool) (gave : List ℕ) (t : ServerState) (turns : List Turn)
+pub server_stores_counting : (shape : Shape) (v : ServerState) (at : Seen) (operation block count : ℕ) (failed : Bool) (gave : List ℕ) (t : ServerState) (turns : List Utterance)
     (d : Option ServerCounts) → ServerRests v turns → ServerStores v at operation block count failed gave t → ServerCounted shape v turns d
     → ServerCounted shape t turns (change_server (λ (c : ServerCounts). record c { owed = stored_rest failed c.owed }) d)
 server_stores_counting shape v at operation block count failed gave t turns d rests step counted = grind (arith, server_free, stores_on)

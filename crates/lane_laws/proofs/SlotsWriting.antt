@@ -2,7 +2,7 @@
 use Rattle.std.proofs.Common.{◌≡◌, ℕ, ◌-◌, ◌%◌, ◌<◌, true, List, length, refl, sym, ap, ◌∙◌, subst, inr}
 use Rattle.std.proofs.lemmas.Nat.{mod_below}
 use Rattle.runs.specs.Run.{Run}
-use Rattle.dring.proofs.Turning.{slot_cleared}
+use Rattle.dring.proofs.Laps.{slot_cleared}
 use Rattle.dring.specs.Slots.{free_slots, slot_bytes}
 use Rattle.ldc_queue.specs.declared.end.End.TheVariants.{A}
 use Rattle.vio_bytes.specs.Place.{put_at}

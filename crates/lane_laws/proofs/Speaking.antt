@@ -5,7 +5,7 @@ use Rattle.runs.specs.Lawful.{run_lawful}
 use Rattle.runs.specs.Run.{Run}
 use Rattle.ldc_link.specs.declared.phase.Role.TheVariants.{Initiator, Responder}
 use Rattle.ldc_queue.specs.declared.end.End.TheVariants.{A, B}
-use Rattle.ldc_queue.specs.Transcript.{Turn}
+use Rattle.ldc_queue.specs.Transcript.{Utterance}
 use Rattle.disk_model.specs.ClientPutting.{client_holds}
 use Rattle.disk_model.specs.ClientRule.{client_rule}
 use Rattle.disk_model.specs.ClientState.{ClientState}
@@ -39,21 +39,21 @@ use Rattle.lane_laws.specs.LaneTranscripts.{transcript_behind}
 use Rattle.lane_laws.specs.Sound.{ClientSound}
 
 -- WHAT A SERVER HOLDS, where that isn't of its session, is what its handshake owes
-pub server_holds_owed : (v : ServerState) (turns : List Turn) → EndStands Responder (server_core v) turns → is_none v.handshake.owed ≡ false → 1 ≤ length v.link.to_send
+pub server_holds_owed : (v : ServerState) (turns : List Utterance) → EndStands Responder (server_core v) turns → is_none v.handshake.owed ≡ false → 1 ≤ length v.link.to_send
     → CarriesOwed v.handshake.owed (half_said turns ++ v.link.to_send)
 server_holds_owed v turns stands is some = grind arith
 
 -- IT HOLDS a message
-pub client_blocked_rests : (s : ClientState) (at : Seen) (t : ClientState) (turns : List Turn) → ClientSound s → client_holds (client_rule s at) s ≡ Some t → ClientRests s turns → ClientRests t turns
+pub client_blocked_rests : (s : ClientState) (at : Seen) (t : ClientState) (turns : List Utterance) → ClientSound s → client_holds (client_rule s at) s ≡ Some t → ClientRests s turns → ClientRests t turns
 client_blocked_rests s at t turns sound is rests = rests_move Initiator (client_core s) Waits (client_core t) turns rests (client_waits s at t sound is)
 
-pub client_blocked_utters : (s : ClientState) (at : Seen) (t : ClientState) (turns : List Turn) → ClientSound s → client_holds (client_rule s at) s ≡ Some t → ClientRests s turns → ClientUtters t turns
+pub client_blocked_utters : (s : ClientState) (at : Seen) (t : ClientState) (turns : List Utterance) → ClientSound s → client_holds (client_rule s at) s ≡ Some t → ClientRests s turns → ClientUtters t turns
 client_blocked_utters s at t turns sound is rests = utters_of Initiator (client_core t) turns (client_blocked_rests s at t turns sound is rests)
 
-pub server_blocked_rests : (s : ServerState) (at : Seen) (t : ServerState) (turns : List Turn) → server_holds (server_rule s at) s ≡ Some t → ServerRests s turns → ServerRests t turns
+pub server_blocked_rests : (s : ServerState) (at : Seen) (t : ServerState) (turns : List Utterance) → server_holds (server_rule s at) s ≡ Some t → ServerRests s turns → ServerRests t turns
 server_blocked_rests s at t turns is rests = rests_move Responder (server_core s) Waits (server_core t) turns rests (server_waits s at t is)
 
-pub server_blocked_utters : (s : ServerState) (at : Seen) (t : ServerState) (turns : List Turn) → server_holds (server_rule s at) s ≡ Some t → ServerRests s turns → ServerUtters t turns
+pub server_blocked_utters : (s : ServerState) (at : Seen) (t : ServerState) (turns : List Utterance) → server_holds (server_rule s at) s ≡ Some t → ServerRests s turns → ServerUtters t turns
 server_blocked_utters s at t turns is rests = utters_of Responder (server_core t) turns (server_blocked_rests s at t turns is rests)
 
 -- EACH EVENT
@@ -61,10 +61,10 @@ pub rests_step : (s : LaneState) (event : DiskEvent) (t : LaneState) (transcript
     → LaneRests t (after_transcript transcript event)
 rests_step s event t transcript sound rests step =
     let now : LaneRests t (transcript_after transcript (core_event event)) = record {
-      client = subst (λ (turns : List Turn). ClientRests t.client turns) (sym (transcript_turns A transcript (core_event event)))
+      client = subst (λ (turns : List Utterance). ClientRests t.client turns) (sym (transcript_turns A transcript (core_event event)))
           (rests_move Initiator (client_core s.client) (move_of A (core_event event)) (client_core t.client) transcript.client rests.client
           (step_a s event t (record { before = sound; behind = sound_step s event t sound step }) step));
-      server = subst (λ (turns : List Turn). ServerRests t.server turns) (sym (transcript_turns B transcript (core_event event)))
+      server = subst (λ (turns : List Utterance). ServerRests t.server turns) (sym (transcript_turns B transcript (core_event event)))
           (rests_move Responder (server_core s.server) (move_of B (core_event event)) (server_core t.server) transcript.server rests.server (step_b s event t step));
     } in
     subst (λ (l : TranscriptLog). LaneRests t l) (transcript_same transcript event) now

@@ -5,7 +5,7 @@ use Rattle.runs.specs.Run.{Run}
 use Rattle.ldc_queue.specs.declared.end.End.TheVariants.{A}
 use Rattle.channel_model.specs.WireLog.{WireLog}
 use Rattle.lane_laws.specs.DiskLog.{DiskLog, after, after_wire, nothing_yet}
-use Rattle.lane_laws.specs.RequestLaws.{AdmissionAt, Admits, OnceAt, TurnsAt}
+use Rattle.lane_laws.specs.RequestLaws.{AdmissionAt, Admits, OnceAt, ServerRunsAt}
 use Rattle.lane_laws.specs.WorkLog.{WorkLog}
 use Rattle.disk_model.specs.ClientState.{ClientState}
 use Rattle.disk_model.specs.ClientStep.{ClientAdmits, ClientStep}
@@ -99,7 +99,7 @@ once_at s l (Works (Done id operation status bytes)) t stands step =
     record { next = next.next; request = step.step.request; accepted = next.accepted; operation_is = next.operation_is }
 once_at s l _ t stands step = tt
 
-turns_at : (s : LaneState) (l : DiskLog) (event : DiskEvent) (t : LaneState) → LaneInvariant s l → LaneStep s event t → TurnsAt l event
+turns_at : (s : LaneState) (l : DiskLog) (event : DiskEvent) (t : LaneState) → LaneInvariant s l → LaneStep s event t → ServerRunsAt l event
 turns_at s l event t stands step = grind arith
 
 -- EACH EVENT: where it may stand, and what it keeps
@@ -134,5 +134,5 @@ admission_lawful shape events s sound run =
 pub once_lawful : (shape : Shape) (events : List DiskEvent) (s : LaneState) → IsShape shape → Run LaneStep (fresh shape) events s → Lawful OnceAt after (nothing_yet shape) events
 once_lawful shape events s sound run = lawful_by MayOfRequests OnceAt (λ l e may. may.once) (nothing_yet shape) events (requests_lawful shape events s sound run)
 
-pub turns_lawful : (shape : Shape) (events : List DiskEvent) (s : LaneState) → IsShape shape → Run LaneStep (fresh shape) events s → Lawful TurnsAt after (nothing_yet shape) events
-turns_lawful shape events s sound run = lawful_by MayOfRequests TurnsAt (λ l e may. may.turns) (nothing_yet shape) events (requests_lawful shape events s sound run)
+pub turns_lawful : (shape : Shape) (events : List DiskEvent) (s : LaneState) → IsShape shape → Run LaneStep (fresh shape) events s → Lawful ServerRunsAt after (nothing_yet shape) events
+turns_lawful shape events s sound run = lawful_by MayOfRequests ServerRunsAt (λ l e may. may.turns) (nothing_yet shape) events (requests_lawful shape events s sound run)

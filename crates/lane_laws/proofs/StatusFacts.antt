@@ -9,7 +9,7 @@ use Rattle.ldc_link.specs.LinkState.{is_up}
 use Rattle.ldc_queue.specs.declared.end.ChannelState.TheVariants.{Up}
 use Rattle.ldc_queue.specs.declared.end.End.TheVariants.{A, B}
 use Rattle.ldc_queue.specs.OneStream.{IsFront}
-use Rattle.ldc_queue.specs.Transcript.{Heard as Heard_, Said, Turn}
+use Rattle.ldc_queue.specs.Transcript.{Heard as Heard_, Said, Utterance}
 use Rattle.vio_handshake.proofs.Places.{AllSaid, Deal, Place}
 use Rattle.vio_handshake.specs.declared.handshake.Phase.TheVariants.{Open}
 use Rattle.channel_model.specs.Sayings.{half_heard, half_said, heard, said}
@@ -119,7 +119,7 @@ sends_new shape s l packet t now step =
     let closed : put_opens (client_kind held) held.handshake ≡ false = kind_opens (client_kind held) held (rests.opened (same ∙ open_one)) in
     true_is_false (sends.opens_is ∙ closed))
 
-few_said : (d : Deal) (c : ClientState) (turns : List Turn) → EndStands Initiator (client_core c) turns → (is_up c.link ≡ true → AtPlace false d Initiator c.handshake turns) → c.session ≡ None
+few_said : (d : Deal) (c : ClientState) (turns : List Utterance) → EndStands Initiator (client_core c) turns → (is_up c.link ≡ true → AtPlace false d Initiator c.handshake turns) → c.session ≡ None
     → length (said turns) ≤ 4
 few_said d c turns stands there none = grind arith
 
@@ -131,7 +131,7 @@ names_session shape s l packet t now step =
     let few = few_said (deal (asks_of shape) (answers_of shape) now.on.meets.handshakes.sid) s.client l.transcript.client now.on.stand.mine (now.on.meets.handshakes.mine up) (sends_new shape s l packet t now step) in
     let open_one : is_some t.client.session ≡ true = client_some t.client.session _ _ _ refl now.next.counted.client.agrees in
     let d = deal (asks_of shape) (answers_of shape) now.next_on.meets.handshakes.sid in
-    let behind : List Turn = Said packet ∷ l.transcript.client in
+    let behind : List Utterance = Said packet ∷ l.transcript.client in
     let at = now.next_on.meets.handshakes.mine up_t (open_up Initiator (client_core t.client) behind now.next_on.stand.mine open_one) in
     says_fifth packet l.transcript.client few
     (subst (λ (xs : List (List ℕ)). 5 ≤ length xs) (sym at.said_is) (five_at d at.place at.mine (open_place false d Initiator (client_core t.client) behind now.next_on.stand.mine at open_one)))
@@ -146,7 +146,7 @@ opens_alone shape s l packet t now step up =
     none_server l.work.server s l (sends_new shape s l packet t now step) now.known.agree.client (now.known.agree.ring up)
 
 -- A SESSION OF THE SERVER opens
-few_heard : (d : Deal) (v : ServerState) (turns : List Turn) → EndStands Responder (server_core v) turns → (is_up v.link ≡ true → AtPlace false d Responder v.handshake turns) → v.session ≡ None
+few_heard : (d : Deal) (v : ServerState) (turns : List Utterance) → EndStands Responder (server_core v) turns → (is_up v.link ≡ true → AtPlace false d Responder v.handshake turns) → v.session ≡ None
     → length (heard turns) ≤ 4
 few_heard d v turns stands there none = grind arith
 
@@ -159,7 +159,7 @@ hears_session shape s l packet t now step =
     let few = few_heard (deal (asks_of shape) (answers_of shape) now.on.meets.handshakes.sid) s.server l.transcript.server now.on.stand.theirs (now.on.meets.handshakes.theirs up) (opens_new s.server t.server l.transcript.server packet now.knows.rests.server took) in
     let open_one : is_some t.server.session ≡ true = server_open t.server.session t.server.work _ _ refl now.next.counted.server.agrees in
     let d = deal (asks_of shape) (answers_of shape) now.next_on.meets.handshakes.sid in
-    let behind : List Turn = Heard_ packet ∷ l.transcript.server in
+    let behind : List Utterance = Heard_ packet ∷ l.transcript.server in
     let at = now.next_on.meets.handshakes.theirs up_t (open_up Responder (server_core t.server) behind now.next_on.stand.theirs open_one) in
     let named = hears_fifth packet l.transcript.server few
     (subst (λ (xs : List (List ℕ)). 5 ≤ length xs) (sym at.heard_is) (five_at d at.place at.theirs (open_place false d Responder (server_core t.server) behind now.next_on.stand.theirs at open_one))) in

@@ -4,7 +4,7 @@ use Rattle.std.specs.Prelude.{⊤, ◌&&◌, ◌==◌, if◌then◌else◌, slic
 use Rattle.std.proofs.lemmas.Bool.{eq-eqb}
 use Rattle.ldc_queue.specs.Fragments.{Fragment, fragment_at, is_part}
 use Rattle.ldc_queue.specs.OneStream.{IsFront}
-use Rattle.ldc_queue.specs.Transcript.{Heard as Heard_, Said, Turn}
+use Rattle.ldc_queue.specs.Transcript.{Heard as Heard_, Said, Utterance}
 use Rattle.channel_model.specs.Sayings.{half_heard, half_said, heard, said, whole_by, whole_past}
 use Rattle.channel_model.specs.Messages.{whole_with, opening_sid, sid_in}
 use Rattle.channel_laws.proofs.Apart.{some_same}
@@ -58,7 +58,7 @@ said_named sid true part half messages named = by_stop part.stop
     by_stop true = more_named sid messages ((half ++ part.bytes) ∷ []) named
     by_stop false = named
 
-pub named_more : (o : Option ClientCounts) (packet : List ℕ) (turns : List Turn) → IfClient o (λ (k : ClientCounts). IsNamed k.sid (said turns))
+pub named_more : (o : Option ClientCounts) (packet : List ℕ) (turns : List Utterance) → IfClient o (λ (k : ClientCounts). IsNamed k.sid (said turns))
     → IfClient o (λ (k : ClientCounts). IsNamed k.sid (said (Said packet ∷ turns)))
 named_more None packet turns named = tt
 named_more (Some k) packet turns named = said_named k.sid (is_part packet) (fragment_at packet) (half_said turns) (said turns) named
@@ -80,10 +80,10 @@ fifth_named true part half messages few many = by_stop part.stop many
         let four : length messages ≡ 4 = omega (arith, few, five, length-append messages (m ∷ [])) in
         record { message = m; fifth = subst (λ (n : ℕ). slice_get (messages ++ m ∷ []) n ≡ Some m) four (got_last messages m); sid_is = refl }
 
-pub says_fifth : (packet : List ℕ) (turns : List Turn) → length (said turns) ≤ 4 → 5 ≤ length (said (Said packet ∷ turns)) → IsNamed (opening_sid (half_said turns) packet) (said (Said packet ∷ turns))
+pub says_fifth : (packet : List ℕ) (turns : List Utterance) → length (said turns) ≤ 4 → 5 ≤ length (said (Said packet ∷ turns)) → IsNamed (opening_sid (half_said turns) packet) (said (Said packet ∷ turns))
 says_fifth packet turns few many = fifth_named (is_part packet) (fragment_at packet) (half_said turns) (said turns) few many
 
-pub hears_fifth : (packet : List ℕ) (turns : List Turn) → length (heard turns) ≤ 4 → 5 ≤ length (heard (Heard_ packet ∷ turns))
+pub hears_fifth : (packet : List ℕ) (turns : List Utterance) → length (heard turns) ≤ 4 → 5 ≤ length (heard (Heard_ packet ∷ turns))
     → IsNamed (opening_sid (half_heard turns) packet) (heard (Heard_ packet ∷ turns))
 hears_fifth packet turns few many = fifth_named (is_part packet) (fragment_at packet) (half_heard turns) (heard turns) few many
 

@@ -9,7 +9,7 @@ use Rattle.channel_model.specs.WireEvent.{Blocked, ByStep, Giver, Idle, Joined, 
 use Rattle.disk_model.specs.DiskEvent.{DiskEvent, Misplaced, Off, OnWire, Switches, Works}
 use Rattle.disk_model.specs.LaneState.{IsShape, LaneState, Shape, fresh}
 use Rattle.disk_model.specs.LaneStep.{EndOnWire, LaneStep, ResetBy}
-use Rattle.lane_laws.proofs.FallsInTurn.{took_falls}
+use Rattle.lane_laws.proofs.FallsByTaking.{took_falls}
 use Rattle.lane_laws.proofs.IdleRuns.{client_same, server_same}
 use Rattle.lane_laws.proofs.RemainingBlocked.{blocked_stays}
 use Rattle.lane_laws.proofs.RemainingRuns.{resets_fall, steps_fall}

@@ -16,7 +16,7 @@ use Rattle.disk_model.specs.ClientRule as client_rules
 use Rattle.disk_model.specs.ClientState.{ClientSession, ClientState}
 use Rattle.disk_model.specs.DiskEvent.{Admitted, Asks, Calm, Desc, DiskEvent, Done, Finished, Misplaced, Moved, Published, Calms, Stored, Switched, Switches, Worked, Works}
 use Rattle.disk_model.specs.LaneState.{LaneState, NearCounts}
-use Rattle.disk_model.specs.LaneStep.{LaneStep, CalmStep, TurnStep, WorkStep}
+use Rattle.disk_model.specs.LaneStep.{LaneStep, CalmStep, SwitchedStep, WorkStep}
 use Rattle.channel_model.specs.Seeing.{seen}
 use Rattle.lane_laws.proofs.RingClientSteps.{completes_slot, in_order, publishing, since_base}
 use Rattle.lane_laws.proofs.RingSessions.{of_client}
@@ -174,7 +174,7 @@ same_near s t l n before is wire server client done = grind arith
 pub near_asked : (s : LaneState) (l : DiskLog) (event : Admitted) (t : LaneState) → Before s l → LaneStep s (Asks event) t → NearStands t (after l (Asks event))
 near_asked s l event t before step = grind arith
 
-pub near_turned : (s : LaneState) (l : DiskLog) (event : Switched) (t : LaneState) → Before s l → TurnStep s event t → NearStands t (after l (Switches event))
+pub near_turned : (s : LaneState) (l : DiskLog) (event : Switched) (t : LaneState) → Before s l → SwitchedStep s event t → NearStands t (after l (Switches event))
 near_turned s l event t before step = grind (arith, ever_count)
 
 pub near_calm : (s : LaneState) (l : DiskLog) (event : Calm) (t : LaneState) → Before s l → CalmStep s event t → NearStands t (after l (Calms event))

@@ -1,7 +1,7 @@
 -- Each event of the work has the number that the log has for it; and what ends a session without a packet has its ground in the ring.
 use Rattle.std.proofs.Common.{◌≡◌, ◌≢◌, ℕ, ◌-◌, ◌%◌, ◌<◌, ◌≤◌, Option, Some, None, List, length, sym, ap, ◌∙◌, subst, arith, length-drop}
 use Rattle.std.proofs.lemmas.Bool.Decides.{nat_tests}
-use Rattle.ldc_queue.specs.Transcript.{Turn}
+use Rattle.ldc_queue.specs.Transcript.{Utterance}
 use Rattle.lane_laws.specs.DiskLog.{DiskLog}
 use Rattle.lane_laws.specs.WorkLaws.{InClient, InServer, MayComplete, MayFetch, MayPublish, WorkNumbersAt}
 use Rattle.lane_laws.specs.WorkLog.{ClientCounts, ServerCounts}
@@ -64,7 +64,7 @@ completes : (s t : LaneState) (l : DiskLog) (at : Seen) (id operation status : �
     → ClientCompletes s.client at s.memory id operation status bytes t.client t.memory → InClient l.work.client (MayComplete id)
 completes s t l at id operation status bytes grounded step = grind (arith, client_may)
 
-pub order_of : (slots : ℕ) (o : Option ServerSession) (session : ServerSession) (d : Option ServerCounts) (c : ServerCounts) (turns : List Turn) → o ≡ Some session → d ≡ Some c
+pub order_of : (slots : ℕ) (o : Option ServerSession) (session : ServerSession) (d : Option ServerCounts) (c : ServerCounts) (turns : List Utterance) → o ≡ Some session → d ≡ Some c
     → ServerOrder slots o d turns → InServerOrder slots session c turns
 order_of slots o session d c turns is has order =
     subst (λ (x : Option ServerCounts). ServerOrder slots (Some session) x turns) has (subst (λ (x : Option ServerSession). ServerOrder slots x d turns) is order)

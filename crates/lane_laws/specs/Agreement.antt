@@ -7,7 +7,7 @@ use Rattle.ldc_link.specs.LinkState.{LinkState, is_up}
 use Rattle.ldc_queue.specs.declared.end.End.{End}
 use Rattle.ldc_queue.specs.declared.end.End.TheVariants.{A, B}
 use Rattle.ldc_queue.specs.Messages.{is_empty}
-use Rattle.ldc_queue.specs.Transcript.{Turn}
+use Rattle.ldc_queue.specs.Transcript.{Utterance}
 use Rattle.vdisk_msg.specs.declared.desc.DiskDesc.{DiskDesc}
 use Rattle.vdisk_msg.specs.declared.request.Request.{Request}
 use Rattle.vdisk_msg.specs.Descriptor as slot_says
@@ -37,7 +37,7 @@ use Rattle.channel_model.specs.OwnMemory.{own_table}
 
 -- A LINK counts what was said and heard, and holds what came of a message that isn't whole; part of its own message is put where part of
 -- one was said; before it is up it has heard nothing and holds nothing; the version that it offers in place of a refused one is 1.0 or 0.0.
-pub record LinkAgrees (k : LinkState) (turns : List Turn) : Type 0 where
+pub record LinkAgrees (k : LinkState) (turns : List Utterance) : Type 0 where
   pub put : k.put_next ≡ counts_next (count_said turns)
   pub take : k.take_next ≡ counts_next (count_heard turns)
   pub heard : k.half_heard ≡ half_heard turns
@@ -145,7 +145,7 @@ pub record ClientEndAgrees (c : ClientState) (shape : Shape) (transcript : Trans
   pub announcing : is_announcing c.session ≡ (is_some c.session && is_stuck_with_own blockage c.handshake.owed)
   pub left : c.link.to_send ≡ client_left c c.session (half_said transcript.client) blockage
 
-abbrev pub RangeAgrees : Option ServerSession → List Turn → Type 0
+abbrev pub RangeAgrees : Option ServerSession → List Utterance → Type 0
 RangeAgrees None turns = ⊤
 RangeAgrees (Some s) turns = (s.seq ≡ wrapped (infos_heard turns + 1)) × (s.range ≡ range_in_work turns)
 

@@ -1,7 +1,7 @@
 -- What an end's session counts, also where somebody forges packets and memory: the ranges of slots that the end said and heard, each message
 -- of the link being the one that is owed or the end's own.
 use Rattle.std.specs.Prelude.{◌≡◌, ℕ, ◌+◌, ◌%◌, ◌^◌, ◌<◌, ◌≤◌, Bool, true, false, List, [], ◌∷◌, ◌++◌, length, Option, Some, None, ⊤}
-use Rattle.ldc_queue.specs.Transcript.{Turn}
+use Rattle.ldc_queue.specs.Transcript.{Utterance}
 use Rattle.vdisk_msg.specs.Pieces.{unit_count}
 use Rattle.vio_tag.specs.Spelling.{canonical}
 use Rattle.channel_model.specs.Sayings.{half_said, heard, said}
@@ -33,7 +33,7 @@ one_where true = 1
 one_where false = 0
 
 -- THE CLIENT: where it announces, what was put of a message and what is left of it are the INFO that does
-abbrev pub ClientHolds : ClientState → List Turn → Type 0
+abbrev pub ClientHolds : ClientState → List Utterance → Type 0
 ClientHolds c turns =
     (session : ClientSession) → c.session ≡ Some session → session.announcing ≡ true → half_said turns ++ c.link.to_send ≡ canonical (announcement c session)
 
@@ -50,7 +50,7 @@ acked_of None = 0
 acked_of (Some session) = session.acked
 
 -- its session counts what was said and heard, as the log does
-pub record ClientCounted (shape : Shape) (c : ClientState) (turns : List Turn) (done : ℕ) (k : Option ClientCounts) : Type 0 where
+pub record ClientCounted (shape : Shape) (c : ClientState) (turns : List Utterance) (done : ℕ) (k : Option ClientCounts) : Type 0 where
   pub slots : c.slots ≡ shape.slots
   pub holds : ClientHolds c turns
   pub announced : announced_of c.session ≡ range_sum shape.slots 1 (said turns)
@@ -67,7 +67,7 @@ pub record HoldsAnswer (v : ServerState) (bytes : List ℕ) : Type 0 where
   pub finished : session.finished ≡ session.asked
   pub bytes_are : bytes ≡ canonical (answer v range)
 
-abbrev pub ServerHolds : ServerState → List Turn → Type 0
+abbrev pub ServerHolds : ServerState → List Utterance → Type 0
 ServerHolds v turns = v.handshake.owed ≡ None → 1 ≤ length v.link.to_send → HoldsAnswer v (half_said turns ++ v.link.to_send)
 
 -- without a range all that was asked for is answered; a range is what isn't, begins where so many slots went before, and has a number of 8
@@ -78,7 +78,7 @@ RangeStands slots (Some range) d =
     (d.asked ≡ d.answered + range_length slots range.start range.end) × (range.start < slots) × (range.end < slots) × (range.start ≡ wrapped d.answered % slots)
     × (range.seq < 2 ^ 64)
 
-pub record InServerOrder (slots : ℕ) (session : ServerSession) (d : ServerCounts) (turns : List Turn) : Type 0 where
+pub record InServerOrder (slots : ℕ) (session : ServerSession) (d : ServerCounts) (turns : List Utterance) : Type 0 where
   pub asked : d.asked ≡ range_sum slots 1 (heard turns)
   pub answered : d.answered ≡ range_sum slots 2 (said turns)
   pub finished : d.answered ≤ d.finished
@@ -87,12 +87,12 @@ pub record InServerOrder (slots : ℕ) (session : ServerSession) (d : ServerCoun
   pub seq : session.seq ≡ wrapped (range_count 1 (heard turns) + 1)
   pub replies : range_count 1 (heard turns) ≤ range_count 2 (said turns) + one_range session.range
 
-pub record NothingAsked (slots : ℕ) (turns : List Turn) : Type 0 where
+pub record NothingAsked (slots : ℕ) (turns : List Utterance) : Type 0 where
   pub asked : range_sum slots 1 (heard turns) ≡ 0
   pub answered : range_sum slots 2 (said turns) ≡ 0
   pub infos : range_count 1 (heard turns) ≡ 0
 
-abbrev pub ServerOrder : ℕ → Option ServerSession → Option ServerCounts → List Turn → Type 0
+abbrev pub ServerOrder : ℕ → Option ServerSession → Option ServerCounts → List Utterance → Type 0
 ServerOrder slots None d turns = NothingAsked slots turns
 ServerOrder slots (Some session) None turns = ⊥
 ServerOrder slots (Some session) (Some d) turns = InServerOrder slots session d turns
@@ -109,7 +109,7 @@ abbrev pub UnitFits : Option Work → Type 0
 UnitFits None = ⊤
 UnitFits (Some work) = UnitIn (unit_count (desc_of work).size) work.progress
 
-pub record ServerCounted (shape : Shape) (v : ServerState) (turns : List Turn) (d : Option ServerCounts) : Type 0 where
+pub record ServerCounted (shape : Shape) (v : ServerState) (turns : List Utterance) (d : Option ServerCounts) : Type 0 where
   pub slots : v.slots ≡ shape.slots
   pub blocks : v.blocks ≡ shape.blocks
   pub holds : ServerHolds v turns

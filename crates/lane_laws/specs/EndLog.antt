@@ -1,7 +1,7 @@
 -- What an end is by what it said and heard since it last began anew, beside its link's phase and its handshake: the range that its server has in
--- work, and what it has still to send. Each is counted from the turns, newest first.
+-- work, and what it has still to send. Each is counted from the utterances, newest first.
 use Rattle.std.specs.Prelude.{ℕ, ◌+◌, Bool, true, false, List, [], ◌∷◌, Option, Some, None}
-use Rattle.ldc_queue.specs.Transcript.{Heard, Said, Turn}
+use Rattle.ldc_queue.specs.Transcript.{Heard, Said, Utterance}
 use Rattle.vio_bytes.specs.Place.{number_at}
 use Rattle.vio_tag.specs.declared.message.Message.{Message}
 use Rattle.vio_tag.specs.Spelling.{canonical}
@@ -33,12 +33,12 @@ abbrev pub answered_by : Option (List ℕ) → Option SlotRange → Option SlotR
 answered_by None range = range
 answered_by (Some message) range = None
 
-abbrev pub range_in_work : List Turn → Option SlotRange
+abbrev pub range_in_work : List Utterance → Option SlotRange
 range_in_work [] = None
 range_in_work (Said packet ∷ turns) = answered_by (range_ended 2 (half_said turns) packet) (range_in_work turns)
 range_in_work (Heard packet ∷ turns) = asked_by (range_ended 1 (half_heard turns) packet) (range_in_work turns)
 
-abbrev pub infos_heard : List Turn → ℕ
+abbrev pub infos_heard : List Utterance → ℕ
 infos_heard [] = 0
 infos_heard (Said packet ∷ turns) = infos_heard turns
 infos_heard (Heard packet ∷ turns) = infos_heard turns + one_in (range_ended 1 (half_heard turns) packet)

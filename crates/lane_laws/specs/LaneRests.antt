@@ -1,7 +1,7 @@
 -- Both ends of a lane rest on what they heard, and said what their handshakes hold, as ends on a channel.
 use Rattle.std.specs.Prelude.{List}
 use Rattle.ldc_link.specs.declared.phase.Role.TheVariants.{Initiator, Responder}
-use Rattle.ldc_queue.specs.Transcript.{Turn}
+use Rattle.ldc_queue.specs.Transcript.{Utterance}
 use Rattle.channel_model.specs.TranscriptLog.{TranscriptLog}
 use Rattle.disk_model.specs.ClientState.{ClientState}
 use Rattle.disk_model.specs.LaneState.{LaneState}
@@ -9,20 +9,20 @@ use Rattle.disk_model.specs.ServerState.{ServerState}
 use Rattle.channel_laws.specs.EndRests.{EndRests, EndUtters}
 use Rattle.lane_laws.specs.ChannelEnds.{client_core, server_core}
 
-abbrev pub ClientRests : ClientState → List Turn → Type 0
+abbrev pub ClientRests : ClientState → List Utterance → Type 0
 ClientRests c turns = EndRests Initiator (client_core c) turns
 
-abbrev pub ServerRests : ServerState → List Turn → Type 0
+abbrev pub ServerRests : ServerState → List Utterance → Type 0
 ServerRests v turns = EndRests Responder (server_core v) turns
 
 pub record LaneRests (s : LaneState) (transcript : TranscriptLog) : Type 0 where
   pub client : ClientRests s.client transcript.client
   pub server : ServerRests s.server transcript.server
 
-abbrev pub ClientUtters : ClientState → List Turn → Type 0
+abbrev pub ClientUtters : ClientState → List Utterance → Type 0
 ClientUtters c turns = EndUtters (client_core c) turns
 
-abbrev pub ServerUtters : ServerState → List Turn → Type 0
+abbrev pub ServerUtters : ServerState → List Utterance → Type 0
 ServerUtters v turns = EndUtters (server_core v) turns
 
 pub record LaneUtters (s : LaneState) (transcript : TranscriptLog) : Type 0 where

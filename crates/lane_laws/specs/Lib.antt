@@ -49,7 +49,7 @@ pub mod Statuses
 pub mod CalmEnds
 pub mod NewSessions
 pub mod NearInLane
-pub mod CountsInTurn
+pub mod CountsOrdered
 pub use Rattle.vio_handshake.specs.Rules
 pub mod ChannelEnds
 pub mod SameEnds

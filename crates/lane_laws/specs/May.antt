@@ -10,7 +10,7 @@ use Rattle.lane_laws.specs.DiskLog.{DiskLog, after, nothing_yet}
 use Rattle.lane_laws.specs.NearLaws.{NearAt}
 use Rattle.lane_laws.specs.OrderLaws.{OrderAt}
 use Rattle.lane_laws.specs.QuietLaws.{IdleAt, TickAt, TwoIdleAt}
-use Rattle.lane_laws.specs.RequestLaws.{AdmissionAt, CarriesAt, OnceAt, TurnsAt}
+use Rattle.lane_laws.specs.RequestLaws.{AdmissionAt, CarriesAt, OnceAt, ServerRunsAt}
 use Rattle.lane_laws.specs.WorkLaws.{OpeningsAt, PiecesAt, RangesAt, WorkNumbersAt, WorkResetAt, WorkUnforgedAt, WorksAt}
 
 abbrev pub sizes_in : DiskLog → Sizes
@@ -35,7 +35,7 @@ pub record May (l : DiskLog) (event : DiskEvent) : Type 0 where
   pub admission : AdmissionAt l event
   pub once : OnceAt l event
   pub carries : CarriesAt l event
-  pub turns : TurnsAt l event
+  pub turns : ServerRunsAt l event
   -- work
   pub works : WorksAt l event
   pub numbers : WorkNumbersAt l event

@@ -68,5 +68,5 @@ pub record ServerIsAsked (most count : ℕ) (v u : ServerState) : Type 0 where
   pub within : asked_in u.session ≤ most
   pub serving : serving_left u.work u.session ≤ serving_left v.work v.session + 10 * count
 
-abbrev pub ServerTurn : ℕ → ServerState → ServerState → Type 0
-ServerTurn most v u = ServerHears v u ⊎ ((count : ℕ) × ServerIsAsked most count v u)
+abbrev pub ServerHeard : ℕ → ServerState → ServerState → Type 0
+ServerHeard most v u = ServerHears v u ⊎ ((count : ℕ) × ServerIsAsked most count v u)

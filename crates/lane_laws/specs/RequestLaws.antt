@@ -48,54 +48,54 @@ abbrev pub CarriesAt : DiskLog → DiskEvent → Type 0
 CarriesAt l (Works (Done id operation status bytes)) = Carries l.work id status bytes
 CarriesAt l _ = ⊤
 
--- TURNS: a server makes a step or is reset or stopped only where it runs, and is started, or has nothing done to it, only where it is
+-- A SERVER THAT RUNS: it makes a step or is reset or stopped only where it runs, and is started, or has nothing done to it, only where it is
 -- stopped
-abbrev pub TurnOfEnd : End → WorkLog → Type 0
-TurnOfEnd A w = ⊤
-TurnOfEnd B w = w.stopped ≡ false
+abbrev pub RunsAtEnd : End → WorkLog → Type 0
+RunsAtEnd A w = ⊤
+RunsAtEnd B w = w.stopped ≡ false
 
-abbrev pub TurnOfReset : Giver → End → WorkLog → Type 0
-TurnOfReset ByStep e w = TurnOfEnd e w
-TurnOfReset ByScript e w = TurnOfEnd e w
-TurnOfReset ByRestart A w = ⊥
-TurnOfReset ByRestart B w = w.stopped ≡ false
-TurnOfReset ByTick A w = ⊤
-TurnOfReset ByTick B w = ⊥
+abbrev pub RunsAtReset : Giver → End → WorkLog → Type 0
+RunsAtReset ByStep e w = RunsAtEnd e w
+RunsAtReset ByScript e w = RunsAtEnd e w
+RunsAtReset ByRestart A w = ⊥
+RunsAtReset ByRestart B w = w.stopped ≡ false
+RunsAtReset ByTick A w = ⊤
+RunsAtReset ByTick B w = ⊥
 
-abbrev pub TurnOfWire : WorkLog → WireEvent → Type 0
-TurnOfWire w (Joined e lost) = TurnOfEnd e w
-TurnOfWire w (Took e packet opens) = TurnOfEnd e w
-TurnOfWire w (Sent e packet opens) = TurnOfEnd e w
-TurnOfWire w (Idle e) = TurnOfEnd e w
-TurnOfWire w (Blocked e) = TurnOfEnd e w
-TurnOfWire w (Reset e cause packet lost) = TurnOfReset (giver cause) e w
-TurnOfWire w _ = ⊤
+abbrev pub RunsAtWire : WorkLog → WireEvent → Type 0
+RunsAtWire w (Joined e lost) = RunsAtEnd e w
+RunsAtWire w (Took e packet opens) = RunsAtEnd e w
+RunsAtWire w (Sent e packet opens) = RunsAtEnd e w
+RunsAtWire w (Idle e) = RunsAtEnd e w
+RunsAtWire w (Blocked e) = RunsAtEnd e w
+RunsAtWire w (Reset e cause packet lost) = RunsAtReset (giver cause) e w
+RunsAtWire w _ = ⊤
 
-abbrev pub TurnOfWork : WorkLog → Worked → Type 0
-TurnOfWork w (Published id) = ⊤
-TurnOfWork w (Done id operation status bytes) = ⊤
-TurnOfWork w (Desc slot bytes) = w.stopped ≡ false
-TurnOfWork w (Moved unit fault) = w.stopped ≡ false
-TurnOfWork w (Stored operation block count failed) = w.stopped ≡ false
-TurnOfWork w (Finished slot status) = w.stopped ≡ false
-TurnOfWork w Misplaced = ⊥
+abbrev pub RunsAtWork : WorkLog → Worked → Type 0
+RunsAtWork w (Published id) = ⊤
+RunsAtWork w (Done id operation status bytes) = ⊤
+RunsAtWork w (Desc slot bytes) = w.stopped ≡ false
+RunsAtWork w (Moved unit fault) = w.stopped ≡ false
+RunsAtWork w (Stored operation block count failed) = w.stopped ≡ false
+RunsAtWork w (Finished slot status) = w.stopped ≡ false
+RunsAtWork w Misplaced = ⊥
 
-abbrev pub TurnOfSwitch : WorkLog → Switched → Type 0
-TurnOfSwitch w Stopped = w.stopped ≡ false
-TurnOfSwitch w Started = w.stopped ≡ true
-TurnOfSwitch w Off = w.stopped ≡ true
+abbrev pub RunsAtSwitch : WorkLog → Switched → Type 0
+RunsAtSwitch w Stopped = w.stopped ≡ false
+RunsAtSwitch w Started = w.stopped ≡ true
+RunsAtSwitch w Off = w.stopped ≡ true
 
-abbrev pub TurnOfCalm : WorkLog → Calm → Type 0
-TurnOfCalm w CalmTick = ⊤
-TurnOfCalm w CalmStop = w.stopped ≡ true
-TurnOfCalm w CalmStart = w.stopped ≡ false
-TurnOfCalm w (CalmReset A) = ⊥
-TurnOfCalm w (CalmReset B) = w.stopped ≡ true
-TurnOfCalm w CalmRestart = w.stopped ≡ true
+abbrev pub RunsAtCalm : WorkLog → Calm → Type 0
+RunsAtCalm w CalmTick = ⊤
+RunsAtCalm w CalmStop = w.stopped ≡ true
+RunsAtCalm w CalmStart = w.stopped ≡ false
+RunsAtCalm w (CalmReset A) = ⊥
+RunsAtCalm w (CalmReset B) = w.stopped ≡ true
+RunsAtCalm w CalmRestart = w.stopped ≡ true
 
-abbrev pub TurnsAt : DiskLog → DiskEvent → Type 0
-TurnsAt l (OnWire event) = TurnOfWire l.work event
-TurnsAt l (Asks event) = ⊤
-TurnsAt l (Works event) = TurnOfWork l.work event
-TurnsAt l (Switches event) = TurnOfSwitch l.work event
-TurnsAt l (Calms event) = TurnOfCalm l.work event
+abbrev pub ServerRunsAt : DiskLog → DiskEvent → Type 0
+ServerRunsAt l (OnWire event) = RunsAtWire l.work event
+ServerRunsAt l (Asks event) = ⊤
+ServerRunsAt l (Works event) = RunsAtWork l.work event
+ServerRunsAt l (Switches event) = RunsAtSwitch l.work event
+ServerRunsAt l (Calms event) = RunsAtCalm l.work event

@@ -2,7 +2,7 @@
 -- the announced ones that it hasn't fetched are READY; so are the published ones that aren't announced; all others are FREE. What is
 -- acknowledged is finished, and what is fetched or asked for was announced.
 use Rattle.std.specs.Prelude.{◌≡◌, ℕ, ◌+◌, ◌%◌, ◌<◌, ◌≤◌, List, Option, Some, None, slice_get, slice_index, ⊤}
-use Rattle.dring.specs.Slots.{free_state, slot_bytes}
+use Rattle.dring.specs.Slots.{accepted_state, done_state, free_state, ready_state, slot_bytes}
 use Rattle.ldc_queue.specs.declared.end.ChannelState.TheVariants.{Up}
 use Rattle.ldc_queue.specs.Wire.{Wire}
 use Rattle.lane_laws.specs.DiskLog.{DiskLog}
@@ -47,12 +47,12 @@ SlotsIn slots w wire ring (Some k) =
 abbrev pub SlotsInOrder : DiskLog → Type 0
 SlotsInOrder l = SlotsIn l.shape.slots l.work l.wire.wire l.ring l.work.client
 
--- IN THE MEMORY: the bytes of the slot of the number j, by its state: DONE 4 with its status, ACCEPTED 3, READY 2, or FREE
+-- IN THE MEMORY: the bytes of the slot of the number j, by its state: DONE with its status, ACCEPTED, READY, or FREE
 pub record BytesOf (r : RingOf) (base announced published finished descs j slot : ℕ) (bytes : List ℕ) : Type 0 where
-  pub done : j < finished → (status : ℕ) × HoldsIssued r slot (base + j) 4 status bytes
-  pub accepted : finished ≤ j → j < descs → HoldsIssued r slot (base + j) 3 0 bytes
-  pub announced_ready : descs ≤ j → j < announced → HoldsIssued r slot (base + j) 2 0 bytes
-  pub published_ready : announced ≤ j → j < published → HoldsIssued r slot (base + j) 2 0 bytes
+  pub done : j < finished → (status : ℕ) × HoldsIssued r slot (base + j) done_state status bytes
+  pub accepted : finished ≤ j → j < descs → HoldsIssued r slot (base + j) accepted_state 0 bytes
+  pub announced_ready : descs ≤ j → j < announced → HoldsIssued r slot (base + j) ready_state 0 bytes
+  pub published_ready : announced ≤ j → j < published → HoldsIssued r slot (base + j) ready_state 0 bytes
   pub free : published ≤ j → slice_index bytes 0 ≡ free_state
 
 pub record RingInOrder (s : LaneState) (l : DiskLog) (k : ClientCounts) : Type 0 where

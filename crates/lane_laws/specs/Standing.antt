@@ -1,7 +1,7 @@
 -- How the requests of a lane and its log stand to each other, also where somebody forges packets and memory.
 use Rattle.std.specs.Prelude.{◌≡◌, ℕ, ◌+◌, ◌≤◌, drop, length, Option, Some, None, ⊤}
 use Rattle.lane_laws.specs.DiskLog.{DiskLog}
-use Rattle.lane_laws.specs.RequestLaws.{AdmissionAt, OnceAt, TurnsAt}
+use Rattle.lane_laws.specs.RequestLaws.{AdmissionAt, OnceAt, ServerRunsAt}
 use Rattle.lane_laws.specs.WorkLog.{WorkLog}
 use Rattle.disk_model.specs.ClientState.{ClientSession, ClientState}
 use Rattle.disk_model.specs.DiskEvent.{DiskEvent}
@@ -31,4 +31,4 @@ pub record LaneInvariant (s : LaneState) (l : DiskLog) : Type 0 where
 pub record MayOfRequests (l : DiskLog) (event : DiskEvent) : Type 0 where
   pub admission : AdmissionAt l event
   pub once : OnceAt l event
-  pub turns : TurnsAt l event
+  pub turns : ServerRunsAt l event

@@ -7,7 +7,7 @@ use Rattle.cookie_copy.specs.Faults.{both_up, first_copy_fault}
 use Rattle.ldc_link.specs.declared.phase.Role.TheVariants.{Initiator, Responder}
 use Rattle.ldc_queue.specs.declared.end.End.{End}
 use Rattle.ldc_queue.specs.declared.end.End.TheVariants.{A, B}
-use Rattle.ldc_queue.specs.Transcript.{Turn}
+use Rattle.ldc_queue.specs.Transcript.{Utterance}
 use Rattle.vdisk_msg.specs.declared.desc.DiskDesc.{DiskDesc}
 use Rattle.vdisk_msg.specs.declared.request.Request.{Request}
 use Rattle.vdisk_msg.specs.Descriptor as slot_says
@@ -29,7 +29,7 @@ use Rattle.disk_model.specs.LaneState.{pages_of}
 use Rattle.disk_model.specs.Offering.{client_offer, server_offer}
 use Rattle.disk_model.specs.ServerState.{SlotRange}
 use Rattle.channel_model.specs.Ranges.{wrapped}
-use Rattle.dring.specs.Slots.{range_length, ready_state}
+use Rattle.dring.specs.Slots.{done_state, range_length, ready_state}
 use Rattle.channel_laws.specs.Blockage.{Clear}
 use Rattle.lane_laws.specs.DiskLog.{DiskLog}
 use Rattle.channel_model.specs.Messages.{end_of, ended_by, range_ended, seq_of, sid_of, start_of}
@@ -124,7 +124,7 @@ pub record Announces (l : DiskLog) (c : ClientCounts) (message : List ℕ) : Typ
   pub accepted : l.blocked.client ≡ Clear → c.base + c.published ≡ length l.work.issued
   pub active : state_of message ≡ 1
 
-pub record AsksFor (slots : ℕ) (turns : List Turn) (h : Handshake) (c : ServerCounts) (message : List ℕ) : Type 0 where
+pub record AsksFor (slots : ℕ) (turns : List Utterance) (h : Handshake) (c : ServerCounts) (message : List ℕ) : Type 0 where
   pub names : NamesRing h.sid h.draft.ident_peer message
   pub next : seq_of message ≡ wrapped (infos_heard turns + 1)
   pub begins : start_of message ≡ c.asked % slots
@@ -138,7 +138,7 @@ pub record Acknowledges (slots : ℕ) (h : Handshake) (c : ClientCounts) (messag
   pub announced : c.acked + range_length slots (start_of message) (end_of message) ≤ c.announced
 
 -- its number, its slots and the byte of its state are those of the INFO
-pub record AcknowledgesRange (slots : ℕ) (turns : List Turn) (h : Handshake) (c : ServerCounts) (message : List ℕ) : Type 0 where
+pub record AcknowledgesRange (slots : ℕ) (turns : List Utterance) (h : Handshake) (c : ServerCounts) (message : List ℕ) : Type 0 where
   pub names : NamesOwn h h.draft.ident_peer message
   pub range : SlotRange
   pub in_work : range_in_work turns ≡ Some range
@@ -158,7 +158,7 @@ abbrev pub OfServerRange : DiskLog → Option (List ℕ) → (ServerCounts → L
 OfServerRange l range holds = IfRange range (λ (message : List ℕ). InServer l.work.server (λ (c : ServerCounts). holds c message))
 
 -- an INFO is 1, an ACK 2 and a NACK 4; and no message of groups is heard, which have the envelope 0x0101
-pub record HearsNoOther (subtype : ℕ) (turns : List Turn) (packet : List ℕ) : Type 0 where
+pub record HearsNoOther (subtype : ℕ) (turns : List Utterance) (packet : List ℕ) : Type 0 where
   pub ranges : (other : ℕ) → other ≢ subtype → range_ended other (half_heard turns) packet ≡ None
   pub groups : (message : List ℕ) → ended_by (half_heard turns) packet ≡ Some message → number_at 2 2 message ≢ 0x0101
 
@@ -235,7 +235,7 @@ OpeningsAt l _ = ⊤
 -- descriptor, which isn't READY, or a copy that was refused
 pub record ClientFailed (l : DiskLog) (slot state : ℕ) (c : ClientCounts) : Type 0 where
   pub slot_is : slot ≡ (l.work.done - c.base) % l.shape.slots
-  pub state_is : state ≢ 4
+  pub state_is : state ≢ done_state
   pub acked : l.work.done < c.base + c.acked
 
 abbrev pub InRange : ServerCounts → Type 0
@@ -243,7 +243,7 @@ InRange c = c.finished < c.asked
 
 pub record FetchFailed (l : DiskLog) (slot state : ℕ) (c : ServerCounts) : Type 0 where
   pub next : MayFetch l slot c
-  pub state_is : state ≢ 2
+  pub state_is : state ≢ ready_state
   pub in_range : InRange c
 
 abbrev pub OwnReset : DiskLog → End → Cause → Type 0

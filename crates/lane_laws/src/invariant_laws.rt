@@ -20,7 +20,7 @@ ghost use Rattle.vio_tag.specs.declared.cause.Cause.{Cause};
 ghost use Rattle.lane_laws.specs.Agreement.{ClientAgrees, IdleAgrees, ServerAgrees};
 ghost use Rattle.lane_laws.specs.DiskLog.{after, nothing_yet};
 ghost use Rattle.lane_laws.specs.QuietLaws.{TickAt};
-ghost use Rattle.lane_laws.specs.RequestLaws.{AdmissionAt, CarriesAt, OnceAt, TurnsAt};
+ghost use Rattle.lane_laws.specs.RequestLaws.{AdmissionAt, CarriesAt, OnceAt, ServerRunsAt};
 ghost use Rattle.lane_laws.specs.WorkLaws.{Unforged};
 ghost use Rattle.lane_laws.specs.WorkLog.{ClientCounts, ServerCounts};
 ghost use Rattle.disk_model.specs.DiskEvent.{Desc, DiskEvent, Done, OnWire, Published, Works};
@@ -32,7 +32,7 @@ ghost use Rattle.lane_laws.specs.ChannelEnds.{core_event, core_of};
 ghost use Rattle.vio_handshake.specs.Offers.{Match};
 ghost use Rattle.lane_laws.specs.CompletedIds.{done_ids, CountsFrom};
 ghost use Rattle.lane_laws.specs.CompletesSlot.{CompletesSlot};
-ghost use Rattle.lane_laws.specs.CountsInTurn.{CountsInTurn};
+ghost use Rattle.lane_laws.specs.CountsOrdered.{CountsOrdered};
 ghost use Rattle.lane_laws.specs.RingAgreed.{AlwaysAgree, RingStands};
 ghost use Rattle.channel_laws.specs.Grounds.{OpenRests};
 ghost use Rattle.lane_laws.specs.HeardStands.{HeardAt};
@@ -102,7 +102,7 @@ pub fn requests_complete_once_in_order_on_a_lane()
         → CountsFrom 0 (done_ids events) }
     ensures turns { (shape : Shape) (events : List DiskEvent) (s : LaneState)
         → IsShape shape → Run LaneStep (fresh shape) events s
-        → Lawful TurnsAt after (nothing_yet shape) events }
+        → Lawful ServerRunsAt after (nothing_yet shape) events }
 {}
 
 /// Along every run of a lane, forged or not: a completion of a read with the status 0 carries 512 bytes a block, and
@@ -303,7 +303,7 @@ pub fn sessions_count_alike()
         → IsShape shape → Run LaneStep (fresh shape) events s
         → (log_of after (nothing_yet shape) events).wire.forged ≡ false
         → (log_of after (nothing_yet shape) events).work.client ≡ Some k
-        → (log_of after (nothing_yet shape) events).work.server ≡ Some d → CountsInTurn k d }
+        → (log_of after (nothing_yet shape) events).work.server ≡ Some d → CountsOrdered k d }
 {}
 
 /// On a lane that nobody forged: a completion is of the first request that isn't done, and carries the status with

@@ -12,7 +12,7 @@ use Rattle.ldc_packet.specs.Form.{HasForm}
 use Rattle.ldc_queue.specs.Fragments.{Fragment, fragment_at, fragments_in, is_part}
 use Rattle.ldc_queue.specs.Messages.{AllMayCome, MayCome, half_in, half_with}
 use Rattle.ldc_queue.specs.Numbered.{is_numbered, numbered}
-use Rattle.ldc_queue.specs.Transcript.{Heard as Heard_, Turn, numbered_heard}
+use Rattle.ldc_queue.specs.Transcript.{Heard as Heard_, Utterance, numbered_heard}
 use Rattle.ldc_link.specs.Conversing.{IsData, fragment_of}
 use Rattle.ldc_link.specs.Following.{Follows}
 use Rattle.ldc_link.specs.LinkState.{LinkState, cleared, offered}
@@ -29,17 +29,17 @@ may_come_more half [] f all may = (may, tt)
 may_come_more half (x ∷ xs) f all may = (all.0, may_come_more (half_with x.stop (half ++ x.bytes)) xs f all.1 may)
 
 -- the parts that were heard, with one packet more
-AfterBytes : List Turn → List ℕ → Type 0
+AfterBytes : List Utterance → List ℕ → Type 0
 AfterBytes turns bytes = AllMayCome [] (fragments_in (numbered_heard turns ++ numbered (bytes ∷ [])))
 
 -- a packet that is no part leaves them as they are
-stays : (turns : List Turn) (bytes : List ℕ) → AllMayCome [] (fragments_in (numbered_heard turns))
+stays : (turns : List Utterance) (bytes : List ℕ) → AllMayCome [] (fragments_in (numbered_heard turns))
     → is_numbered bytes ≡ false → AfterBytes turns bytes
 unfolding AfterBytes
 stays turns bytes all is =
     subst (λ (xs : List (List ℕ)). AllMayCome [] (fragments_in xs)) (sym (quiet bytes (numbered_heard turns) is)) all
 
-comes_body : (k : LinkState) (turns : List Turn) (bytes : List ℕ) (s : Subtype) (n : ℕ) (b : Body) (m : LinkState)
+comes_body : (k : LinkState) (turns : List Utterance) (bytes : List ℕ) (s : Subtype) (n : ℕ) (b : Body) (m : LinkState)
     → Follows k turns → AllMayCome [] (fragments_in (numbered_heard turns)) → HasForm s b
     → is_numbered bytes ≡ has_number b → is_part bytes ≡ has_part b → (IsData b → fragment_at bytes ≡ fragment_of b)
     → takes_body k s n b ≡ Heard m → AfterBytes turns bytes
@@ -64,7 +64,7 @@ comes_body k turns bytes s n (Part start stop len own) m follows all form is par
     (subst (λ (half : List ℕ). MayCome half f) follows.half step.2))
 
 -- each part that is heard may come
-pub parts_come : (k : LinkState) (turns : List Turn) (bytes : List ℕ) (m : LinkState) → Follows k turns
+pub parts_come : (k : LinkState) (turns : List Utterance) (bytes : List ℕ) (m : LinkState) → Follows k turns
     → AllMayCome [] (fragments_in (numbered_heard turns)) → TakesBytes k bytes (Heard m)
     → AllMayCome [] (fragments_in (numbered_heard (Heard_ bytes ∷ turns)))
 unfolding AfterBytes
@@ -77,11 +77,11 @@ parts_come k turns bytes m follows all takes = from takes.decoded takes.unpacks 
         (λ carries. spelled_fragment bytes p carries unpacks.packet.0 unpacks.packet.1) (sym is)
     from (Err fault) unpacks is = absurd (cc)
 
-pub offers_follow : (k : LinkState) (turns : List Turn) (message : List ℕ) → Follows k turns
+pub offers_follow : (k : LinkState) (turns : List Utterance) (message : List ℕ) → Follows k turns
     → Follows (offered message k) turns
 offers_follow k turns message follows =
     record { puts = follows.puts; takes = follows.takes; half = follows.half; offers = follows.offers }
 
-pub clears_follow : (k : LinkState) (turns : List Turn) → Follows k turns → Follows (cleared k) turns
+pub clears_follow : (k : LinkState) (turns : List Utterance) → Follows k turns → Follows (cleared k) turns
 clears_follow k turns follows =
     record { puts = follows.puts; takes = follows.takes; half = follows.half; offers = follows.offers }

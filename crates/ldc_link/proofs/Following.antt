@@ -14,7 +14,7 @@ use Rattle.ldc_packet.specs.Spelling.{seqid_at}
 use Rattle.ldc_queue.specs.Fragments.{Fragment, fragment_at, fragments_in, is_part, joins}
 use Rattle.ldc_queue.specs.Messages.{half_in, half_with}
 use Rattle.ldc_queue.specs.Numbered.{CountUp, is_numbered, kept, numbered}
-use Rattle.ldc_queue.specs.Transcript.{Heard as Heard_, Turn, numbered_heard}
+use Rattle.ldc_queue.specs.Transcript.{Heard as Heard_, Utterance, numbered_heard}
 use Rattle.ldc_queue.proofs.Messages.{fragments_in-append, half_in-append}
 use Rattle.vio_tag.specs.declared.cause.Cause.{Cause}
 use Rattle.ldc_link.specs.declared.phase.LinkPhase.{LinkPhase}
@@ -95,7 +95,7 @@ went_counted k (Ok ph) m little is = (ph, little, sym (ap (state_of_heard m) is)
 went_counted k (Err cause) m little is = absurd (cc)
 
 -- a packet without a number is heard
-hears_quietly : (k : LinkState) (turns : List Turn) (bytes : List ℕ) (ph : LinkPhase) → Follows k turns → OffersLittle ph → is_numbered bytes ≡ false
+hears_quietly : (k : LinkState) (turns : List Utterance) (bytes : List ℕ) (ph : LinkPhase) → Follows k turns → OffersLittle ph → is_numbered bytes ≡ false
     → Follows (record k { phase = ph }) (Heard_ bytes ∷ turns)
 hears_quietly k turns bytes ph follows little is = record {
   puts = follows.puts;
@@ -114,7 +114,7 @@ parts_more false bytes fragment xs is part same =
     ap fragments_in (loud bytes xs is) ∙ fragments_in-append xs (bytes ∷ []) ∙ ap (λ (c : Bool). fragments_in xs ++ joins c (fragment_at bytes) []) part
 
 -- a packet that is heard
-hears_body : (k : LinkState) (turns : List Turn) (bytes : List ℕ) (s : Subtype) (n : ℕ) (b : Body) (m : LinkState) → Follows k turns → HasForm s b
+hears_body : (k : LinkState) (turns : List Utterance) (bytes : List ℕ) (s : Subtype) (n : ℕ) (b : Body) (m : LinkState) → Follows k turns → HasForm s b
     → is_numbered bytes ≡ has_number b → is_part bytes ≡ has_part b → (IsData b → fragment_at bytes ≡ fragment_of b) → seqid_at bytes ≡ n → takes_body k s n b ≡ Heard m
     → CountUp (length (numbered_heard turns) + 1) (numbered (bytes ∷ [])) × Follows m (Heard_ bytes ∷ turns)
 unfolding has_number has_part
@@ -156,7 +156,7 @@ hears_body k turns bytes s n (Part start stop len own) m follows form is part sa
     )
 
 -- what a link takes may stand in the log, and it follows what its end heard
-pub takes_follow : (k : LinkState) (turns : List Turn) (bytes : List ℕ) (m : LinkState) → Follows k turns → TakesBytes k bytes (Heard m)
+pub takes_follow : (k : LinkState) (turns : List Utterance) (bytes : List ℕ) (m : LinkState) → Follows k turns → TakesBytes k bytes (Heard m)
     → CountUp (length (numbered_heard turns) + 1) (numbered (bytes ∷ [])) × Follows m (Heard_ bytes ∷ turns)
 takes_follow k turns bytes m follows takes = from takes.decoded takes.unpacks takes.is
   where

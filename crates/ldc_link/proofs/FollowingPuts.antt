@@ -7,7 +7,7 @@ use Rattle.ldc_packet.specs.Form.{HasWidths, IsWellFormed}
 use Rattle.ldc_packet.specs.Spelling.{SpellsPacket, canonical}
 use Rattle.ldc_packet.proofs.Canonical.{canonical_spells}
 use Rattle.ldc_queue.specs.Numbered.{CountUp, is_numbered, numbered}
-use Rattle.ldc_queue.specs.Transcript.{Said, Turn, numbered_said}
+use Rattle.ldc_queue.specs.Transcript.{Said, Utterance, numbered_said}
 use Rattle.ldc_link.specs.declared.phase.LinkPhase.{LinkPhase}
 use Rattle.ldc_link.specs.declared.phase.LinkPhase.TheVariants as phase
 use Rattle.ldc_link.specs.Calls.{Puts}
@@ -26,11 +26,11 @@ behind_in ph k = record k {
   begun = begun_behind_put ph k.to_send k.begun;
 }
 
-abbrev SaysRightly : LinkState → List Turn → List ℕ → LinkState → Type 0
+abbrev SaysRightly : LinkState → List Utterance → List ℕ → LinkState → Type 0
 SaysRightly k turns bytes m = CountUp (length (numbered_said turns) + 1) (numbered (bytes ∷ [])) × Follows m (Said bytes ∷ turns)
 
 -- a packet without a number is said
-says_quietly : (k : LinkState) (turns : List Turn) (p : Packet) (m : LinkState) → Follows k turns → IsWellFormed p → HasWidths p → has_number p.body ≡ false
+says_quietly : (k : LinkState) (turns : List Utterance) (p : Packet) (m : LinkState) → Follows k turns → IsWellFormed p → HasWidths p → has_number p.body ≡ false
     → m.put_next ≡ k.put_next → m.take_next ≡ k.take_next → m.half_heard ≡ k.half_heard → OffersLittle m.phase → SaysRightly k turns (canonical p) m
 says_quietly k turns p m follows form fits without puts takes half little =
     let is : is_numbered (canonical p) ≡ false = spelled_numbered (canonical p) p (canonical_spells p form fits) ∙ without in (
@@ -44,7 +44,7 @@ says_quietly k turns p m follows form fits without puts takes half little =
     )
 
 -- one with the next number
-says_loudly : (k : LinkState) (turns : List Turn) (p : Packet) (m : LinkState) → Follows k turns → IsWellFormed p → HasWidths p → has_number p.body ≡ true
+says_loudly : (k : LinkState) (turns : List Utterance) (p : Packet) (m : LinkState) → Follows k turns → IsWellFormed p → HasWidths p → has_number p.body ≡ true
     → p.seqid ≡ k.put_next → m.put_next ≡ next_number k.put_next → m.take_next ≡ k.take_next → m.half_heard ≡ k.half_heard → OffersLittle m.phase → SaysRightly k turns (canonical p) m
 says_loudly k turns p m follows form fits counted next puts takes half little =
     let spells : SpellsPacket (canonical p) p = canonical_spells p form fits in
@@ -59,17 +59,17 @@ says_loudly k turns p m follows form fits counted next puts takes half little =
       },
     )
 
-small : (k : LinkState) (turns : List Turn) → Follows k turns → k.put_next < 4294967296
+small : (k : LinkState) (turns : List Utterance) → Follows k turns → k.put_next < 4294967296
 small k turns follows = omega (arith, follows.puts)
 
 -- where the packet that is owed is this one, what was put is it
-put_is : (k : LinkState) (turns : List Turn) (one other : Packet × LinkState) (bytes : List ℕ) → SaysRightly k turns (canonical one.0) one.1
+put_is : (k : LinkState) (turns : List Utterance) (one other : Packet × LinkState) (bytes : List ℕ) → SaysRightly k turns (canonical one.0) one.1
     → Some one ≡ Some other → bytes ≡ canonical other.0 → SaysRightly k turns bytes other.1
 put_is k turns one other bytes says is spelled =
     subst (λ (xs : List ℕ). SaysRightly k turns xs other.1) (sym spelled)
     (subst (λ (x : Packet × LinkState). SaysRightly k turns (canonical x.0) x.1) (same_pair one other is) says)
 
-puts_part : (k : LinkState) (turns : List Turn) (message : List ℕ) (p : Packet) (m : LinkState) (bytes : List ℕ) → Follows k turns → k.to_send ≡ message
+puts_part : (k : LinkState) (turns : List Utterance) (message : List ℕ) (p : Packet) (m : LinkState) (bytes : List ℕ) → Follows k turns → k.to_send ≡ message
     → with_link (part_owed k message) (behind_in phase.Established k) ≡ Some (p, m) → bytes ≡ canonical p → SaysRightly k turns bytes m
 unfolding has_number
 puts_part k turns [] p m bytes follows left is spelled = absurd (cc)
@@ -78,7 +78,7 @@ puts_part k turns (byte ∷ message) p m bytes follows left is spelled =
     (says_loudly k turns (first_part k) (behind_in phase.Established k) follows (first_form k (omega (arith, ap length left))) (small k turns follows, tt) refl refl refl refl refl tt)
     is spelled
 
-puts_in : (ph : LinkPhase) (k : LinkState) (turns : List Turn) (p : Packet) (m : LinkState) (bytes : List ℕ) → Follows k turns → OffersLittle ph
+puts_in : (ph : LinkPhase) (k : LinkState) (turns : List Utterance) (p : Packet) (m : LinkState) (bytes : List ℕ) → Follows k turns → OffersLittle ph
     → with_link (owed_in ph k) (behind_in ph k) ≡ Some (p, m) → bytes ≡ canonical p → SaysRightly k turns bytes m
 unfolding has_number
 puts_in phase.OwesVersInfo k turns p m bytes follows little is spelled =
@@ -102,6 +102,6 @@ puts_in phase.OwesRtr k turns p m bytes follows little is spelled =
 puts_in phase.Established k turns p m bytes follows little is spelled = puts_part k turns k.to_send p m bytes follows refl is spelled
 puts_in _ k turns p m bytes follows little is spelled = absurd (cc)
 
-pub puts_follow : (k : LinkState) (turns : List Turn) (bytes : List ℕ) (m : LinkState) → Follows k turns → Puts k bytes m
+pub puts_follow : (k : LinkState) (turns : List Utterance) (bytes : List ℕ) (m : LinkState) → Follows k turns → Puts k bytes m
     → CountUp (length (numbered_said turns) + 1) (numbered (bytes ∷ [])) × Follows m (Said bytes ∷ turns)
 puts_follow k turns bytes m follows puts = puts_in k.phase k turns puts.packet m bytes follows follows.offers puts.next puts.spelled

@@ -1,7 +1,7 @@
 -- A link's numbers and its half message are those of what its end said and heard since it joined.
 use Rattle.std.specs.Prelude.{◌≡◌, ◌+◌, ◌≤◌, ◌%◌, List, length, ⊤}
 use Rattle.ldc_queue.specs.Messages.{unfinished_heard}
-use Rattle.ldc_queue.specs.Transcript.{Turn, numbered_heard, numbered_said}
+use Rattle.ldc_queue.specs.Transcript.{Utterance, numbered_heard, numbered_said}
 use Rattle.ldc_link.specs.declared.phase.LinkPhase.{LinkPhase}
 use Rattle.ldc_link.specs.declared.phase.LinkPhase.TheVariants as phase
 use Rattle.ldc_link.specs.LinkState.{LinkState}
@@ -11,7 +11,7 @@ abbrev pub OffersLittle : LinkPhase → Type 0
 OffersLittle (phase.OwesVersNack major) = major ≤ 1
 OffersLittle _ = ⊤
 
-pub record Follows (k : LinkState) (turns : List Turn) : Type 0 where
+pub record Follows (k : LinkState) (turns : List Utterance) : Type 0 where
   pub puts : k.put_next ≡ (length (numbered_said turns) + 1) % 4294967296
   pub takes : k.take_next ≡ (length (numbered_heard turns) + 1) % 4294967296
   pub half : k.half_heard ≡ unfinished_heard turns

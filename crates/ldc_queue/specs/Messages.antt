@@ -1,7 +1,7 @@
 -- The messages that parts make: one is whole with the part that has STOP.
 use Rattle.std.specs.Prelude.{◌≡◌, ℕ, ◌+◌, ◌≤◌, Bool, true, false, List, [], ◌∷◌, ◌++◌, length, ⊤}
 use Rattle.ldc_queue.specs.Fragments.{AreParts, Fragment, FragmentsOf, fragments_in, joined}
-use Rattle.ldc_queue.specs.Transcript.{Turn, numbered_heard, numbered_said}
+use Rattle.ldc_queue.specs.Transcript.{Utterance, numbered_heard, numbered_said}
 
 abbrev pub whole_with : Bool → List ℕ → List (List ℕ) → List (List ℕ)
 whole_with true message messages = message ∷ messages
@@ -22,16 +22,16 @@ half_in half [] = half
 half_in half (fragment ∷ fragments) = half_in (half_with fragment.stop (half ++ fragment.bytes)) fragments
 
 -- the messages that an end said and heard, and the bytes of a message whose last part hasn't come
-abbrev pub messages_said : List Turn → List (List ℕ)
+abbrev pub messages_said : List Utterance → List (List ℕ)
 messages_said turns = whole_in [] (fragments_in (numbered_said turns))
 
-abbrev pub messages_heard : List Turn → List (List ℕ)
+abbrev pub messages_heard : List Utterance → List (List ℕ)
 messages_heard turns = whole_in [] (fragments_in (numbered_heard turns))
 
-abbrev pub unfinished_said : List Turn → List ℕ
+abbrev pub unfinished_said : List Utterance → List ℕ
 unfinished_said turns = half_in [] (fragments_in (numbered_said turns))
 
-abbrev pub unfinished_heard : List Turn → List ℕ
+abbrev pub unfinished_heard : List Utterance → List ℕ
 unfinished_heard turns = half_in [] (fragments_in (numbered_heard turns))
 
 abbrev pub is_empty : List ℕ → Bool

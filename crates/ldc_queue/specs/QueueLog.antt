@@ -6,19 +6,19 @@ use Rattle.ldc_queue.specs.declared.end.End.{End}
 use Rattle.ldc_queue.specs.declared.end.End.TheVariants.{A, B}
 use Rattle.ldc_queue.specs.Numbered.{CountUp, is_numbered, numbered}
 use Rattle.ldc_queue.specs.QueueEvent.{Close, Forge, Join, Lose, Put, QueueEvent, Take}
-use Rattle.ldc_queue.specs.Transcript.{Heard, Said, Turn, numbered_heard, numbered_said}
+use Rattle.ldc_queue.specs.Transcript.{Heard, Said, Utterance, numbered_heard, numbered_said}
 use Rattle.ldc_queue.specs.Wire.{Wire, closed, configured, fresh_wire, put_for, state_of, taken_for, waiting_for}
 
 pub record QueueLog : Type 0 where
   pub wire : Wire
   -- since each end was last configured or closed, newest first
-  pub transcript_a : List Turn
-  pub transcript_b : List Turn
+  pub transcript_a : List Utterance
+  pub transcript_b : List Utterance
   -- how many numbered packets for each end were lost since the last that it took, or since its queue was emptied
   pub lost_a : ℕ
   pub lost_b : ℕ
 
-abbrev pub transcript_of : End → QueueLog → List Turn
+abbrev pub transcript_of : End → QueueLog → List Utterance
 transcript_of A l = l.transcript_a
 transcript_of B l = l.transcript_b
 

@@ -1,6 +1,6 @@
 // The command `dump`.
 ghost use Rattle.std.specs.Prelude.{◌≡◌, ◌≢◌, ◌≤◌, ◌⊎◌, ℕ, List, Some};
-ghost use Rattle.vio_io.specs.Causes.{Rose};
+ghost use Rattle.vio_io.specs.Causes.{Fails, Rose};
 ghost use Rattle.ldom_dump.specs.DumpReport.{Dumps};
 ghost use Rattle.ldom_dump.specs.Whole.{IsWhole};
 
@@ -29,14 +29,12 @@ pub fn dump<S: Source, K: Sink>(alloc: Global, script: &mut S, out: &mut K) -> S
         → (result ≡ Status.Done) ⊎ (result ≡ Status.NoMemory) }
 
     // A fault of the outside is answered only where its count rose, and where another status is answered, it stays: a
-    // fault of the sink, which comes last, may hide one of the source.
+    // fault of the sink, which comes last and fails once, may hide one of the source.
     ensures source_fault { result ≡ Status.SourceFault → Rose (S.faults script.old) (S.faults script.new) }
-    ensures sink_fault { result ≡ Status.SinkFault → Rose (K.faults out.old) (K.faults out.new) }
     ensures source_unfailed { result ≢ Status.SourceFault → result ≢ Status.SinkFault
         → S.faults script.new ≡ S.faults script.old }
-    ensures sink_unfailed { result ≢ Status.SinkFault → K.faults out.new ≡ K.faults out.old }
     ensures source_count { S.faults script.old ≤ S.faults script.new }
-    ensures sink_count { K.faults out.old ≤ K.faults out.new }
+    ensures sink { Fails (result ≡ Status.SinkFault) (K.faults out.old) (K.faults out.new) }
 {
     let mut text = Text::new();
     let ended = dump_all(alloc, script, &mut text, out);

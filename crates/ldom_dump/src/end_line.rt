@@ -1,7 +1,7 @@
 // The line that ends a dump.
 ghost use Rattle.std.specs.Prelude.{◌≡◌, ◌≢◌, ◌+◌, ◌≤◌, ◌++◌, length, OnErr, OnOk, IsErr};
 ghost use Rattle.std.specs.Io.KnownBytes.{Appends};
-ghost use Rattle.vio_io.specs.Causes.{Rose, Fails};
+ghost use Rattle.vio_io.specs.Causes.{Fails};
 ghost use Rattle.gathered_text.specs.Gathered.{WroteFront};
 ghost use Rattle.ldom_dump.specs.DumpReport.{counts_text, end_line};
 ghost use Rattle.ldom_dump.specs.Going.{Finishes};
@@ -49,10 +49,9 @@ fn put_end<K: Sink>(text: &mut Text, ended: &Ended, out: &mut K) -> Result<(), F
 /// Ends a dump, unless the sink failed before. Answers its status.
 pub fn finish<K: Sink>(text: &mut Text, ended: &Ended, out: &mut K) -> Status
     ensures finishes { Finishes ended.now.why result (K.written out.old) (K.written out.new) text.old (end_line ended.now.lines ended.now.packets ended.now.faults ended.now.why) }
-    ensures unfailed { result ≢ Status.SinkFault → K.faults out.new ≡ K.faults out.old }
     ensures other { result ≢ Status.SinkFault → result ≡ ended.now.why }
-    ensures count { K.faults out.old ≤ K.faults out.new }
-    ensures cause { result ≡ Status.SinkFault → ended.now.why ≢ Status.SinkFault → Rose (K.faults out.old) (K.faults out.new) }
+    ensures faults { Fails ((result ≡ Status.SinkFault) × (ended.now.why ≢ Status.SinkFault))
+        (K.faults out.old) (K.faults out.new) }
 {
     if matches!(ended.why, Status::SinkFault) {
         return Status::SinkFault;

@@ -15,4 +15,4 @@ sample_clean number =
 
 -- a source that nobody read didn't fail
 pub not_read : (why : Status) (before now : ℕ) → why ≢ status.SourceFault → now ≡ before → Fails (why ≡ status.SourceFault) before now
-not_read why before now other same = record { unfailed = λ _. same; count = omega (arith, same); cause = λ is. absurd (other is) }
+not_read why before now other same = record { unfailed = λ _. same; count = omega (arith, same); cause = λ is. absurd (other is); once = λ is. absurd (other is) }

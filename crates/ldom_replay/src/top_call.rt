@@ -1,8 +1,8 @@
 ghost use Rattle.std.specs.Prelude.{◌≡◌, ◌≢◌, ◌≤◌, ◌*◌, ◌⊎◌, ℕ, [], map, codes, string_bytes, ◌^◌};
-ghost use Rattle.std.specs.Prelude.{◌<◌, length, Some, List, IfSome, IsNone, OnErr, OnOk};
+ghost use Rattle.std.specs.Prelude.{◌<◌, length, Some, List, IfSome, IsErr, IsNone, OnErr, OnOk};
 ghost use Rattle.std.specs.List.{All};
 ghost use Rattle.std.specs.Io.KnownBytes.{Appends};
-ghost use Rattle.vio_io.specs.Causes.{Rose};
+ghost use Rattle.vio_io.specs.Causes.{Fails, Rose};
 ghost use Rattle.vio_io.specs.Given.{Gave};
 ghost use Rattle.domain_script.specs.declared.event.DiskDecl.{DiskDecl};
 ghost use Rattle.domain_script.specs.declared.event.Event.{Event};
@@ -209,13 +209,11 @@ fn report_dump<D: Store, S: Source, K: Sink>(
     ensures journal { result.journal ≡ record { entries = []; room = 0 } }
     ensures none { IsNone result.image × IsNone result.lanes }
     ensures source_fault { result.status ≡ Status.SourceFault → Rose (S.faults script.old) (S.faults script.new) }
-    ensures sink_fault { result.status ≡ Status.SinkFault → Rose (K.faults out.old) (K.faults out.new) }
     ensures no_host { result.status ≢ Status.HostFault }
     ensures source_unfailed { result.status ≢ Status.SourceFault → result.status ≢ Status.SinkFault
         → S.faults script.new ≡ S.faults script.old }
-    ensures sink_unfailed { result.status ≢ Status.SinkFault → K.faults out.new ≡ K.faults out.old }
     ensures source_count { S.faults script.old ≤ S.faults script.new }
-    ensures sink_count { K.faults out.old ≤ K.faults out.new }
+    ensures sink { Fails (result.status ≡ Status.SinkFault) (K.faults out.old) (K.faults out.new) }
 {
     let status = dump(alloc, script, out);
     Outcome {
@@ -238,11 +236,9 @@ fn report_run<D: Store, K: Sink>(mode: Mode, run: Run<D>, out: &mut K) -> Outcom
     ensures small { length result.journal.entries < 2 ^ 63 }
     ensures image { result.image ≡ run.image }
     ensures lanes { result.lanes ≡ run.lanes }
-    ensures sink_fault { result.status ≡ Status.SinkFault → (run.status ≢ Status.SinkFault)
-        → Rose (K.faults out.old) (K.faults out.new) }
     ensures other { result.status ≢ Status.SinkFault → result.status ≡ run.status }
-    ensures sink_unfailed { result.status ≢ Status.SinkFault → K.faults out.new ≡ K.faults out.old }
-    ensures sink_count { K.faults out.old ≤ K.faults out.new }
+    ensures sink { run.status ≢ Status.SinkFault
+        → Fails (result.status ≡ Status.SinkFault) (K.faults out.old) (K.faults out.new) }
 {
     let Run {
         status: ran,
@@ -281,9 +277,7 @@ fn write_report<K: Sink>(
         (report mode (declared_by names.now) lines journal.now.entries status.now)) }
     ensures err { OnErr result (WroteFront (K.written out.old) (K.written out.new)
         (report mode (declared_by names.now) lines journal.now.entries status.now)) }
-    ensures unfailed { OnOk result (K.faults out.new ≡ K.faults out.old) }
-    ensures count { K.faults out.old ≤ K.faults out.new }
-    ensures cause { OnErr result (Rose (K.faults out.old) (K.faults out.new)) }
+    ensures faults { Fails (IsErr result) (K.faults out.old) (K.faults out.new) }
 {
     write_text(journal, mode, names, out)?;
     write_end(journal, lines, status, out)
@@ -296,9 +290,7 @@ fn report_usage<D: Store, K: Sink>(journal: Journal, out: &mut K) -> Outcome<D>
     ensures ran { result.ran ≡ Status.Usage }
     ensures journal { result.journal ≡ journal }
     ensures none { IsNone result.image × IsNone result.lanes }
-    ensures sink_fault { result.status ≡ Status.SinkFault → Rose (K.faults out.old) (K.faults out.new) }
-    ensures sink_unfailed { result.status ≢ Status.SinkFault → K.faults out.new ≡ K.faults out.old }
-    ensures sink_count { K.faults out.old ≤ K.faults out.new }
+    ensures sink { Fails (result.status ≡ Status.SinkFault) (K.faults out.old) (K.faults out.new) }
 {
     let status = match write_end(&journal, 0, &Status::Usage, out) {
         Ok(()) => Status::Usage,

@@ -34,7 +34,7 @@ refused (Defective defect) request = Refused defect request
 -- what an entry says of disks
 pub data Said : Type 0 where
   -- this became of the disk with this number
-  OfDisk : (disk : ℕ) (event : ListEvent) → Said
+  BecameOf : (disk : ℕ) (event : ListEvent) → Said
   -- a request of this disk, that of the entry's line, wasn't taken up
   NotTaken : (disk : ℕ) (refusal : Refusal) → Said
   Nothing : Said
@@ -52,10 +52,10 @@ not_taken_for who None = Nothing
 not_taken_for who (Some defect) = not_taken who (Defective defect)
 
 abbrev pub said : Entry → Said
-said (entry.Accepted disk id request) = OfDisk disk (Accepted id request)
+said (entry.Accepted disk id request) = BecameOf disk (Accepted id request)
 said (entry.Full who) = not_taken who NoRoom
 said (entry.Refused who why) = not_taken_for who (defect_of why)
-said (entry.Done disk id operation status bytes) = OfDisk disk (Done id operation status bytes.items)
+said (entry.Done disk id operation status bytes) = BecameOf disk (Done id operation status bytes.items)
 said other = Nothing
 
 -- the request that a line asks
@@ -74,7 +74,7 @@ refused_for x disk refusal (Some request) = for_disk x disk (refused refusal req
 
 -- what was said of the disk x, where this request was asked
 abbrev pub said_of : ℕ → Option Request → Said → Option ListEvent
-said_of x asked (OfDisk disk event) = for_disk x disk event
+said_of x asked (BecameOf disk event) = for_disk x disk event
 said_of x asked (NotTaken disk refusal) = refused_for x disk refusal asked
 said_of x asked Nothing = None
 
@@ -92,7 +92,7 @@ history x entries = happened_to x line.Blank entries
 
 -- what was said of whichever disk, whatever was asked
 abbrev pub said_of_any : Said → Option ListEvent
-said_of_any (OfDisk disk event) = Some event
+said_of_any (BecameOf disk event) = Some event
 said_of_any (NotTaken disk refusal) = None
 said_of_any Nothing = None
 

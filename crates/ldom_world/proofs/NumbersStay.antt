@@ -1,11 +1,14 @@
--- How many disks and ports a world has: a run keeps both numbers, and so does a line.
-use Rattle.std.proofs.Common.{◌≡◌, ◌∷◌, [], List, length, Result, Ok, Err, sym, ap, ◌∙◌}
+-- How many disks and ports a world has: a run keeps both numbers, and so does a line. Of other kinds it has none.
+use Rattle.std.proofs.Common.{◌≡◌, ◌≢◌, ◌∷◌, [], List, length, Result, Ok, Err, refl, sym, ap, ◌∙◌, arith}
 use Rattle.std.specs.Prelude.{OnErr, OnOk}
 use Rattle.runs.specs.Run.{Run}
+use Rattle.domain_script.specs.declared.fields.LaneKind.{LaneKind}
+use Rattle.domain_script.specs.declared.fields.LaneKind.TheVariants as kinds
 use Rattle.ldom_entries.specs.declared.entry.Entry.{Entry}
 use Rattle.recorded_lanes.proofs.Lifting.{many_same}
 use Rattle.recorded_lanes.proofs.world_parts.domain_laws.Running.{disks_run, ports_many, ports_run}
 use Rattle.recorded_lanes.specs.world_parts.Parts.{Fits, FitsSoFar}
+use Rattle.recorded_lanes.specs.world_parts.WorldKinds.{in_world}
 use Rattle.recorded_lanes.specs.world_parts.domain_laws.Domain.{DomainState, DomainStep}
 use Rattle.recorded_lanes.specs.world_parts.domain_laws.Lines.{Line}
 use Rattle.recorded_lanes.specs.world_parts.world_laws.Settle.{OfLane, SettleEntry}
@@ -39,3 +42,9 @@ pub line_many : {E : Type 0} (w v : DomainState) (line : Line) (old new : List E
     → SameNumbers w v
 line_many w v line old new (Ok done) fits so_far = fits_many w v line old new fits
 line_many w v line old new (Err fault) fits so_far = begun_many w v line old new so_far
+
+-- OF A KIND that is neither disks nor ports a world has none. What is asked of lanes by their kind goes by it.
+pub none_in_world : (kind : LaneKind) (w : DomainState) → kind ≢ kinds.Disk → kind ≢ kinds.Port
+    → (in_world kind).lanes w ≡ []
+none_in_world kinds.Disk w disk port = absurd (disk refl)
+none_in_world _ w disk port = grind arith

@@ -16,7 +16,7 @@ use Rattle.ldom_entries.specs.declared.entry.Entry.{Entry}
 use Rattle.ldom_entries.specs.declared.entry.Entry.TheVariants as entry
 use Rattle.recorded_lanes.proofs.Adding.{both_add, one_adds}
 use Rattle.ldom_world.proofs.Growing.{also_grew, begins_of, both_grew, fits_of, none_grew}
-use Rattle.ldom_world.specs.SettleParts.{LaneNamesAdd, LaneNamesAddFront, LaneTicksAdd, LaneTicksAddFront, LaneTicksBegun, LanesAdd, LanesAddFront, LanesBegun, LanesMade, LanesNamed, LanesTicked, NamesAdd, NamesAddFront, RoundAdds, RoundAddsFront, RoundsAdd, TicksAdd, TicksAddFront, TurnBreaks, TurnGoesOn}
+use Rattle.ldom_world.specs.SettleParts.{LaneNamesAdd, LaneNamesAddFront, LaneTicksAdd, LaneTicksAddFront, LaneTicksBegun, LanesAdd, LanesAddFront, LanesBegun, LanesMade, LanesNamed, LanesTicked, NamesAdd, NamesAddFront, RoundAdds, RoundAddsFront, RoundsAdd, TicksAdd, TicksAddFront, PassBreaks, PassGoesOn}
 use Rattle.recorded_lanes.specs.world_parts.Parts.{Fits, FitsSoFar}
 
 -- A ROUND of the disks, and behind them of the ports
@@ -178,26 +178,26 @@ want_in_ticks_adds start w m v count first old mid new had quiet marks gone few 
 
 -- A TURN, whatever rounds came before it
 pub turn_wants_in_round : (w v : DomainState) (old new : List Entry) (had quiet : Marks)
-    → RoundAddsFront w v old new → TurnBreaks w had quiet old v new
+    → RoundAddsFront w v old new → PassBreaks w had quiet old v new
 turn_wants_in_round w v old new had quiet begun =
     λ start count first gone few. want_in_round_adds start w v count first old new had quiet gone few begun
 
 pub turn_is_loud : (w v : DomainState) (old new : List Entry) (had quiet marks : Marks)
     → RoundAdds w marks v old new → all_quiet w marks ≡ false
-    → TurnGoesOn false w had quiet old v had marks new
+    → PassGoesOn false w had quiet old v had marks new
 turn_is_loud w v old new had quiet marks up loud =
     λ start count first gone few. loud_round_adds start w v count first old new had quiet marks gone up loud
 
 pub turn_wants_in_ticks : (w m v : DomainState) (old mid new : List Entry) (had quiet marks : Marks)
     → RoundAdds w marks m old mid → all_quiet w marks ≡ true
-    → TicksAddFront m had v mid new → TurnBreaks w had quiet old v new
+    → TicksAddFront m had v mid new → PassBreaks w had quiet old v new
 turn_wants_in_ticks w m v old mid new had quiet marks up calm begun =
     λ start count first gone few.
     want_in_ticks_adds start w m v count first old mid new had quiet marks gone few up calm begun
 
 pub turn_ticks : (w m v : DomainState) (old mid new : List Entry) (had have quiet marks : Marks)
     → RoundAdds w marks m old mid → all_quiet w marks ≡ true
-    → TicksAdd m had true have v mid new → TurnGoesOn false w had quiet old v have marks new
+    → TicksAdd m had true have v mid new → PassGoesOn false w had quiet old v have marks new
 turn_ticks w m v old mid new had have quiet marks up calm ticks =
     λ start count first gone few.
     ticked_round_adds start w m v count first old mid new had have quiet marks true gone up calm ticks refl
@@ -205,9 +205,9 @@ turn_ticks w m v old mid new had have quiet marks up calm ticks =
 pub turn_wants_answer : (w m v : DomainState) (old mid more new : List Entry) (had have quiet marks : Marks)
     (some : Bool) → RoundAdds w marks m old mid
     → all_quiet w marks ≡ true → TicksAdd m had some have v mid more
-    → new ≡ more → TurnBreaks w had quiet old v new
+    → new ≡ more → PassBreaks w had quiet old v new
 turn_wants_answer w m v old mid more new had have quiet marks some up calm ticks same =
-    subst (λ (l : List Entry). TurnBreaks w had quiet old v l) (sym same)
+    subst (λ (l : List Entry). PassBreaks w had quiet old v l) (sym same)
     (turn_wants_in_ticks w m v old mid more had quiet marks up calm
     (also_grew (λ es. TicksMade m had es some have v) (λ es. TicksBegun m had es v) mid more
     (λ es at. going.answer_wants m v es had have some at) ticks))
@@ -215,14 +215,14 @@ turn_wants_answer w m v old mid more new had have quiet marks some up calm ticks
 pub turn_settles : (w m v : DomainState) (old mid more new : List Entry) (had have quiet marks : Marks)
     (some : Bool) → RoundAdds w marks m old mid
     → all_quiet w marks ≡ true → TicksAdd m had some have v mid more
-    → some ≡ false → new ≡ more ++ entry.Settled ∷ [] → TurnGoesOn true w had quiet old v have marks new
+    → some ≡ false → new ≡ more ++ entry.Settled ∷ [] → PassGoesOn true w had quiet old v have marks new
 turn_settles w m v old mid more new had have quiet marks some up calm ticks none is =
     λ start count first gone few.
     settled_adds start w m v count first old mid more new had have quiet marks some gone few up calm ticks none is
 
 -- a turn that ends the settle
 pub ended_fits : (ended : Bool) (start w v : DomainState) (count : ℕ) (first old new : List Entry)
-    (had have quiet marks : Marks) → ended ≡ true → TurnGoesOn ended w had quiet old v have marks new
+    (had have quiet marks : Marks) → ended ≡ true → PassGoesOn ended w had quiet old v have marks new
     → RoundsAdd start count had quiet w first old → count < most_rounds start
     → Fits start script.Settles first new v
 ended_fits true start w v count first old new had have quiet marks ends turned gone few =

@@ -54,24 +54,29 @@ all_set k marks new all mark less is so_far =
     ∙ ap (λ (l : List Bool). all_true l) (take_set_one marks k mark less)
     ∙ all_more (take k marks) mark ∙ ap (λ (b : Bool). b && mark) so_far
 
--- WHETHER A LANE WAITS in a world, of a disk and of a port
-pub disk_waits : (d : WorldState) (p : List PortState) (w : DomainState) → both d p ≡ w → (kind : LaneKind) (k : ℕ) (waits : Bool)
-    → kind ≡ kinds.Disk → ((s : LaneState) → slice_get d.lanes k ≡ Some s → waits ≡ waits_on s)
-    → (s : (in_world kind).Lane) → slice_get ((in_world kind).lanes w) k ≡ Some s → waits ≡ (in_world kind).kind.waits_on s
-disk_waits d p w is kind k waits disk at =
-    subst (λ (x : LaneKind). (s : (in_world x).Lane) → slice_get ((in_world x).lanes w) k ≡ Some s → waits ≡ (in_world x).kind.waits_on s)
-    (sym disk) (λ s there. at s (subst (λ (x : DomainState). slice_get x.first.lanes k ≡ Some s) (sym is) there))
+-- WHICH LANES A SETTLE WAITS FOR: of a disk, of a port, and of a kind by what is so of the kind that it is
+pub disk_waits : (d : WorldState) (p : List PortState) (w : DomainState) → both d p ≡ w → (k : ℕ) (waits : Bool)
+    → ((s : LaneState) → slice_get d.lanes k ≡ Some s → waits ≡ waits_on s)
+    → (s : LaneState) → slice_get w.first.lanes k ≡ Some s → waits ≡ waits_on s
+disk_waits d p w is k waits at s there = at s (subst (λ (x : DomainState). slice_get x.first.lanes k ≡ Some s) (sym is) there)
 
 of_some : {X : Type 0} (P : X → Type 0) (o : Option X) (x : X) → IsSomeAnd o P → o ≡ Some x → P x
 of_some {X} P o x holds is = subst (λ (y : Option X). IsSomeAnd y P) is holds
 
-pub port_waits : (d : WorldState) (p : List PortState) (w : DomainState) → both d p ≡ w → (kind : LaneKind) (k : ℕ) (waits : Bool)
-    → kind ≡ kinds.Port → PortAt p k (λ s. waits ≡ port_waits_on s)
-    → (s : (in_world kind).Lane) → slice_get ((in_world kind).lanes w) k ≡ Some s → waits ≡ (in_world kind).kind.waits_on s
-port_waits d p w is kind k waits port at =
-    subst (λ (x : LaneKind). (s : (in_world x).Lane) → slice_get ((in_world x).lanes w) k ≡ Some s → waits ≡ (in_world x).kind.waits_on s)
-    (sym port) (λ s there. of_some (λ (x : PortState). waits ≡ port_waits_on x) (slice_get p k) s at
-    (subst (λ (x : DomainState). slice_get x.second k ≡ Some s) (sym is) there))
+pub port_waits : (d : WorldState) (p : List PortState) (w : DomainState) → both d p ≡ w → (k : ℕ) (waits : Bool)
+    → PortAt p k (λ s. waits ≡ port_waits_on s)
+    → (s : PortState) → slice_get w.second k ≡ Some s → waits ≡ port_waits_on s
+port_waits d p w is k waits at s there =
+    of_some (λ (x : PortState). waits ≡ port_waits_on x) (slice_get p k) s at
+    (subst (λ (x : DomainState). slice_get x.second k ≡ Some s) (sym is) there)
+
+abbrev WaitsSay : DomainState → ℕ → Bool → LaneKind → Type 0
+WaitsSay w k waits kind =
+    (s : (in_world kind).Lane) → slice_get ((in_world kind).lanes w) k ≡ Some s → waits ≡ (in_world kind).kind.waits_on s
+
+pub waits_of : (w : DomainState) (k : ℕ) (waits : Bool) (kind this : LaneKind) → kind ≡ this → WaitsSay w k waits this
+    → WaitsSay w k waits kind
+waits_of w k waits kind this is = subst (WaitsSay w k waits) (sym is)
 
 -- A LANE OF A KIND, by its number
 pub lane_of : (w : DomainState) (lane : Lane) → IsLaneOf w lane

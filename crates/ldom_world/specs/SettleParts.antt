@@ -126,20 +126,20 @@ NamesGoOn kind k w calm old new =
     (quiet : List Bool) (first : List Entry) → slice_get quiet k ≡ Some calm → LaneNamesAdd kind k w quiet first old
     → LaneNamesAdd kind (k + 1) w quiet first new
 
--- A TURN of a settle ends it, or goes on with one round more
-abbrev pub Turned : Bool → DomainState → ℕ → Marks → Marks → DomainState → List Entry → List Entry → Type 0
-Turned true start count had quiet now old new = Fits start script.Settles old new now
-Turned false start count had quiet now old new = RoundsAdd start (count + 1) had quiet now old new
+-- A PASS of a settle, a round with its ticks, ends it, or goes on with one round more
+abbrev pub PassDone : Bool → DomainState → ℕ → Marks → Marks → DomainState → List Entry → List Entry → Type 0
+PassDone true start count had quiet now old new = Fits start script.Settles old new now
+PassDone false start count had quiet now old new = RoundsAdd start (count + 1) had quiet now old new
 
 -- whatever rounds came before, fewer than the most; or memory was wanted in it
-abbrev pub TurnGoesOn : Bool → DomainState → Marks → Marks → List Entry → DomainState → Marks → Marks → List Entry → Type 0
-TurnGoesOn ended w had quiet old v have marks new =
+abbrev pub PassGoesOn : Bool → DomainState → Marks → Marks → List Entry → DomainState → Marks → Marks → List Entry → Type 0
+PassGoesOn ended w had quiet old v have marks new =
     (start : DomainState) (count : ℕ) (first : List Entry) → RoundsAdd start count had quiet w first old
     → count < most_rounds start
-    → Turned ended start count have marks v first new
+    → PassDone ended start count have marks v first new
 
-abbrev pub TurnBreaks : DomainState → Marks → Marks → List Entry → DomainState → List Entry → Type 0
-TurnBreaks w had quiet old v new =
+abbrev pub PassBreaks : DomainState → Marks → Marks → List Entry → DomainState → List Entry → Type 0
+PassBreaks w had quiet old v new =
     (start : DomainState) (count : ℕ) (first : List Entry) → RoundsAdd start count had quiet w first old
     → count < most_rounds start
     → FitsSoFar start script.Settles first new v

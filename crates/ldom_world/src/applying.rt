@@ -9,6 +9,7 @@ ghost use Rattle.vdisk_msg.specs.Fills.{IsRequest};
 ghost use Rattle.recorded_lanes.specs.world_parts.Lines.{IsForLanes, line_of};
 ghost use Rattle.recorded_lanes.specs.world_parts.Parts.{Fits, FitsSoFar};
 
+use crate::kinds::disks;
 use crate::world::World;
 use domain_script::{Event, Piece, Request};
 use recorded_lanes::{Journal, LaneCall, fill_bytes};
@@ -40,8 +41,8 @@ impl<D: Store> World<D> {
             Event::Round { count } => self.rounds(*count, journal),
             Event::Reset { end } => self.call_on(end.lane, LaneCall::Reset(end.side), journal),
             Event::Restart { end } => self.call_on(end.lane, LaneCall::Restart, journal),
-            Event::Stop { disk } => self.answer_call(*disk, LaneCall::Stop, journal),
-            Event::Start { disk } => self.answer_call(*disk, LaneCall::Start, journal),
+            Event::Stop { disk } => disks::answer(self, *disk, LaneCall::Stop, journal),
+            Event::Start { disk } => disks::answer(self, *disk, LaneCall::Start, journal),
             Event::Lose { end } => self.call_on(end.lane, LaneCall::Lose(end.side), journal),
             Event::Tick { lane } => self.call_on(*lane, LaneCall::Tick, journal),
             Event::Inject { end, packet } => {

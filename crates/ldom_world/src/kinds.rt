@@ -1,19 +1,19 @@
-// The lists of lanes by kind: to which of them a call of a lane goes.
+// What a lane of any kind is asked goes to its own kind, whose module has a function of that name.
 
-ghost use Rattle.std.specs.Prelude.{◌≡◌, ◌<◌, ◌≤◌, ◌∷◌, [], length, slice_get, Some, IfOk, OnErr, OnOk};
-ghost use Rattle.recorded_lanes.specs.world_parts.domain_laws.Domain.{DomainStep};
-ghost use Rattle.recorded_lanes.specs.world_parts.domain_laws.Lines as script;
+ghost use Rattle.std.specs.Prelude.{◌≡◌, ◌≤◌, ◌∷◌, [], slice_get, Some, IfOk, OnErr, OnOk};
 ghost use Rattle.recorded_lanes.specs.world_parts.domain_laws.Lines.{Calls, Pokes, turn};
-ghost use Rattle.ldc_queue.specs.declared.end.End.TheVariants.{A};
 ghost use Rattle.recorded_lanes.specs.ldom_report.LaneEvents.{end_of};
 ghost use Rattle.recorded_lanes.specs.Called.{call_of};
-ghost use Rattle.recorded_lanes.specs.OnePort.{IsCallOf, IsPortCall};
-ghost use Rattle.recorded_lanes.specs.Steps.{Counted, MakesPortStep, MakesQuietPortStep, MakesQuietStep, MakesStep};
+ghost use Rattle.recorded_lanes.specs.OnePort.{IsCallOf};
+ghost use Rattle.recorded_lanes.specs.Steps.{Counted};
 ghost use Rattle.ldom_world.specs.SettleParts.{MakesQuiet};
 ghost use Rattle.ldom_world.specs.TurnsMade.{SameNumbers, TurnsMade};
 ghost use Rattle.recorded_lanes.specs.world_parts.WorldKinds.{in_world};
 ghost use Rattle.recorded_lanes.specs.world_parts.Lines.{HasMemory, IsLaneOf, lane_named, number_of_kind};
 ghost use Rattle.recorded_lanes.specs.world_parts.Parts.{Fits, FitsSoFar};
+
+pub(crate) mod disks;
+pub(crate) mod ports;
 
 use crate::world::World;
 use domain_script::{EndName, Lane, LaneKind, Side};
@@ -21,16 +21,24 @@ use recorded_lanes::{Journal, LaneCall};
 use vio_bytes::NoMemory;
 use vio_io::Store;
 
+/// The function of this name for the lanes of a kind, called.
+macro_rules! of_kind {
+    ($kind:expr, $function:ident($($word:expr),*)) => {
+        match $kind {
+            LaneKind::Disk => disks::$function($($word),*),
+            LaneKind::Port => ports::$function($($word),*),
+        }
+    };
+}
+
+#[tactic(auto, using(crate::proofs::NumbersStay::none_in_world))]
 impl<D: Store> World<D> {
     /// How many lanes of a kind there are.
     pub(crate) fn count_of(&self, kind: LaneKind) -> u32
         ensures count { result ≡ number_of_kind kind self.now }
         ensures few { number_of_kind kind self.now ≤ 8 }
     {
-        match kind {
-            LaneKind::Disk => self.disk_count(),
-            LaneKind::Port => self.port_count(),
-        }
+        of_kind!(kind, count(self))
     }
 
     /// Whether a lane isn't finished, nor a disk's whose server is stopped.
@@ -39,10 +47,7 @@ impl<D: Store> World<D> {
         ensures { (s : (in_world lane.kind).Lane) → slice_get ((in_world lane.kind).lanes self.now) lane.number ≡ Some s
             → result ≡ (in_world lane.kind).kind.waits_on s }
     {
-        match lane.kind {
-            LaneKind::Disk => self.disks.waits(lane.number),
-            LaneKind::Port => self.ports.waits(lane.number),
-        }
+        of_kind!(lane.kind, waits(self, lane.number))
     }
 
     /// One step of an end of a lane, once there is room for its entry.
@@ -60,10 +65,7 @@ impl<D: Store> World<D> {
         ensures many { SameNumbers self.old self.new }
         ensures agrees { Counted journal.new.entries self.new }
     {
-        match lane.kind {
-            LaneKind::Disk => self.step_disk(lane.number, side, journal),
-            LaneKind::Port => self.step_port(lane.number, side, journal),
-        }
+        of_kind!(lane.kind, step(self, lane.number, side, journal))
     }
 
     /// The same in a settle, where a step that idles leaves no entry, nor one of a stopped server; and whether it was calm.
@@ -81,10 +83,7 @@ impl<D: Store> World<D> {
         ensures many { SameNumbers self.old self.new }
         ensures agrees { Counted journal.new.entries self.new }
     {
-        match lane.kind {
-            LaneKind::Disk => self.quiet_step_disk(lane.number, side, journal),
-            LaneKind::Port => self.quiet_step_port(lane.number, side, journal),
-        }
+        of_kind!(lane.kind, quiet_step(self, lane.number, side, journal))
     }
 
     /// Calls a lane, among those of its kind.
@@ -103,10 +102,7 @@ impl<D: Store> World<D> {
             journal.new.entries self.new) }
         ensures agrees { Counted journal.new.entries self.new }
     {
-        match lane.kind {
-            LaneKind::Disk => self.answer_call(lane.number, call, journal),
-            LaneKind::Port => self.answer_port(lane.number, call, journal),
-        }
+        of_kind!(lane.kind, answer(self, lane.number, call, journal))
     }
 
     /// Pokes the memory of an end, among the lanes of its kind: a disk's is its client's, and a port has one at each.
@@ -127,148 +123,9 @@ impl<D: Store> World<D> {
             journal.new.entries self.new) }
         ensures agrees { Counted journal.new.entries self.new }
     {
-        match (end.lane.kind, end.side) {
-            (LaneKind::Disk, Side::Client) => self.poke_disk(end.lane.number, at, bytes, journal),
-            (LaneKind::Disk, Side::Server) => unreachable!(),
-            (LaneKind::Port, side) => self.poke_port(end.lane.number, side, at, bytes, journal),
-        }
-    }
-
-    /// One step of an end of the disk with this number.
-    fn step_disk(&mut self, disk: u32, side: Side, journal: &mut Journal) -> Result<(), NoMemory>
-        requires disk { disk < length self.old.first.lanes }
-        requires agrees { Counted journal.old.entries self.old }
-        ensures made { OnOk result (MakesStep DomainStep disk (end_of side) self.old journal.old.entries
-            journal.new.entries self.new) }
-        ensures same { OnErr result ((self.new ≡ self.old) × (journal.new.entries ≡ journal.old.entries)) }
-        ensures many { SameNumbers self.old self.new }
-        ensures agrees { Counted journal.new.entries self.new }
-    {
-        self.disks.step(disk, side, journal)
-    }
-
-    /// The same in a settle.
-    fn quiet_step_disk(
-        &mut self,
-        disk: u32,
-        side: Side,
-        journal: &mut Journal,
-    ) -> Result<bool, NoMemory>
-        requires disk { disk < length self.old.first.lanes }
-        requires agrees { Counted journal.old.entries self.old }
-        ensures made { IfOk result (λ calm. MakesQuietStep DomainStep disk (end_of side) self.old
-            journal.old.entries journal.new.entries calm self.new) }
-        ensures same { OnErr result ((self.new ≡ self.old) × (journal.new.entries ≡ journal.old.entries)) }
-        ensures many { SameNumbers self.old self.new }
-        ensures agrees { Counted journal.new.entries self.new }
-    {
-        self.disks.quiet_step(disk, side, journal)
-    }
-
-    /// Calls the lane of the disk with this number.
-    pub(crate) fn answer_call(
-        &mut self,
-        disk: u32,
-        call: LaneCall<'_>,
-        journal: &mut Journal,
-    ) -> Result<(), NoMemory>
-        requires disk { disk < length self.old.first.lanes }
-        requires agrees { Counted journal.old.entries self.old }
-        ensures fits { OnOk result (Fits self.old (Calls (script.DiskLane disk) (call_of call.entry)) journal.old.entries
-            journal.new.entries self.new) }
-        ensures so_far { OnErr result (FitsSoFar self.old (Calls (script.DiskLane disk) (call_of call.entry))
-            journal.old.entries journal.new.entries self.new) }
-        ensures agrees { Counted journal.new.entries self.new }
-    {
-        self.disks.answer_call(disk, call, journal)
-    }
-
-    /// Pokes the memory of the disk with this number.
-    fn poke_disk(
-        &mut self,
-        disk: u32,
-        at: u64,
-        bytes: &[u8],
-        journal: &mut Journal,
-    ) -> Result<(), NoMemory>
-        requires disk { disk < length self.old.first.lanes }
-        requires agrees { Counted journal.old.entries self.old }
-        ensures fits { OnOk result (Fits self.old (Calls (script.DiskLane disk) (Pokes A at bytes.now))
-            journal.old.entries journal.new.entries self.new) }
-        ensures so_far { OnErr result (FitsSoFar self.old (Calls (script.DiskLane disk) (Pokes A at bytes.now))
-            journal.old.entries journal.new.entries self.new) }
-        ensures agrees { Counted journal.new.entries self.new }
-    {
-        self.disks.poke(disk, at, bytes, journal)
-    }
-
-    /// One step of an end of the port with this number.
-    fn step_port(&mut self, port: u32, side: Side, journal: &mut Journal) -> Result<(), NoMemory>
-        requires port { port < length self.old.second }
-        requires agrees { Counted journal.old.entries self.old }
-        ensures made { OnOk result (MakesPortStep DomainStep port (end_of side) self.old journal.old.entries
-            journal.new.entries self.new) }
-        ensures same { OnErr result ((self.new ≡ self.old) × (journal.new.entries ≡ journal.old.entries)) }
-        ensures many { SameNumbers self.old self.new }
-        ensures agrees { Counted journal.new.entries self.new }
-    {
-        self.ports.step(port, side, journal)
-    }
-
-    /// The same in a settle.
-    fn quiet_step_port(
-        &mut self,
-        port: u32,
-        side: Side,
-        journal: &mut Journal,
-    ) -> Result<bool, NoMemory>
-        requires port { port < length self.old.second }
-        requires agrees { Counted journal.old.entries self.old }
-        ensures made { IfOk result (λ calm. MakesQuietPortStep DomainStep port (end_of side) self.old
-            journal.old.entries journal.new.entries calm self.new) }
-        ensures same { OnErr result ((self.new ≡ self.old) × (journal.new.entries ≡ journal.old.entries)) }
-        ensures many { SameNumbers self.old self.new }
-        ensures agrees { Counted journal.new.entries self.new }
-    {
-        self.ports.quiet_step(port, side, journal)
-    }
-
-    /// Calls the port with this number.
-    fn answer_port(
-        &mut self,
-        port: u32,
-        call: LaneCall<'_>,
-        journal: &mut Journal,
-    ) -> Result<(), NoMemory>
-        requires port { port < length self.old.second }
-        requires call { IsPortCall call }
-        requires agrees { Counted journal.old.entries self.old }
-        ensures fits { OnOk result (Fits self.old (Calls (script.PortLane port) (call_of call.entry))
-            journal.old.entries journal.new.entries self.new) }
-        ensures so_far { OnErr result (FitsSoFar self.old (Calls (script.PortLane port) (call_of call.entry))
-            journal.old.entries journal.new.entries self.new) }
-        ensures agrees { Counted journal.new.entries self.new }
-    {
-        self.ports.answer_call(port, call, journal)
-    }
-
-    /// Pokes the memory of an end of the port with this number.
-    fn poke_port(
-        &mut self,
-        port: u32,
-        side: Side,
-        at: u64,
-        bytes: &[u8],
-        journal: &mut Journal,
-    ) -> Result<(), NoMemory>
-        requires port { port < length self.old.second }
-        requires agrees { Counted journal.old.entries self.old }
-        ensures fits { OnOk result (Fits self.old (Calls (script.PortLane port) (Pokes (end_of side) at bytes.now))
-            journal.old.entries journal.new.entries self.new) }
-        ensures so_far { OnErr result (FitsSoFar self.old (Calls (script.PortLane port) (Pokes (end_of side) at bytes.now))
-            journal.old.entries journal.new.entries self.new) }
-        ensures agrees { Counted journal.new.entries self.new }
-    {
-        self.ports.poke(port, side, at, bytes, journal)
+        of_kind!(
+            end.lane.kind,
+            poke(self, end.lane.number, end.side, at, bytes, journal)
+        )
     }
 }

@@ -9,13 +9,14 @@ ghost use Rattle.lane_kinds.specs.LanesMade.{all_true};
 ghost use Rattle.ldom_world.specs.SettleParts.{LaneNamesAdd, LaneNamesAddFront, LanesAdd, LanesAddFront, LaneTicksAdd};
 ghost use Rattle.ldom_world.specs.SettleParts.{LaneTicksAddFront, marks_of, NamesAdd, NamesAddFront, NamesGoOn};
 ghost use Rattle.ldom_world.specs.SettleParts.{RoundAdds, RoundAddsFront, RoundBreaks, RoundGoesOn};
-ghost use Rattle.ldom_world.specs.SettleParts.{TicksAdd, TicksAddFront, TicksGoOn, TurnBreaks, TurnGoesOn};
+ghost use Rattle.ldom_world.specs.SettleParts.{TicksAdd, TicksAddFront, TicksGoOn, PassBreaks, PassGoesOn};
 ghost use Rattle.recorded_lanes.specs.Steps.{Counted};
 ghost use Rattle.ldom_world.specs.TurnsMade.{SameNumbers};
 ghost use Rattle.recorded_lanes.specs.world_parts.WorldKinds.{in_world};
 ghost use Rattle.recorded_lanes.specs.world_parts.Lines.{IsLaneOf, number_of_kind};
 ghost use Rattle.recorded_lanes.specs.world_parts.Parts.{Fits, FitsSoFar};
 
+use crate::kinds::ports;
 use crate::world::World;
 use domain_script::{Lane, LaneKind, Side};
 use recorded_lanes::{Entry, Journal, LaneCall, Who};
@@ -57,7 +58,7 @@ impl<D: Store> World<D> {
         let mut had = LaneMarks::all(false);
         let mut quiet = LaneMarks::all(true);
         for _ in 0..self.most_rounds() {
-            if self.settle_turn(&mut had, &mut quiet, journal)? {
+            if self.settle_pass(&mut had, &mut quiet, journal)? {
                 return Ok(());
             }
         }
@@ -67,16 +68,16 @@ impl<D: Store> World<D> {
     /// One round of a settle, with the ticks after it where all lanes were quiet. Tells whether the settle ended: then
     /// the journal has its answer.
     #[tactic(auto, using(crate::proofs::SettlingAdds::turn_is_loud, crate::proofs::SettlingAdds::turn_ticks))]
-    fn settle_turn(
+    fn settle_pass(
         &mut self,
         had: &mut LaneMarks,
         quiet: &mut LaneMarks,
         journal: &mut Journal,
     ) -> Result<bool, NoMemory>
         requires agrees { Counted journal.old.entries self.old }
-        ensures turned { IfOk result (λ ended. TurnGoesOn ended self.old (marks_of had.old) (marks_of quiet.old)
+        ensures turned { IfOk result (λ ended. PassGoesOn ended self.old (marks_of had.old) (marks_of quiet.old)
             journal.old.entries self.new (marks_of had.new) (marks_of quiet.new) journal.new.entries) }
-        ensures breaks { OnErr result (TurnBreaks self.old (marks_of had.old) (marks_of quiet.old)
+        ensures breaks { OnErr result (PassBreaks self.old (marks_of had.old) (marks_of quiet.old)
             journal.old.entries self.new journal.new.entries) }
         ensures agrees { Counted journal.new.entries self.new }
     {
@@ -302,7 +303,7 @@ impl<D: Store> World<D> {
         ensures few_ports { length self.now.second ≤ 8 }
     {
         // That there are at most eight ports is known by this call alone.
-        let _ports = self.port_count();
+        let _ports = ports::count(self);
         4096 + 64 * (self.disks.pending() + self.ports.pending())
     }
 }

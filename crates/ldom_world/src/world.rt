@@ -84,22 +84,6 @@ impl<D: Store> World<D> {
         }
     }
 
-    /// How many disks there are.
-    pub(crate) fn disk_count(&self) -> u32
-        ensures count { result ≡ length self.now.first.lanes }
-        ensures few { length self.now.first.lanes ≤ 8 }
-    {
-        self.disks.count()
-    }
-
-    /// How many ports there are.
-    pub(crate) fn port_count(&self) -> u32
-        ensures count { result ≡ length self.now.second }
-        ensures few { length self.now.second ≤ 8 }
-    {
-        self.ports.count()
-    }
-
     /// Whether the image ever failed.
     pub fn faulty(&self) -> bool
         ensures { IsTrue result ↔ (0 < self.now.first.image.faults) }

@@ -91,6 +91,7 @@ impl<'a> LineNames<'a> {
     }
 
     /// The names of the lanes of a kind.
+    #[tactic(auto, using(domain_script::proofs::LaneKinds::none_among))]
     fn of_kind(&self, kind: LaneKind) -> &'a [LaneNames]
         requires some { 0 < number_of_kind kind self.now }
         ensures lanes { result.now ≡ lane_names kind self.now }

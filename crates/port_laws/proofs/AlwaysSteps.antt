@@ -1,16 +1,14 @@
 -- An end of a port that some events led to has a next step.
-use Rattle.std.proofs.Common.{◌≡◌, ◌≢◌, Bool, true, false, Option, None, List, refl, sym, subst, ap, ◌∙◌, arith}
+use Rattle.std.proofs.Common.{◌≡◌, ◌≢◌, Bool, true, false, Option, None, List, refl, sym, subst, arith}
 use Rattle.std.specs.Prelude.{is_some}
 use Rattle.ldc_link.specs.declared.phase.Role.{Role}
-use Rattle.ldc_link.specs.declared.phase.Role.TheVariants.{Initiator, Responder}
 use Rattle.ldc_link.specs.LinkState.{is_up}
 use Rattle.ldc_queue.specs.declared.end.End.{End}
 use Rattle.ldc_queue.specs.declared.end.End.TheVariants.{A, B}
-use Rattle.ldc_queue.specs.Transcript.{Turn}
-use Rattle.vio_handshake.specs.declared.handshake.Phase.{Phase}
+use Rattle.ldc_queue.specs.Transcript.{Utterance}
 use Rattle.channel_laws.proofs.CoreLaws.{stands_a, stands_b}
 use Rattle.channel_laws.specs.LaneCore.{CoreEvent, CoreStep}
-use Rattle.channel_laws.specs.Standing.{EndStands, is_open_in}
+use Rattle.channel_laws.specs.Standing.{EndStands}
 use Rattle.port_model.proofs.Moving.{before_keeps}
 use Rattle.port_model.proofs.Refuting.{true_false}
 use Rattle.runs.specs.Run.{Run}
@@ -21,27 +19,25 @@ use Rattle.port_model.specs.NetEvent.{Steps}
 use Rattle.port_model.specs.NetLaneState.{IsNetShape, NetLaneState, NetShape, memory_of, net_end, reach_of, role_at, seen_at, with_left}
 use Rattle.port_model.specs.NetLaneStep.{NetLaneStep, net_wire}
 use Rattle.port_model.specs.NetReached.{NetReached}
-use Rattle.port_model.specs.Offers.{port_offer}
 use Rattle.port_model.specs.PortState.{OfQueue, OnLane, PortEvent, PortState, PortStep, before, fresh_port}
 use Rattle.port_model.specs.StepStands.{CanStep, IsPacket}
-use Rattle.port_laws.specs.NetCore.{core_events, fresh_net_core, is_begun, lane_core, net_core_at}
+use Rattle.port_laws.specs.NetCore.{core_events, fresh_net_core, lane_core, net_core_at}
 use Rattle.port_laws.specs.PortCore.{port_events}
 use Rattle.port_laws.proofs.CoreLaws.{sizes_fit}
 use Rattle.port_laws.proofs.LaneMoves.{fresh_run_core}
 use Rattle.port_laws.proofs.PortRuns.{before_core, fresh_port_core}
 
-owed_up : (role : Role) (begun : Bool) (s : NetEndState) (turns : List Turn) → EndStands role (net_core_at role begun s) turns → (up : Bool) → is_up s.link ≡ up → s.handshake.owed ≢ None → is_up s.link ≡ true
+owed_up : (role : Role) (begun : Bool) (s : NetEndState) (turns : List Utterance) → EndStands role (net_core_at role begun s) turns → (up : Bool) → is_up s.link ≡ up → s.handshake.owed ≢ None → is_up s.link ≡ true
 owed_up role begun s turns stands up is some = grind arith
 
 some_of : (session : Option NetSession) → session ≢ None → is_some session ≡ true
 some_of session some = grind arith
 
-open_up : (role : Role) (begun : Bool) (s : NetEndState) (turns : List Turn) → EndStands role (net_core_at role begun s) turns → (up : Bool) → is_up s.link ≡ up → s.session ≢ None → is_up s.link ≡ true
+open_up : (role : Role) (begun : Bool) (s : NetEndState) (turns : List Utterance) → EndStands role (net_core_at role begun s) turns → (up : Bool) → is_up s.link ≡ up → s.session ≢ None → is_up s.link ≡ true
 open_up role begun s turns stands true is some = is
-open_up role begun s turns stands false is some =
-    true_false (sym (some_of s.session some) ∙ stands.opened ∙ ap (λ (x : Phase). is_open_in x) (stands.below is).down)
+open_up role begun s turns stands false is some = grind (arith, true_false, some_of)
 
-can_step : (role : Role) (begun : Bool) (s : NetEndState) (turns : List Turn) (e : End) (l : NetLaneState) → EndStands role (net_core_at role begun s) turns → IsPacket (seen_at e l).first → CanStep s (seen_at e l)
+can_step : (role : Role) (begun : Bool) (s : NetEndState) (turns : List Utterance) (e : End) (l : NetLaneState) → EndStands role (net_core_at role begun s) turns → IsPacket (seen_at e l).first → CanStep s (seen_at e l)
 can_step role begun s turns e l stands first = record {
   owed = owed_up role begun s turns stands (is_up s.link) refl;
   opened = open_up role begun s turns stands (is_up s.link) refl;
@@ -51,12 +47,8 @@ can_step role begun s turns e l stands first = record {
 -- where events of the channel led to the lane
 can_core : (shape : NetShape) → IsNetShape shape → (moves : List CoreEvent) (u : NetLaneState) → Run CoreStep (fresh_net_core shape) moves (lane_core u) → (e : End) → IsPacket (seen_at e u).first
     → CanStep (net_end e u) (seen_at e u)
-can_core shape is moves u run A first =
-    can_step Initiator (is_begun u.wire.wire.end_a) u.guest _ A u
-    (stands_a shape.entries (port_offer Initiator shape.address shape.slots) (port_offer Responder shape.address shape.slots) moves (lane_core u) (sizes_fit shape is) run) first
-can_core shape is moves u run B first =
-    can_step Responder (is_begun u.wire.wire.end_b) u.hub _ B u
-    (stands_b shape.entries (port_offer Initiator shape.address shape.slots) (port_offer Responder shape.address shape.slots) moves (lane_core u) (sizes_fit shape is) run) first
+can_core shape is moves u run A first = can_step _ _ _ _ A u (stands_a _ _ _ _ _ (sizes_fit _ is) run) first
+can_core shape is moves u run B first = grind (arith, can_step, stands_b, sizes_fit)
 
 pub reached_steps : (s : NetLaneState) (e : End) → NetReached s → IsPacket (seen_at e s).first
     → (answer : NetAnswer) × (left : NetLeft) × NetEndStep (role_at e) (net_end e s) (seen_at e s) (memory_of e s) (reach_of e s) answer left

@@ -9,7 +9,7 @@ use Rattle.ldc_link.specs.declared.phase.Role.TheVariants.{Initiator, Responder}
 use Rattle.ldc_queue.specs.declared.end.End.{End}
 use Rattle.ldc_queue.specs.declared.end.End.TheVariants.{A, B}
 use Rattle.ldc_queue.specs.OneStream.{IsFront}
-use Rattle.ldc_queue.specs.Transcript.{Heard, Said, Turn}
+use Rattle.ldc_queue.specs.Transcript.{Heard, Said, Utterance}
 use Rattle.ldc_queue.specs.Wire.{peer_of}
 use Rattle.runs.specs.Lawful.{log_of}
 use Rattle.runs.specs.Run.{Run}
@@ -144,7 +144,7 @@ both_rings : (shape : NetShape) (events : List NetEvent) (s : NetLaneState) (e :
 both_rings shape events s A run = refl
 both_rings shape events s B run = refl
 
-pub order_of : (both : Bool) (one other : Role) (turns : List Turn) → both ≡ true → one ≡ other → HandshakeOrder both one turns → HandshakeOrder true other turns
+pub order_of : (both : Bool) (one other : Role) (turns : List Utterance) → both ≡ true → one ≡ other → HandshakeOrder both one turns → HandshakeOrder true other turns
 order_of both one other turns is same order = grind arith
 
 pub opens_said : (shape : NetShape) (events : List NetEvent) (s : NetLaneState) (e : End) (packet : List ℕ) (t : NetLaneState) → IsNetShape shape

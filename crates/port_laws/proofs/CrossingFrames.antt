@@ -10,7 +10,7 @@ use Rattle.ldc_queue.specs.declared.end.ChannelState.{ChannelState}
 use Rattle.ldc_queue.specs.declared.end.ChannelState.TheVariants.{Up}
 use Rattle.ldc_queue.specs.declared.end.End.{End}
 use Rattle.ldc_queue.specs.declared.end.End.TheVariants.{A, B}
-use Rattle.ldc_queue.specs.Transcript.{Turn}
+use Rattle.ldc_queue.specs.Transcript.{Utterance}
 use Rattle.ldc_queue.specs.Wire.{peer_behind, upset}
 use Rattle.runs.specs.Lawful.{log_of}
 use Rattle.runs.specs.Run.{Run}
@@ -24,7 +24,7 @@ use Rattle.channel_model.specs.WireLog.{WireLog}
 use Rattle.channel_laws.specs.Standing.{EndStands}
 use Rattle.cookie_copy.specs.Faults.{is_up}
 use Rattle.cookie_copy.specs.Reach.{Reach}
-use Rattle.port_model.proofs.Refuting.{none_some}
+use Rattle.port_model.proofs.Refuting.{none_some, of_some}
 use Rattle.port_model.proofs.Ruling.{says_of}
 use Rattle.port_model.specs.EndLog.{EndLog}
 use Rattle.port_model.specs.Fetching.{Fetched, fetched}
@@ -60,7 +60,7 @@ use Rattle.port_laws.proofs.RingRuns.{finds_before, port_kept}
 use Rattle.port_laws.proofs.RuleFrames.{end_acts}
 use Rattle.port_laws.proofs.RuleUnforged.{TakesPublished, takes_published}
 use Rattle.port_laws.proofs.StepCounts.{Acting, counts_stand}
-use Rattle.port_laws.proofs.TookWhat.{Fails, Opens, Reads, Stays, TookWhat, took_what}
+use Rattle.port_laws.proofs.TookWhat.{TookWhat, took_what}
 
 -- A GUEST THAT IS UP
 abbrev own_untaken : List ℕ → NetEndState → ℕ
@@ -68,9 +68,6 @@ own_untaken memory s = fresh_frames s + ready_in s.slots memory s.session
 
 abbrev Kept : List ℕ → NetEndState → List ℕ → NetEndState → Type 0
 Kept memory s new t = own_untaken new t ≤ own_untaken memory s
-
-of_some : {X : Type 0} (P : X → Type 0) (x y : X) → Some x ≡ Some y → P x → P y
-of_some {X} P x y same holds = let is : x ≡ y = cc in subst P is holds
 
 -- in a session of the same counts
 in_session : (memory : List ℕ) (s : NetEndState) (p : NetSession) (n : ℕ) → s.session ≡ Some p → n ≤ (length s.frames - unseen_in p) + ready_slots s.slots memory → n ≤ own_untaken memory s
@@ -103,7 +100,7 @@ opened_kept : (opens : Bool) (memory : List ℕ) (s : NetEndState) → (opens �
     → own_untaken (cleared_by_put Initiator opens s.slots memory) (opened_by_put Initiator opens s) ≤ own_untaken memory s
 opened_kept opens memory s shut = grind (arith, cleared_none)
 
-sends_kept : (slots : ℕ) (queue : List (List ℕ)) (s : NetEndState) (l : EndLog) (turns : List Turn) (at : Seen) (memory : List ℕ) (reach : Reach) (packet : List ℕ) (opens : Bool) (t : NetLeft)
+sends_kept : (slots : ℕ) (queue : List (List ℕ)) (s : NetEndState) (l : EndLog) (turns : List Utterance) (at : Seen) (memory : List ℕ) (reach : Reach) (packet : List ℕ) (opens : Bool) (t : NetLeft)
     → Acting Initiator slots queue s l turns → NetSends Initiator s at memory reach packet opens t → Kept memory s t.own t.end
 sends_kept slots queue s l turns at memory reach packet opens t acting step =
     let held : NetEndState = step.held in
@@ -118,7 +115,7 @@ sends_kept slots queue s l turns at memory reach packet opens t acting step =
     subst (λ (x : NetLeft). Kept memory s x.own x.end) (sym step.is) (omega (arith, put, kept))
 
 -- IT PUBLISHES a frame
-publishes_kept : (slots : ℕ) (queue : List (List ℕ)) (s : NetEndState) (l : EndLog) (turns : List Turn) (at : Seen) (memory : List ℕ) (reach : Reach) (id : ℕ) (t : NetLeft)
+publishes_kept : (slots : ℕ) (queue : List (List ℕ)) (s : NetEndState) (l : EndLog) (turns : List Utterance) (at : Seen) (memory : List ℕ) (reach : Reach) (id : ℕ) (t : NetLeft)
     → Acting Initiator slots queue s l turns → 8192 + 2048 * slots ≤ length memory → NetPublishes Initiator s at memory reach id t → Kept memory s t.own t.end
 publishes_kept slots queue s l turns at memory reach id t acting room step =
     let p : NetSession = step.session in
@@ -140,7 +137,7 @@ abbrev TakeKept : List ℕ → NetEndState → NetTake → Type 0
 TakeKept memory s (GoesOn t opens new) = Kept memory s new t
 TakeKept memory s (Resets cause) = ⊤
 
-takes_kept : (memory packet : List ℕ) (s : NetEndState) (turns : List Turn) (take : NetTake) → EndStands Initiator (net_core Initiator s) turns → FramesStand s → 1 ≤ s.slots → 64 * s.slots ≤ length memory
+takes_kept : (memory packet : List ℕ) (s : NetEndState) (turns : List Utterance) (take : NetTake) → EndStands Initiator (net_core Initiator s) turns → FramesStand s → 1 ≤ s.slots → 64 * s.slots ≤ length memory
     → NetTakes Initiator s memory packet take → TakeKept memory s take
 takes_kept memory packet s turns take ends stands some room takes = by_what take (took_what Initiator s turns memory packet take ends takes)
   where
@@ -153,10 +150,7 @@ takes_kept memory packet s turns take ends stands some room takes = by_what take
     by_does k h p m (Resets cause) session does = tt
 
     by_what : (x : NetTake) → TookWhat Initiator s memory x → TakeKept memory s x
-    by_what x (Stays k h is) = subst (TakeKept memory s) (sym is) (omega arith)
-    by_what x (Opens k h role none is) = absurd (cc role)
-    by_what x (Fails cause is) = subst (TakeKept memory s) (sym is) tt
-    by_what x (Reads k h p m session does) = by_does k h p m x session does
+    by_what x given = grind (arith, by_does)
 
 -- IT BEGINS ANEW
 joined_kept : (x : ChannelState) (memory new : List ℕ) (s : NetEndState) → own_untaken new (joined_net_end Initiator s) ≤ untaken x memory s
@@ -204,26 +198,18 @@ guest_crossing shape u l answer t ready room step = by_answer answer step
         goes_kept u.lane t made.left.own made.left.end up (ap (λ (w : WireLog). w.wire.end_a) now.wire) now.end now.own
         (sends_kept shape.slots [] g l.guest l.transcript.client (seen_at A u.lane) u.lane.guest_memory (reach_of A u.lane) packet opens made.left (acting up) made.step)
     by_answer Blocked made =
-        let now = step_now A u.lane t Blocked made in
-        let up = up_at Blocked made.left made.step refl in
-        goes_kept u.lane t u.lane.guest_memory made.left.end up (ap (λ (w : WireLog). w.wire.end_a) now.wire) now.end (now.own ∙ ap (λ (x : NetLeft). x.own) made.step.2)
-        (held_kept u.lane.guest_memory g (seen_at A u.lane) (reach_of A u.lane) (port_rule Initiator g (seen_at A u.lane)) made.left.end refl made.step.0)
-    by_answer Idle made =
-        let now = step_now A u.lane t Idle made in
-        goes_kept u.lane t u.lane.guest_memory g (up_at Idle made.left made.step refl) (ap (λ (w : WireLog). w.wire.end_a) now.wire) (now.end ∙ ap (λ (x : NetLeft). x.end) made.step.1)
-        (now.own ∙ ap (λ (x : NetLeft). x.own) made.step.1) (omega arith)
+        grind (arith, step_now A u.lane t Blocked made, up_at Blocked made.left made.step refl, goes_kept, held_kept)
+    by_answer Idle made = grind (arith, step_now A u.lane t Idle made, up_at, goes_kept)
     by_answer (Published id) made =
         let now = step_now A u.lane t (Published id) made in
         let up = up_at (Published id) made.left made.step refl in
-        goes_kept u.lane t made.left.own made.left.end up (ap (λ (w : WireLog). w.wire.end_a) now.wire) now.end now.own
-        (publishes_kept shape.slots [] g l.guest l.transcript.client (seen_at A u.lane) u.lane.guest_memory (reach_of A u.lane) id made.left (acting up) room.guest made.step)
+        grind (arith, now, up, acting, goes_kept, publishes_kept)
     by_answer (Frame frame) made =
         let now = step_now A u.lane t (Frame frame) made in
         let up = up_at (Frame frame) made.left made.step refl in
-        let p : NetSession = made.step.session in
-        let says = says_of Initiator g (seen_at A u.lane) (Fetches p made.step.activity) made.step.rule in
-        goes_kept u.lane t u.lane.guest_memory (record g { session = Some (taken g p made.step.activity); last = frame }) up (ap (λ (w : WireLog). w.wire.end_a) now.wire)
-        (now.end ∙ ap (λ (x : NetLeft). x.end) made.step.is) (now.own ∙ ap (λ (x : NetLeft). x.own) made.step.is) (in_session u.lane.guest_memory g p _ says.0.session (omega arith))
+        let says =
+        says_of Initiator g (seen_at A u.lane) (Fetches made.step.session made.step.activity) made.step.rule in
+        grind (arith, now, up, made.step.session, says, goes_kept, in_session)
     by_answer given made =
         let now = step_now A u.lane t given made in
         begins_kept u.lane t made.left.own (ap (λ (w : WireLog). w.wire.end_a) now.wire) (now.end ∙ ap (λ (x : NetLeft). x.end) made.step.2) now.own
@@ -250,12 +236,9 @@ hub_crossed shape u l frame t finds step =
     let here : ready_slots u.lane.guest.slots step.step.new + 1 ≡ ready_slots u.lane.guest.slots u.lane.guest_memory =
     subst (λ (n : ℕ). ready_slots n step.step.new + 1 ≡ ready_slots n u.lane.guest_memory) (sym slots_is) ready in
     let less : own_untaken step.step.new u.lane.guest + 1 ≤ own_untaken u.lane.guest_memory u.lane.guest =
-    subst (λ (x : Option NetSession). (length u.lane.guest.frames - unseen x) + ready_in u.lane.guest.slots step.step.new x + 1
-    ≤ (length u.lane.guest.frames - unseen x) + ready_in u.lane.guest.slots u.lane.guest_memory x) (sym takes.theirs) (omega (arith, here)) in
-    subst (λ (x : ChannelState). untaken x t.guest_memory t.guest + 1 ≤ lane_crossing u.lane) (sym (ap (λ (w : WireLog). w.wire.end_a) now.wire ∙ takes.peer_up))
-    (subst (λ (x : ChannelState). own_untaken t.guest_memory t.guest + 1 ≤ untaken x u.lane.guest_memory u.lane.guest) (sym takes.peer_up)
-    (subst (λ (x : NetEndState). own_untaken t.guest_memory x + 1 ≤ own_untaken u.lane.guest_memory u.lane.guest) (sym now.peer_end)
-    (subst (λ (x : List ℕ). own_untaken x u.lane.guest + 1 ≤ own_untaken u.lane.guest_memory u.lane.guest) (sym (now.peer_memory ∙ ap (λ (x : NetLeft). x.peer) step.step.is)) less)))
+    grind arith in
+    let memory = now.peer_memory ∙ ap (λ (x : NetLeft). x.peer) step.step.is in
+    rw (ap (λ (w : WireLog). w.wire.end_a) now.wire ∙ takes.peer_up, takes.peer_up, now.peer_end, memory) less
 
 hub_crossing : (shape : NetShape) (u : PortState) (l : PortLog) (answer : NetAnswer) (t : NetLaneState) → Finds shape u l → EndSteps B u.lane answer t → lane_crossing t ≤ lane_crossing u.lane
 hub_crossing shape u l (Frame frame) t finds step = let less = hub_crossed shape u l frame t finds step in omega (arith, less)
@@ -274,10 +257,7 @@ hub_crossing shape u l Idle t finds step =
 hub_crossing shape u l (Published id) t finds step =
     let now = step_now B u.lane t (Published id) step in
     same_kept u.lane t u.lane.wire.wire.end_a (ap (λ (w : WireLog). w.wire.end_a) now.wire) now.peer_end (now.peer_memory ∙ ap (λ (x : NetLeft). x.peer) step.step.is) (omega arith)
-hub_crossing shape u l answer t finds step =
-    let now = step_now B u.lane t answer step in
-    same_kept u.lane t (peer_behind u.lane.wire.wire.end_b u.lane.wire.wire.end_a) (ap (λ (w : WireLog). w.wire.end_a) now.wire) now.peer_end (now.peer_memory ∙ ap (λ (x : NetLeft). x.peer) step.step.2)
-    (behind_less u.lane.wire.wire.end_b u.lane.wire.wire.end_a u.lane.guest_memory u.lane.guest)
+hub_crossing shape u l answer t finds step = grind (arith, step_now B u.lane t answer step, same_kept, behind_less)
 
 -- THE FRAME THAT MOVES from the out queue is none of the guest's
 moves_same : (b : Bool) (queue : List (List ℕ)) (s : PortState) → crossing (moves_first b queue s) ≡ crossing s
@@ -316,19 +296,14 @@ port_tick_crossing s queued lost t step =
 -- no more than the guest holds
 few_up : (shape : NetShape) (s : PortState) (l : PortLog) (session : Option NetSession) → Finds shape s l → IsUp A s.lane.wire.wire → s.lane.guest.session ≡ session
     → own_untaken s.lane.guest_memory s.lane.guest ≤ length s.lane.guest.frames
-few_up shape s l None finds up is =
-    subst (λ (x : Option NetSession). (length s.lane.guest.frames - unseen x) + ready_in s.lane.guest.slots s.lane.guest_memory x ≤ length s.lane.guest.frames) (sym is) (omega arith)
+few_up shape s l None finds up is = rw is (omega arith)
 few_up shape s l (Some p) finds up is =
     let ring : RingHolds l.shape.slots p.seen (taken_of B s.lane l) p.published s.lane.guest.frames s.lane.guest_memory =
     subst (λ (x : Option NetSession). RingIn l.shape.slots (taken_of B s.lane l) x s.lane.guest.frames s.lane.guest_memory) is (finds.rings.guest_ring up) in
     let slots_is : l.shape.slots ≡ s.lane.guest.slots = ap (λ (x : NetShape). x.slots) finds.ready.shape_is ∙ sym finds.ready.guest.slots_is in
     let most : ready_slots s.lane.guest.slots s.lane.guest_memory ≤ p.published - taken_of B s.lane l =
-    subst (λ (n : ℕ). ready_slots n s.lane.guest_memory ≤ p.published - taken_of B s.lane l) slots_is
-    (ready_most l.shape.slots p.seen (taken_of B s.lane l) p.published s.lane.guest.frames s.lane.guest_memory ring) in
-    let first = ring.seen_first in
-    let held = ring.held in
-    subst (λ (x : Option NetSession). (length s.lane.guest.frames - unseen x) + ready_in s.lane.guest.slots s.lane.guest_memory x ≤ length s.lane.guest.frames) (sym is)
-    (omega (arith, most, first, held))
+    rw slots_is at (ready_most _ _ _ _ _ _ ring) in
+    rw is (omega (arith, most, ring.seen_first, ring.held))
 
 pub port_few_cross : (shape : NetShape) (events : List PortEvent) (s : PortState) → IsNetShape shape → Run PortStep (fresh_port shape) events s → s.lane.wire.forged ≡ false
     → crossing s ≤ length s.lane.guest.frames
@@ -338,7 +313,4 @@ port_few_cross shape events s is run clean = by_state s.lane.wire.wire.end_a ref
     finds = finds_before shape s (log_of after (no_events shape) events) (CalmTick 0) is (port_kept shape events s is run) (unforged_log shape events s is run clean)
 
     by_state : (x : ChannelState) → s.lane.wire.wire.end_a ≡ x → crossing s ≤ length s.lane.guest.frames
-    by_state Up up =
-        subst (λ (x : ChannelState). untaken x s.lane.guest_memory s.lane.guest ≤ length s.lane.guest.frames) (sym up)
-        (few_up shape s (log_of after (no_events shape) events) s.lane.guest.session finds up refl)
-    by_state _ is = subst (λ (x : ChannelState). untaken x s.lane.guest_memory s.lane.guest ≤ length s.lane.guest.frames) (sym is) (omega arith)
+    by_state x up = grind (arith, finds, few_up)

@@ -1,5 +1,5 @@
 -- What the counts of an end and of its log come to, taken apart and put together again.
-use Rattle.std.proofs.Common.{◌≡◌, ℕ, ◌+◌, ◌≤◌, Bool, true, false, Option, Some, None, List, [], ◌++◌, length, drop, refl, sym, subst, ap, ◌∙◌, arith, length-append, length-drop, ◌∷◌}
+use Rattle.std.proofs.Common.{◌≡◌, ℕ, ◌+◌, ◌≤◌, Bool, true, false, Option, Some, None, List, [], ◌++◌, length, drop, refl, sym, ap, ◌∙◌, arith, length-append, length-drop, ◌∷◌}
 use Rattle.std.specs.Prelude.{is_none}
 use Rattle.std.proofs.lemmas.List.{drop-append-le, drop-drop}
 use Rattle.ldc_link.specs.declared.phase.Role.{Role}
@@ -16,13 +16,9 @@ pub record OpenCounts (role : Role) (slots : ℕ) (groups : List (List ℕ)) (pu
   pub is : log ≡ Some of_log
   pub counts : SessionCounts role slots groups published gone left begun p of_log
 
-open_log : (role : Role) (slots : ℕ) (groups : List (List ℕ)) (published gone : ℕ) (left : Option (List ℕ)) (begun : Bool) (p : NetSession) (log : Option SessionLog)
-    → Counts role slots groups published gone left begun (Some p) log → OpenCounts role slots groups published gone left begun p log
-open_log role slots groups published gone left begun p log counts = grind arith
-
 pub open_counts : (role : Role) (slots : ℕ) (queue : List (List ℕ)) (s : NetEndState) (l : EndLog) (p : NetSession) → EndCounts role slots queue s l → s.session ≡ Some p
     → OpenCounts role slots s.groups l.published l.gone (unsaid s) s.link.begun p l.session
-open_counts role slots queue s l p counts is = grind (arith, open_log)
+open_counts role slots queue s l p counts is = grind arith
 
 -- bytes of its own that its link holds; and where it holds none
 pub own_left : (own : Bool) (bytes : List ℕ) → own ≡ true → 1 ≤ length bytes → left_of own bytes ≡ Some bytes
@@ -46,13 +42,9 @@ pub record ShutCounts (role : Role) (groups : List (List ℕ)) (published gone :
   pub gone_all : published ≡ gone
   pub none : NoneTold role groups
 
-shut_log : (role : Role) (slots : ℕ) (groups : List (List ℕ)) (published gone : ℕ) (left : Option (List ℕ)) (begun : Bool) (log : Option SessionLog)
-    → Counts role slots groups published gone left begun None log → ShutCounts role groups published gone log
-shut_log role slots groups published gone left begun log counts = grind arith
-
 pub shut_counts : (role : Role) (slots : ℕ) (queue : List (List ℕ)) (s : NetEndState) (l : EndLog) → EndCounts role slots queue s l → s.session ≡ None
     → ShutCounts role s.groups l.published l.gone l.session
-shut_counts role slots queue s l counts is = grind (arith, shut_log)
+shut_counts role slots queue s l counts is = grind arith
 
 pub with_open : (role : Role) (slots : ℕ) (groups : List (List ℕ)) (published gone : ℕ) (left : Option (List ℕ)) (begun : Bool) (session : Option NetSession) (p : NetSession) (v : SessionLog)
     → session ≡ Some p → SessionCounts role slots groups published gone left begun p v → Counts role slots groups published gone left begun session (Some v)
@@ -79,9 +71,7 @@ end_from role slots queue s t l q v n counts same frames few next groups session
   gone = gone_within n s.frames queue l.given l.gone few counts.gone counts.frames;
   ids = ap (λ (x : ℕ). x + length queue) next ∙ counts.ids;
   groups = groups;
-  session = with_open role slots t.groups l.published (l.gone + n) (unsaid t) t.link.begun t.session q v session
-      (subst (λ (x : Option (List ℕ)). SessionCounts role slots t.groups l.published (l.gone + n) x t.link.begun q v) (sym left)
-      (record { right = tt; ring = ring; peer = peer; guest = guest; reply = reply }));
+  session = grind (arith, with_open);
 }
 
 -- the guest's counts speak of few fields
@@ -93,17 +83,8 @@ guest_same role p q groups now v w counts same untold telling membership told kn
 pub said_published : (k : Spoken) (message : List ℕ) (v : SessionLog) → (said_kind k message v).published ≡ v.published
 said_published k message v = grind arith
 
-pub said_seen : (k : Spoken) (message : List ℕ) (v : SessionLog) → (said_kind k message v).seen ≡ v.seen
-said_seen k message v = grind arith
-
 pub left_published : (left : Option (List ℕ)) (v : SessionLog) → (said_in left v).published ≡ v.published
 left_published left v = grind (arith, said_published)
 
-pub said_groups : (k : Spoken) (message : List ℕ) (v : SessionLog) → (said_kind k message v).groups ≡ v.groups
-said_groups k message v = grind arith
-
-pub left_groups : (left : Option (List ℕ)) (v : SessionLog) → (said_in left v).groups ≡ v.groups
-left_groups left v = grind (arith, said_groups)
-
 pub left_seen : (left : Option (List ℕ)) (v : SessionLog) → (said_in left v).seen ≡ v.seen
-left_seen left v = grind (arith, said_seen)
+left_seen left v = grind arith

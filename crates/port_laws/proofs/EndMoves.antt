@@ -1,6 +1,6 @@
 -- Each step of an end of a port is a move of an end on a channel.
 use Rattle.std.proofs.Common.{◌≡◌, ℕ, Bool, true, false, Option, Some, None, List, length, drop, refl, sym, subst, ap, ◌∙◌, arith}
-use Rattle.std.specs.Prelude.{Result, Ok, ◌+◌, ◌≤◌, ◌&&◌, not, nat_le, is_none, is_some}
+use Rattle.std.specs.Prelude.{Ok, ◌+◌, ◌≤◌, ◌&&◌, not, nat_le, is_none, is_some}
 use Rattle.std.proofs.lemmas.Bool.Decides.{nat_tests}
 use Rattle.std.proofs.lemmas.List.{length-drop}
 use Rattle.ldc_link.specs.Calls.{Puts as PutsPacket}
@@ -18,10 +18,9 @@ use Rattle.vio_tag.specs.declared.cause.Cause.{Cause}
 use Rattle.vio_tag.specs.declared.message.Message.{Message}
 use Rattle.vio_tag.specs.declared.message.MsgBody.{MsgBody}
 use Rattle.vio_tag.specs.declared.message.MsgBody.TheVariants.{Mcast}
-use Rattle.vio_tag.specs.declared.message.TagFault.{TagFault}
 use Rattle.vio_tag.specs.Decoding.{Decodes}
 use Rattle.vio_tag.specs.Spelling.{SpellsBody, addresses_at, canonical}
-use Rattle.channel_model.specs.EndPuts.{ending, handshake_behind, kind_in, put_kind}
+use Rattle.channel_model.specs.EndPuts.{handshake_behind, kind_in, put_kind}
 use Rattle.channel_model.specs.Seeing.{Seen}
 use Rattle.cookie_copy.specs.Reach.{Reach}
 use Rattle.channel_laws.specs.EndCore.{Begins, EndMove, Fails, Hears, Says as SaysPacket, Stays, Waits, holds}
@@ -31,7 +30,7 @@ use Rattle.port_model.specs.Groups.{membership}
 use Rattle.port_model.specs.NetEndPutting.{announcement, answer, answers, groups_answer, holding, holding_own, net_holds, net_kind, net_opens, net_put, opened_by_put}
 use Rattle.port_model.specs.NetEndRule.{Announces, Fetches, NetRule, Publishes, Puts, Replies, Says, Takes, Tells, port_rule}
 use Rattle.port_model.specs.NetEndState.{Activity, GroupsReply, NetEndState, NetSession, joined_net_end}
-use Rattle.port_model.specs.NetEndStep.{Blocked, Frame, Idle, Joined, NetAnswer, NetEndStep, NetFails, NetLeft, NetSends, Published, Reset, Sent, Took, published, taken}
+use Rattle.port_model.specs.NetEndStep.{Blocked, Frame, Idle, Joined, NetAnswer, NetEndStep, NetFails, NetLeft, NetSends, Published, Reset, Sent, Took, taken}
 use Rattle.port_model.specs.NetEndTaking as take
 use Rattle.port_model.specs.Offers.{port_offer}
 use Rattle.port_model.specs.RuleFacts.{IsFree, IsFreeIn}
@@ -133,16 +132,13 @@ held_core role s at reach _ held fits is same = none_some held same
 empty_of : (xs : List ℕ) → length xs ≡ 0 → is_empty xs ≡ true
 empty_of xs is = grind arith
 
-goes_on : (fits own : Bool) (left : List ℕ) (h : Handshake) → (fits ≡ true → is_empty left ≡ true) → not (is_empty left) ≡ true → handshake_behind (ending fits own) h ≡ h
-goes_on fits own left h ends more = grind (arith, true_false)
-
 ended_empty : (xs : List ℕ) → nat_le (length xs) 56 ≡ true → is_empty (drop 56 xs) ≡ true
 ended_empty xs most =
     let few : length xs ≤ 56 = grind (arith, nat_tests, most) in
     empty_of (drop 56 xs) (omega (arith, few, length-drop 56 xs))
 
 phase_keeps : (ph : LinkPhase) (k : LinkState) (own : Bool) (h : Handshake) → k.phase ≡ ph → holds k ≡ true → holds (behind_put k) ≡ true → handshake_behind (kind_in ph k own) h ≡ h
-phase_keeps ph k own h is held left = grind (arith, goes_on, ended_empty, true_false)
+phase_keeps ph k own h is held left = grind (arith, true_false, ended_empty)
 
 pub link_keeps : (k : LinkState) (own : Bool) (h : Handshake) → holds k ≡ true → holds (behind_put k) ≡ true → handshake_behind (put_kind k own) h ≡ h
 link_keeps k own h held left = phase_keeps k.phase k own h refl held left
@@ -197,9 +193,6 @@ both_true a b is = grind (arith, false_true)
 phase_held : (ph : LinkPhase) (k : LinkState) → k.phase ≡ ph → is_established ph ≡ true → owes k ≡ false → not (is_empty k.to_send) ≡ true → ⊥
 phase_held ph k is up quiet held = grind (arith, some_left, false_true)
 
-not_held : (k : LinkState) → owes k ≡ false → holds k ≡ true → ⊥
-not_held k quiet held = let both = both_true (is_established k.phase) (not (is_empty k.to_send)) held in phase_held k.phase k refl both.0 quiet both.1
-
 may_take : (role : Role) (s : NetEndState) (at : Seen) → IsFree s at → MayTake (net_core role s)
 may_take role s at free = record { owed = free.owed; quiet = λ closed. free.quiet }
 
@@ -226,16 +219,9 @@ message_whole : (role : Role) (s : NetEndState) (bytes : List ℕ) (message : Me
     → TakeGoes role (record s { link = cleared s.link }) message tk → WholeGoes role s (Some bytes) tk
 message_whole role s bytes message tk decodes goes = grind arith
 
-decoded_whole : (role : Role) (s : NetEndState) (memory bytes : List ℕ) (decoded : Result Message TagFault) → NetFits role s → Decodes bytes decoded
-    → WholeGoes role s (Some bytes) (take.reads role (record s { link = cleared s.link }) memory decoded)
-decoded_whole role s memory bytes decoded given decodes = grind (arith, message_whole, message_goes, fits_of)
-
-cleared_same : (k : LinkState) → k.whole ≡ None → k ≡ cleared k
-cleared_same k is = ap (λ (x : Option (List ℕ)). record k { whole = x }) is
-
 whole_goes : (role : Role) (s : NetEndState) (memory : List ℕ) (whole : Option (List ℕ)) (tk : take.NetTake) → NetFits role s → s.link.whole ≡ whole
     → take.HearsWhole role s memory whole tk → WholeGoes role s whole tk
-whole_goes role s memory whole tk given is hears = grind (arith, cleared_same, decoded_whole)
+whole_goes role s memory whole tk given is hears = grind (arith, message_whole, message_goes, fits_of)
 
 -- WHAT COMES OF A PACKET
 pub risen_same : (role : Role) (before behind : LinkState) (h : Handshake) → take.risen role before behind h ≡ risen_at role before behind h
@@ -255,20 +241,16 @@ abbrev LinkGoes : Role → NetEndState → List ℕ → take.NetTake → Type 0
 LinkGoes role s packet (take.GoesOn t opens memory) = PacketGoes role s packet t opens
 LinkGoes role s packet (take.Resets cause) = (link : LinkTake) × TakesBytes s.link packet link × LinkFails role (net_core role s) link cause
 
-heard_goes : (role : Role) (s : NetEndState) (packet : List ℕ) (k : LinkState) (tk : take.NetTake) → TakesBytes s.link packet (Heard k)
-    → WholeGoes role (record s { link = k; handshake = take.risen role s.link k s.handshake }) k.whole tk → LinkGoes role s packet tk
-heard_goes role s packet k tk takes goes = grind (arith, risen_same)
-
 link_goes : (role : Role) (s : NetEndState) (memory packet : List ℕ) (link : LinkTake) (tk : take.NetTake) → NetFits role s → TakesBytes s.link packet link
     → take.HearsLink role s memory link tk → LinkGoes role s packet tk
-link_goes role s memory packet link tk given takes hears = grind (arith, heard_goes, whole_goes)
+link_goes role s memory packet link tk given takes hears = grind (arith, risen_same, whole_goes)
 
 pub packet_goes : (role : Role) (s : NetEndState) (memory packet : List ℕ) (tk : take.NetTake) → NetFits role s → take.NetTakes role s memory packet tk → LinkGoes role s packet tk
 packet_goes role s memory packet tk fits takes = link_goes role s memory packet takes.link tk fits takes.takes takes.hears
 
 hears_core : (role : Role) (s : NetEndState) (at : Seen) (packet : List ℕ) (t : NetEndState) (opens : Bool) → IsFree s at → PacketGoes role s packet t opens
     → EndHears role (net_core role s) packet opens (net_core role t)
-hears_core role s at packet t opens free goes = grind (arith, may_take, not_held, more_most)
+hears_core role s at packet t opens free goes = grind (arith, may_take, both_true, phase_held, more_most)
 
 -- IT RESETS ITSELF
 begins_core : (role : Role) (s : NetEndState) → EndBegins (net_core role s) (net_core role (joined_net_end role s))
@@ -287,9 +269,7 @@ fails_core : (role : Role) (s : NetEndState) (at : Seen) (memory : List ℕ) (re
     → port_rule role s at ≡ rule → NetFails role rule s memory reach cause packet → EndFails role (net_core role s) cause packet
 fails_core role s at memory reach (Takes bytes) cause packet fits is fails =
     packet_fails role s at memory bytes packet cause fits (says_of role s at (Takes bytes) is).0 fails.0 fails.1
-fails_core role s at memory reach (Fetches p activity) cause packet fits is fails =
-    slot_fails role s p packet cause fails.0 (says_of role s at (Fetches p activity) is).0.session
-fails_core role s at memory reach _ cause packet fits is fails = absurd fails
+fails_core role s at memory reach rule cause packet given is fails = grind (arith, slot_fails, says_of)
 
 -- IT STAYS
 pub stays_with : (role : Role) (s t : NetEndState) → t.link ≡ s.link → t.handshake ≡ s.handshake → t.address ≡ s.address → t.slots ≡ s.slots → is_some t.session ≡ is_some s.session
@@ -337,9 +317,7 @@ step_core role s at memory reach (Sent packet opens) t fits step = sent_core rol
 step_core role s at memory reach Blocked t fits step = waits_core role s t.end (held_core role s at reach (port_rule role s at) t.end fits refl step.0)
 step_core role s at memory reach Idle t fits step = subst (LeftMoves role s Stays) (sym step.1) (stays_with role s s refl refl refl refl refl (omega arith))
 step_core role s at memory reach (Published id) t fits step =
-    let says = says_of role s at (Publishes step.session step.frame) step.rule in
-    subst (LeftMoves role s Stays) (sym step.is)
-    (session_stays role s step.session (published step.session) s.last says.0.in_session.session (omega arith))
+    grind (arith, says_of role s at (Publishes step.session step.frame) step.rule, session_stays)
 step_core role s at memory reach (Frame frame) t fits step =
     let says = says_of role s at (Fetches step.session step.activity) step.rule in
     subst (LeftMoves role s Stays) (sym step.is) (fetched_stays role s step.session step.activity frame says.0.session says.1)

@@ -7,7 +7,7 @@ use Rattle.ldc_link.specs.declared.phase.Role.TheVariants.{Initiator, Responder}
 use Rattle.ldc_link.specs.LinkState.{is_up}
 use Rattle.ldc_queue.specs.declared.end.End.TheVariants.{A, B}
 use Rattle.ldc_queue.specs.OneStream.{IsFront}
-use Rattle.ldc_queue.specs.Transcript.{Heard, Said, Turn}
+use Rattle.ldc_queue.specs.Transcript.{Heard, Said, Utterance}
 use Rattle.channel_model.specs.Sayings.{heard, said}
 use Rattle.channel_model.specs.WireAt.{IsUp}
 use Rattle.channel_laws.specs.Sides.{sides_of, swapped}
@@ -17,7 +17,7 @@ use Rattle.port_model.proofs.Ruling.{says_of}
 use Rattle.port_model.specs.NetEndPutting.{net_holds, opened_by_put}
 use Rattle.port_model.specs.NetEndRule.{Fetches, Publishes, port_rule}
 use Rattle.port_model.specs.NetEndState.{NetEndState, NetSession, first_id, opened_session}
-use Rattle.port_model.specs.NetEndStep.{Blocked, Frame, Idle, NetAnswer, NetLeft, Published, Sent, Took, published, taken}
+use Rattle.port_model.specs.NetEndStep.{Blocked, Frame, NetAnswer, NetLeft, Published, Sent, Took, published, taken}
 use Rattle.port_model.specs.NetEndTaking.{GoesOn, NetTakes, Resets}
 use Rattle.port_model.specs.NetEvent.{Steps}
 use Rattle.port_model.specs.NetLaneState.{NetLaneState, NetShape, seen_at, reach_of}
@@ -27,25 +27,26 @@ use Rattle.port_laws.specs.Counted.{unsaid}
 use Rattle.port_laws.specs.NetCore.{lane_core, net_core}
 use Rattle.port_laws.proofs.EndCounting.{empty_unsaid, shut_counts}
 use Rattle.port_laws.proofs.FormsOwn.{MayForm, PutsIt, formed_by, opens_unsaid, sends_own}
-use Rattle.port_laws.proofs.HearsIn.{AllAgreed, Hears, OwnRead, hears_in, mine_agreed, theirs_agreed}
+use Rattle.port_laws.proofs.HearsIn.{AllAgreed, OwnRead, hears_in, mine_agreed, theirs_agreed}
 use Rattle.port_laws.proofs.MessageDoes.{Does, TakeDoes, message_does}
 use Rattle.port_laws.proofs.Outbox.{listed, low_fits, low_none, low_tells, outbox, unheard}
 use Rattle.port_laws.proofs.PortTwoEnds.{PortTwoEnds, answers_of, asks_of}
 use Rattle.port_laws.proofs.PutCounts.{not_some, own_session, owing_left, put_end}
 use Rattle.port_laws.proofs.RingActs.{Acts, acting_at, acts_up_at, open_both, turned_at}
-use Rattle.port_laws.proofs.RingEvents.{Goes, turns_at, turns_now}
+use Rattle.port_laws.proofs.RingEvents.{Goes, turns_at, utterances_now}
 use Rattle.port_laws.proofs.SessionsHeard.{grown_most, said_grown}
 use Rattle.port_laws.proofs.StepCounts.{Acting}
 use Rattle.port_laws.proofs.TakesIn.{GuestNotes, InSession, guest_notes, in_own_session, next_read}
 use Rattle.port_laws.proofs.GroupsExchanged.{ExchangeIn, guest_hears, same_exchange}
 use Rattle.port_laws.proofs.ExchangeSteps.{GuestForms, guest_forms, outbox_heard, outbox_put}
+use Rattle.port_laws.proofs.PortRuns.{by_option}
 use Rattle.port_laws.proofs.TookCounts.{free_empty, session_open, session_up}
 use Rattle.port_laws.proofs.WayMoves.{EachLow, Plain}
 use Rattle.port_laws.proofs.WayPlain.{closed_plain, open_said}
 use Rattle.port_laws.proofs.WayRuns.{guest_goes, hub_none, opening_sent, peer_was_up}
 
 -- BOTH ENDS, and what they said and heard
-abbrev pub Between : NetEndState → NetEndState → List Turn → List Turn → NetSession → Type 0
+abbrev pub Between : NetEndState → NetEndState → List Utterance → List Utterance → NetSession → Type 0
 Between guest hub client server p =
     ExchangeIn guest.handshake.draft.sid guest.groups p (outbox guest client server) (outbox hub server client) hub.session hub.groups
 
@@ -60,7 +61,7 @@ guest_as s t q asks now answers session known groups handshake same exchange = g
 same_left : (s t : NetEndState) → t.handshake ≡ s.handshake → t.link.to_send ≡ s.link.to_send → unsaid t ≡ unsaid s
 same_left s t handshake sends = grind arith
 
-pub same_outbox : (s t : NetEndState) (mine theirs : List Turn) → t.handshake ≡ s.handshake → t.link.to_send ≡ s.link.to_send → outbox t mine theirs ≡ outbox s mine theirs
+pub same_outbox : (s t : NetEndState) (mine theirs : List Utterance) → t.handshake ≡ s.handshake → t.link.to_send ≡ s.link.to_send → outbox t mine theirs ≡ outbox s mine theirs
 same_outbox s t mine theirs handshake sends = ap (λ (o : Option (List ℕ)). unheard (said mine) (heard theirs) ++ listed o) (same_left s t handshake sends)
 
 -- THE SESSION'S NUMBER, where nobody forged
@@ -70,12 +71,7 @@ pub record GuestSid (u : NetLaneState) : Type 0 where
 
 pub guest_sid : (shape : NetShape) (u : NetLaneState) (l : PortLog) → PortTwoEnds shape (lane_core u) l → IsUp A u.wire.wire → is_some u.guest.session ≡ true → GuestSid u
 guest_sid shape u l two_ends up opened =
-    let one = two_ends.two_ends A in
-    let agreed = mine_agreed (asks_of shape) (answers_of shape) Initiator (sides_of (lane_core u) l.transcript) one up opened in
-    record {
-      agreed = subst (AllAgreed u.guest.handshake) (sym agreed.draft) agreed;
-      small = subst (λ (n : ℕ). n < 2 ^ 32) (sym agreed.draft) one.meets.handshakes.small;
-    }
+    let one = two_ends.two_ends A in grind arith
 
 pub hub_agreed : (shape : NetShape) (u : NetLaneState) (l : PortLog) → PortTwoEnds shape (lane_core u) l → IsUp A u.wire.wire → is_some u.guest.session ≡ true → IsUp B u.wire.wire → is_some u.hub.session ≡ true
     → AllAgreed u.hub.handshake u.guest.handshake.draft.sid
@@ -90,23 +86,15 @@ low_drop zero messages low = low
 low_drop (suc n) [] low = tt
 low_drop (suc n) (m ∷ messages) low = low_drop n messages low.1
 
-pub low_outbox : (s : NetEndState) (mine theirs : List Turn) → EachLow (said mine) → unsaid s ≡ None → EachLow (outbox s mine theirs)
+pub low_outbox : (s : NetEndState) (mine theirs : List Utterance) → EachLow (said mine) → unsaid s ≡ None → EachLow (outbox s mine theirs)
 low_outbox s mine theirs low none = grind (arith, append-nil, low_drop)
 
-pub shut_unsaid : (role : Role) (s : NetEndState) (turns : List Turn) → EndStands role (net_core role s) turns → s.session ≡ None → unsaid s ≡ None
-shut_unsaid role s turns stands none = by_up (is_up s.link) refl
-  where
-    by_send : (b : Bool) → is_none s.handshake.owed ≡ b → is_up s.link ≡ true → (bytes : List ℕ) → s.link.to_send ≡ bytes → unsaid s ≡ None
-    by_send b own up [] is = empty_unsaid s is
-    by_send false own up (byte ∷ bytes) is = owing_left (is_none s.handshake.owed) s.link.to_send own
-    by_send true own up (byte ∷ bytes) is =
-        let some : 1 ≤ length s.link.to_send = omega (arith, ap length is) in
-        let there = own_session role s turns stands own up some in
-        none_some there.0 (sym none ∙ there.1)
-
-    by_up : (b : Bool) → is_up s.link ≡ b → unsaid s ≡ None
-    by_up false down = empty_unsaid s (stands.below down).left
-    by_up true up = by_send (is_none s.handshake.owed) refl up s.link.to_send refl
+pub shut_unsaid : (role : Role) (s : NetEndState) (turns : List Utterance) → EndStands role (net_core role s) turns → s.session ≡ None → unsaid s ≡ None
+shut_unsaid role s turns stands none =
+    let by_send : (b : Bool) → is_none s.handshake.owed ≡ b → is_up s.link ≡ true → (bytes : List ℕ) → s.link.to_send ≡ bytes → unsaid s ≡ None = λ b own up bytes is.
+    grind (arith, empty_unsaid, owing_left, own_session, none_some) in
+    let by_up : (b : Bool) → is_up s.link ≡ b → unsaid s ≡ None = λ b down. grind (arith, by_send, empty_unsaid) in
+    by_up (is_up s.link) refl
 
 -- WHAT NO SESSION SAID YET
 low_exchange : (sid : ℕ) (groups : List (List ℕ)) (q : NetSession) (asks answers : List (List ℕ)) (session : Option NetSession) (known : List (List ℕ)) → EachLow asks → EachLow answers → session ≡ None
@@ -126,16 +114,13 @@ module _ (shape : NetShape) (u t : PortState) (l : PortLog) (left : NetLeft) (p 
   abbrev s : NetEndState
   s = u.lane.guest
 
-  abbrev Now : List Turn → Type 0
+  abbrev Now : List Utterance → Type 0
   Now turns = Between left.end u.lane.hub turns l.transcript.server q
-
-  some_same : {X : Type 0} (o : Option X) (x y : X) → o ≡ Some x → o ≡ Some y → x ≡ y
-  some_same {X} o x y one two = let both : Some x ≡ Some y = sym one ∙ two in cc both
 
   -- with the same link, handshake and groups
   quiet_now : (now_is : NetSession) → left.end.session ≡ Some now_is → left.end.groups ≡ s.groups → left.end.handshake ≡ s.handshake → left.end.link.to_send ≡ s.link.to_send → now_is.telling ≡ p.telling
       → now_is.reply ≡ p.reply → now_is.untold ≡ p.untold → Now l.transcript.client
-  quiet_now now_is is groups handshake sends telling reply untold = grind (arith, some_same, guest_as, same_outbox, same_exchange)
+  quiet_now now_is is groups handshake sends telling reply untold = grind (arith, one_session, guest_as, same_outbox, same_exchange)
 
   may_form : GuestSid u.lane → (acting : Acting Initiator shape.slots [] s l.guest l.transcript.client) → MayForm Initiator s.handshake.draft.sid s p
   may_form sid acting = record { session = session; agreed = sid.agreed; small = sid.small; empty = λ quiet. free_empty Initiator s l.transcript.client acting.ends quiet }
@@ -151,79 +136,58 @@ module _ (shape : NetShape) (u t : PortState) (l : PortLog) (left : NetLeft) (p 
   took_now : (packet : List ℕ) (opens : Bool) → Acting Initiator shape.slots [] s l.guest l.transcript.client → PortTwoEnds shape (lane_core u.lane) l → IsUp A u.lane.wire.wire
       → IsFront (heard (Heard packet ∷ l.transcript.client)) (said l.transcript.server) → NetTakes Initiator s u.lane.guest_memory packet (GoesOn left.end opens left.own) → Now (Heard packet ∷ l.transcript.client)
   took_now packet opens acting two_ends up front takes =
-      by_hears (hears_in Initiator s l.transcript.client u.lane.guest_memory packet (GoesOn left.end opens left.own) acting.ends (session_up Initiator s l.transcript.client p acting.ends session) takes)
-    where
-      opened : is_some s.session ≡ true
-      opened = ap is_some session
-
-      by_hears : Hears Initiator s u.lane.guest_memory l.transcript.client packet (GoesOn left.end opens left.own) → Now (Heard packet ∷ l.transcript.client)
-      by_hears (inl none) =
-          let took : GoesOn left.end opens left.own ≡ GoesOn (record s { link = none.link }) false u.lane.guest_memory = none.is in
-          let same : left.end ≡ record s { link = none.link } = cc took in
-          let here : Now l.transcript.client =
-          quiet_now p (ap (λ (x : NetEndState). x.session) same ∙ session) (ap (λ (x : NetEndState). x.groups) same) (ap (λ (x : NetEndState). x.handshake) same)
-          (ap (λ (x : NetEndState). x.link.to_send) same ∙ none.sends) refl refl refl in
-          subst (λ (xs : List (List ℕ)). ExchangeIn left.end.handshake.draft.sid left.end.groups q (outbox left.end l.transcript.client l.transcript.server)
-          (unheard (said l.transcript.server) xs ++ listed (unsaid u.lane.hub)) u.lane.hub.session u.lane.hub.groups) (sym none.messages) here
-      by_hears (inr (inl one)) =
-          let sides = sides_of (lane_core u.lane) l.transcript in
-          let exchange = two_ends.two_ends A in
-          let grown : IsFront (heard l.transcript.client ++ one.bytes ∷ []) (said l.transcript.server) = subst (λ (xs : List (List ℕ)). IsFront xs (said l.transcript.server)) one.messages front in
-          let first = outbox_heard u.lane.hub l.transcript.server l.transcript.client packet one.bytes one.messages grown in
-          let before : ExchangeIn s.handshake.draft.sid s.groups p (outbox s l.transcript.client l.transcript.server) (one.bytes ∷ outbox u.lane.hub l.transcript.server (Heard packet ∷ l.transcript.client))
-          u.lane.hub.session u.lane.hub.groups =
-          subst (λ (xs : List (List ℕ)). ExchangeIn s.handshake.draft.sid s.groups p (outbox s l.transcript.client l.transcript.server) xs u.lane.hub.session u.lane.hub.groups) first was in
-          let own : OwnRead one.bytes exchange.meets.handshakes.sid =
-          next_read (asks_of shape) (answers_of shape) Initiator Responder sides one.bytes s.handshake.draft.sid exchange up opened other_up grown before.answers_fit.0 in
-          let agreed = mine_agreed (asks_of shape) (answers_of shape) Initiator sides exchange up opened in
-          let in_it : InSession Initiator (record s { link = one.link }) p u.lane.guest_memory own.message (GoesOn left.end opens left.own) =
-          in_own_session Initiator s p u.lane.guest_memory packet l.transcript.client (GoesOn left.end opens left.own) exchange.meets.handshakes.sid one session agreed.knows own in
-          let does : Does Initiator (record s { link = one.link }) p u.lane.guest_memory own.message.subtype own.message.body left.end opens left.own =
-          subst (TakeDoes Initiator (record s { link = one.link }) p u.lane.guest_memory own.message.subtype own.message.body) (sym in_it.hears)
-          (message_does Initiator (record s { link = one.link }) p u.lane.guest_memory own.message (session_open Initiator s l.transcript.client p acting.ends session)) in
-          let noted = guest_notes (record s { link = one.link }) left.end p u.lane.guest_memory left.own one.bytes own.message own.of own.spells does.does in
-          let notes : GuestNotes (record s { link = one.link }) left.end p noted.0 one.bytes = noted.1 in
-          let same : noted.0 ≡ q = some_same left.end.session noted.0 q notes.session now in
-          guest_as s left.end q (outbox s l.transcript.client l.transcript.server) (outbox left.end (Heard packet ∷ l.transcript.client) l.transcript.server)
-          (outbox u.lane.hub l.transcript.server (Heard packet ∷ l.transcript.client)) u.lane.hub.session u.lane.hub.groups notes.groups notes.handshake
-          (same_outbox s left.end l.transcript.client l.transcript.server notes.handshake (notes.sends ∙ one.sends))
-          (subst (λ (x : NetSession). ExchangeIn s.handshake.draft.sid s.groups x (outbox s l.transcript.client l.transcript.server)
-          (outbox u.lane.hub l.transcript.server (Heard packet ∷ l.transcript.client)) u.lane.hub.session u.lane.hub.groups) same
-          (guest_hears s.handshake.draft.sid s.groups p noted.0 (outbox s l.transcript.client l.transcript.server) (outbox u.lane.hub l.transcript.server (Heard packet ∷ l.transcript.client))
-          u.lane.hub.session u.lane.hub.groups one.bytes notes.told notes.same notes.reply notes.untold before))
-      by_hears (inr (inr refused)) = let never : GoesOn left.end opens left.own ≡ Resets refused.cause = refused.is in absurd (cc never)
+      let opened : is_some s.session ≡ true = ap is_some session in
+      elim (hears_in Initiator s l.transcript.client u.lane.guest_memory packet (GoesOn left.end opens left.own) acting.ends (session_up Initiator s l.transcript.client p acting.ends session) takes) [
+        | inl none ↦ grind (arith, none.is)
+        | inr (inl one) ↦
+            let sides = sides_of (lane_core u.lane) l.transcript in
+            let exchange = two_ends.two_ends A in
+            let grown : IsFront (heard l.transcript.client ++ one.bytes ∷ []) (said l.transcript.server) = subst (λ (xs : List (List ℕ)). IsFront xs (said l.transcript.server)) one.messages front in
+            let first = outbox_heard u.lane.hub l.transcript.server l.transcript.client packet one.bytes one.messages grown in
+            let before : ExchangeIn s.handshake.draft.sid s.groups p (outbox s l.transcript.client l.transcript.server) (one.bytes ∷ outbox u.lane.hub l.transcript.server (Heard packet ∷ l.transcript.client))
+            u.lane.hub.session u.lane.hub.groups = rw first at was in
+            let own : OwnRead one.bytes exchange.meets.handshakes.sid =
+            next_read (asks_of shape) (answers_of shape) Initiator Responder sides one.bytes s.handshake.draft.sid exchange up opened other_up grown before.answers_fit.0 in
+            let agreed = mine_agreed (asks_of shape) (answers_of shape) Initiator sides exchange up opened in
+            let in_it : InSession Initiator (record s { link = one.link }) p u.lane.guest_memory own.message (GoesOn left.end opens left.own) =
+            in_own_session Initiator s p u.lane.guest_memory packet l.transcript.client (GoesOn left.end opens left.own) exchange.meets.handshakes.sid one session agreed.knows own in
+            let does : Does Initiator (record s { link = one.link }) p u.lane.guest_memory own.message.subtype own.message.body left.end opens left.own =
+            subst (TakeDoes Initiator (record s { link = one.link }) p u.lane.guest_memory own.message.subtype own.message.body) (sym in_it.hears)
+            (message_does Initiator (record s { link = one.link }) p u.lane.guest_memory own.message (session_open Initiator s l.transcript.client p acting.ends session)) in
+            let noted = guest_notes (record s { link = one.link }) left.end p u.lane.guest_memory left.own one.bytes own.message own.of own.spells does.does in
+            let notes : GuestNotes (record s { link = one.link }) left.end p noted.0 one.bytes = noted.1 in
+            let same : noted.0 ≡ q = one_session left.end.session noted.0 q notes.session now in
+            guest_as s left.end q (outbox s l.transcript.client l.transcript.server) (outbox left.end (Heard packet ∷ l.transcript.client) l.transcript.server)
+            (outbox u.lane.hub l.transcript.server (Heard packet ∷ l.transcript.client)) u.lane.hub.session u.lane.hub.groups notes.groups notes.handshake
+            (same_outbox s left.end l.transcript.client l.transcript.server notes.handshake (notes.sends ∙ one.sends))
+            (subst (λ (x : NetSession). ExchangeIn s.handshake.draft.sid s.groups x (outbox s l.transcript.client l.transcript.server)
+            (outbox u.lane.hub l.transcript.server (Heard packet ∷ l.transcript.client)) u.lane.hub.session u.lane.hub.groups) same
+            (guest_hears s.handshake.draft.sid s.groups p noted.0 (outbox s l.transcript.client l.transcript.server) (outbox u.lane.hub l.transcript.server (Heard packet ∷ l.transcript.client))
+            u.lane.hub.session u.lane.hub.groups one.bytes notes.told notes.same notes.reply notes.untold before))
+        | inr (inr refused) ↦ let never : GoesOn left.end opens left.own ≡ Resets refused.cause = refused.is in absurd (cc never)
+      ]
 
 -- EACH ANSWER in session
 guest_in : (shape : NetShape) (u t : PortState) (l : PortLog) (answer : NetAnswer) (left : NetLeft) (p q : NetSession) → Acts shape A u t l answer left → Goes answer → u.lane.guest.session ≡ Some p
-    → left.end.session ≡ Some q → IsUp A u.lane.wire.wire → IsUp B u.lane.wire.wire → IsFront (heard (turns_now answer l.transcript.client)) (said l.transcript.server)
-    → Between u.lane.guest u.lane.hub l.transcript.client l.transcript.server p → Between left.end u.lane.hub (turns_now answer l.transcript.client) l.transcript.server q
-guest_in shape u t l Idle left p q acts goes session now up other front was =
-    let same : left.end ≡ u.lane.guest = ap (λ (x : NetLeft). x.end) acts.step.1 in
-    quiet_now shape u t l left p q session now other was p (ap (λ (x : NetEndState). x.session) same ∙ session) (ap (λ (x : NetEndState). x.groups) same) (ap (λ (x : NetEndState). x.handshake) same)
-    (ap (λ (x : NetEndState). x.link.to_send) same) refl refl refl
+    → left.end.session ≡ Some q → IsUp A u.lane.wire.wire → IsUp B u.lane.wire.wire → IsFront (heard (utterances_now answer l.transcript.client)) (said l.transcript.server)
+    → Between u.lane.guest u.lane.hub l.transcript.client l.transcript.server p → Between left.end u.lane.hub (utterances_now answer l.transcript.client) l.transcript.server q
 guest_in shape u t l (Published id) left p q acts goes session now up other front was =
     let step = acts.step in
     let says = says_of Initiator u.lane.guest (seen_at A u.lane) (Publishes step.session step.frame) step.rule in
     let same : left.end ≡ record u.lane.guest { session = Some (published step.session) } = ap (λ (x : NetLeft). x.end) step.is in
     let here : step.session ≡ p = one_session u.lane.guest.session step.session p says.0.in_session.session session in
-    quiet_now shape u t l left p q session now other was (published step.session) (ap (λ (x : NetEndState). x.session) same) (ap (λ (x : NetEndState). x.groups) same)
-    (ap (λ (x : NetEndState). x.handshake) same) (ap (λ (x : NetEndState). x.link.to_send) same) (ap (λ (x : NetSession). x.telling) here) (ap (λ (x : NetSession). x.reply) here) (ap (λ (x : NetSession). x.untold) here)
+    grind (arith, quiet_now)
 guest_in shape u t l (Frame frame) left p q acts goes session now up other front was =
     let step = acts.step in
     let says = says_of Initiator u.lane.guest (seen_at A u.lane) (Fetches step.session step.activity) step.rule in
     let same : left.end ≡ record u.lane.guest { session = Some (taken u.lane.guest step.session step.activity); last = frame } = ap (λ (x : NetLeft). x.end) step.is in
     let here : step.session ≡ p = one_session u.lane.guest.session step.session p says.0.session session in
-    quiet_now shape u t l left p q session now other was (taken u.lane.guest step.session step.activity) (ap (λ (x : NetEndState). x.session) same) (ap (λ (x : NetEndState). x.groups) same)
-    (ap (λ (x : NetEndState). x.handshake) same) (ap (λ (x : NetEndState). x.link.to_send) same) (ap (λ (x : NetSession). x.telling) here) (ap (λ (x : NetSession). x.reply) here) (ap (λ (x : NetSession). x.untold) here)
+    grind (arith, quiet_now)
 guest_in shape u t l Blocked left p q acts goes session now up other front was =
     let acting = acting_at shape A u l acts.finds up in
     let sid = guest_sid shape u.lane l acts.finds.two_ends up (ap is_some session) in
     let forms = forms_now shape u t l left p q session now other was left.end acting sid acts.step.0 in
-    let same : forms.q ≡ q = one_session left.end.session forms.q q forms.session_is now in
-    guest_as u.lane.guest left.end q (outbox left.end l.transcript.client l.transcript.server) (outbox left.end l.transcript.client l.transcript.server)
-    (outbox u.lane.hub l.transcript.server l.transcript.client) u.lane.hub.session u.lane.hub.groups forms.groups forms.handshake refl
-    (subst (λ (x : NetSession). ExchangeIn u.lane.guest.handshake.draft.sid u.lane.guest.groups x (outbox left.end l.transcript.client l.transcript.server)
-    (outbox u.lane.hub l.transcript.server l.transcript.client) u.lane.hub.session u.lane.hub.groups) same forms.exchange)
+    let same : forms.q ≡ q = one_session left.end.session forms.q q forms.session_is now in grind (arith, guest_as)
 guest_in shape u t l (Sent packet opens) left p q acts goes session now up other front was =
     let step = acts.step in
     let acting = acting_at shape A u l acts.finds up in
@@ -239,14 +203,13 @@ guest_in shape u t l (Sent packet opens) left p q acts goes session now up other
     (outbox u.lane.hub l.transcript.server l.transcript.client) u.lane.hub.session u.lane.hub.groups) same forms.exchange)
 guest_in shape u t l (Took packet opens) left p q acts goes session now up other front was =
     took_now shape u t l left p q session now other was packet opens (acting_at shape A u l acts.finds up) acts.finds.two_ends up front acts.step.1
-guest_in shape u t l _ left p q acts goes session now up other front was = absurd goes
+guest_in shape u t l answer left p q acts goes session now up other front was = grind (arith, quiet_now)
 
 -- IT OPENS
 guest_opens : (shape : NetShape) (u t : PortState) (l : PortLog) (packet : List ℕ) (left : NetLeft) (q : NetSession) → Acts shape A u t l (Sent packet true) left → IsUp A t.lane.wire.wire → IsUp B t.lane.wire.wire
     → l.guest.session ≡ None → u.lane.hub.groups ≡ [] → left.end.session ≡ Some q → Between left.end u.lane.hub (Said packet ∷ l.transcript.client) l.transcript.server q
 guest_opens shape u t l packet left q acts up other none nothing now =
-    let turned = turned_at shape A u t l (Sent packet true) left acts tt in
-    let few = turned.few none in
+    let few = (turned_at shape A u t l (Sent packet true) left acts tt).few none in
     let then_ = after l (OnLane (Steps A (Sent packet true))) in
     let up_before = acts_up_at shape A u t l (Sent packet true) left acts tt in
     let other_before = peer_was_up shape A u t l (Sent packet true) left acts tt other in
@@ -274,49 +237,25 @@ guest_opens shape u t l packet left q acts up other none nothing now =
 -- A STEP
 pub guest_exchange : (shape : NetShape) (u t : PortState) (l : PortLog) (answer : NetAnswer) (left : NetLeft) → Acts shape A u t l answer left
     → ExchangeStands u.lane l → ExchangeStands t.lane (after l (OnLane (Steps A answer)))
-guest_exchange shape u t l answer left acts exchange q up other some = as_now (by_session u.lane.guest.session refl)
-  where
-    then_ : PortLog
-    then_ = after l (OnLane (Steps A answer))
-
-    now : left.end.session ≡ Some q
-    now = ap (λ (x : NetEndState). x.session) (sym acts.now.end) ∙ some
-
-    as_now : Between left.end u.lane.hub (turns_now answer l.transcript.client) l.transcript.server q → Between t.lane.guest t.lane.hub then_.transcript.client then_.transcript.server q
-    as_now one =
-        let turns = turns_at A l.transcript answer in
-        subst (λ (xs : List Turn). Between t.lane.guest t.lane.hub xs then_.transcript.server q) (sym turns.mine)
-        (subst (λ (xs : List Turn). Between t.lane.guest t.lane.hub (turns_now answer l.transcript.client) xs q) (sym turns.theirs)
-        (subst (λ (x : NetEndState). Between t.lane.guest x (turns_now answer l.transcript.client) l.transcript.server q) (sym acts.now.peer_end)
-        (subst (λ (x : NetEndState). Between x u.lane.hub (turns_now answer l.transcript.client) l.transcript.server q) (sym acts.now.end) one)))
-
-    front : IsFront (heard (turns_now answer l.transcript.client)) (said l.transcript.server)
-    front =
-        let turns = turns_at A l.transcript answer in
-        subst (λ (xs : List Turn). IsFront (heard xs) (said l.transcript.server)) turns.mine (subst (λ (xs : List Turn). IsFront (heard then_.transcript.client) (said xs)) turns.theirs (acts.two_ends.front_a up))
-
-    in_log : then_.guest.session ≢ None
-    in_log =
-        let both = open_both Initiator shape.slots [] t.lane.guest then_.guest acts.counts.guest in λ gone. true_false (sym (ap is_some some) ∙ both.shut gone)
-
-    goes : Goes answer
-    goes = guest_goes l.shape.slots l.transcript.client answer l.guest in_log
-
-    up_before : IsUp A u.lane.wire.wire
-    up_before = acts_up_at shape A u t l answer left acts goes
-
-    other_before : IsUp B u.lane.wire.wire
-    other_before = peer_was_up shape A u t l answer left acts goes other
-
-    by_session : (session : Option NetSession) → u.lane.guest.session ≡ session → Between left.end u.lane.hub (turns_now answer l.transcript.client) l.transcript.server q
-    by_session (Some p) is = guest_in shape u t l answer left p q acts goes is now up_before other_before front (exchange p up_before other_before is)
-    by_session None is =
-        let before = open_both Initiator shape.slots [] u.lane.guest l.guest acts.finds.ready.guest in
-        let none : l.guest.session ≡ None = before.none is in
-        let turned = turned_at shape A u t l answer left acts goes in
-        let opening = opening_sent l.shape.slots l.transcript.client answer l.guest none in_log (turned.few none) (turned.many in_log) in
-        let same : answer ≡ Sent opening.0 true = opening.1 in
-        let hub = open_both Responder shape.slots u.queue u.lane.hub l.hub acts.finds.ready.hub in
-        let hub_shut : u.lane.hub.session ≡ None = not_some u.lane.hub.session (hub.shut (hub_none shape u l acts.finds other_before none)) in
-        subst (λ (given : NetAnswer). Between left.end u.lane.hub (turns_now given l.transcript.client) l.transcript.server q) (sym same)
-        (guest_opens shape u t l opening.0 left q (subst (λ (given : NetAnswer). Acts shape A u t l given left) same acts) up other none (shut_counts Responder shape.slots u.queue u.lane.hub l.hub acts.finds.ready.hub hub_shut).none now)
+guest_exchange shape u t l answer left acts exchange q up other some =
+    let then_ : PortLog = after l (OnLane (Steps A answer)) in
+    let now : left.end.session ≡ Some q = ap (λ (x : NetEndState). x.session) (sym acts.now.end) ∙ some in
+    let as_now : Between left.end u.lane.hub (utterances_now answer l.transcript.client) l.transcript.server q → Between t.lane.guest t.lane.hub then_.transcript.client then_.transcript.server q = λ one.
+    grind (arith, turns_at) in
+    let front : IsFront (heard (utterances_now answer l.transcript.client)) (said l.transcript.server) =
+    let turns = turns_at A l.transcript answer in rw turns.mine at (rw turns.theirs at (acts.two_ends.front_a up)) in
+    let in_log : then_.guest.session ≢ None = grind (arith, open_both, true_false) in
+    let goes : Goes answer = guest_goes l.shape.slots l.transcript.client answer l.guest in_log in
+    let up_before : IsUp A u.lane.wire.wire = acts_up_at shape A u t l answer left acts goes in
+    let other_before : IsUp B u.lane.wire.wire = peer_was_up shape A u t l answer left acts goes other in
+    as_now (by_option u.lane.guest.session
+    (λ p is. guest_in shape u t l answer left p q acts goes is now up_before other_before front
+    (exchange p up_before other_before is))
+    (λ is.
+    let before = open_both Initiator shape.slots [] u.lane.guest l.guest acts.finds.ready.guest in
+    let none : l.guest.session ≡ None = before.none is in
+    let turned = turned_at shape A u t l answer left acts goes in
+    let opening = opening_sent l.shape.slots l.transcript.client answer l.guest none in_log (turned.few none) (turned.many in_log) in
+    let hub = open_both Responder shape.slots u.queue u.lane.hub l.hub acts.finds.ready.hub in
+    let hub_shut : u.lane.hub.session ≡ None = not_some u.lane.hub.session (hub.shut (hub_none shape u l acts.finds other_before none)) in
+    grind (arith, now, guest_opens, shut_counts)))

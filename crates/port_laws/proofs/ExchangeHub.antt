@@ -1,17 +1,16 @@
 -- A step of the switch's end keeps what is known of all that is on the way between it and a guest in session.
 use Rattle.std.proofs.Common.{◌≡◌, ◌≢◌, ℕ, ◌<◌, ◌⊎◌, Bool, true, false, Option, Some, None, List, [], ◌∷◌, ◌++◌, inl, inr, refl, sym, subst, ap, ◌∙◌, arith}
-use Rattle.std.specs.Prelude.{is_some, Result, Ok, Err, ⊤}
+use Rattle.std.specs.Prelude.{is_some, Result, ⊤}
 use Rattle.std.proofs.lemmas.Bool.{eqb-true}
 use Rattle.cookie_copy.specs.Reach.{Reach}
 use Rattle.ldc_link.specs.declared.phase.Role.TheVariants.{Initiator, Responder}
-use Rattle.ldc_link.specs.LinkState.{cleared}
 use Rattle.ldc_link.specs.Taking.{Heard as HeardBy, LinkTake, TakesBytes, Unheard}
 use Rattle.ldc_queue.specs.declared.end.ChannelState.{ChannelState}
 use Rattle.ldc_queue.specs.declared.end.ChannelState.TheVariants.{Up}
 use Rattle.ldc_queue.specs.declared.end.End.TheVariants.{A, B}
 use Rattle.ldc_queue.specs.OneStream.{IsFront}
-use Rattle.ldc_queue.specs.Transcript.{Heard, Said, Turn}
-use Rattle.vio_handshake.specs.Rules.{Faults, Goes as GoesTake, GoesOpen, HandshakeTake, handshake_take}
+use Rattle.ldc_queue.specs.Transcript.{Heard, Utterance}
+use Rattle.vio_handshake.specs.Rules.{HandshakeTake}
 use Rattle.vio_tag.specs.declared.message.Message.{Message}
 use Rattle.vio_tag.specs.declared.message.TagFault.{TagFault}
 use Rattle.vio_tag.specs.Spelling.{envelope_at}
@@ -27,9 +26,9 @@ use Rattle.port_model.proofs.Refuting.{none_some, true_false}
 use Rattle.port_model.proofs.Ruling.{says_of}
 use Rattle.port_model.specs.NetEndPutting.{holding, net_holds}
 use Rattle.port_model.specs.NetEndRule.{Announces, Fetches, NetRule, Publishes, Puts, Replies, Says, Takes, Tells, port_rule}
-use Rattle.port_model.specs.NetEndState.{NetEndState, NetSession, opened_net_end}
+use Rattle.port_model.specs.NetEndState.{NetEndState, NetSession}
 use Rattle.port_model.specs.NetEndStep.{Blocked, Frame, Idle, Joined, NetAnswer, NetEndStep, NetLeft, Published, Reset, Sent, Took, published, taken}
-use Rattle.port_model.specs.NetEndTaking.{GoesOn, HearsLink, HearsWhole, NetTakes, Resets, by_handshake, hears_message, reads, risen}
+use Rattle.port_model.specs.NetEndTaking.{GoesOn, HearsLink, HearsWhole, NetTakes, Resets, by_handshake, reads, risen}
 use Rattle.port_model.specs.NetEvent.{Steps}
 use Rattle.port_model.specs.NetLaneState.{NetShape, reach_of, seen_at}
 use Rattle.port_model.specs.PortLog.{PortLog, after}
@@ -46,7 +45,7 @@ use Rattle.port_laws.proofs.MessageDoes.{Does, TakeDoes, message_does}
 use Rattle.port_laws.proofs.Outbox.{is_groups, listed, low_fits, low_none, outbox, unheard}
 use Rattle.port_laws.proofs.PortTwoEnds.{PortTwoEnds, answers_of, asks_of}
 use Rattle.port_laws.proofs.RingActs.{Acts, acting_at, acts_up_at, open_both}
-use Rattle.port_laws.proofs.RingEvents.{Goes, theirs_now, turns_at, turns_now, wire_now}
+use Rattle.port_laws.proofs.RingEvents.{Goes, theirs_now, turns_at, utterances_now, wire_now}
 use Rattle.port_laws.proofs.SessionsHeard.{Grown, heard_grown}
 use Rattle.port_laws.proofs.StepCounts.{Acting}
 use Rattle.port_laws.proofs.TakesIn.{HubLearns, HubNotes, InSession, hub_notes, in_own_session, next_read}
@@ -68,7 +67,7 @@ module _ (shape : NetShape) (u t : PortState) (l : PortLog) (left : NetLeft) (p 
   abbrev sid : ℕ
   sid = u.lane.guest.handshake.draft.sid
 
-  abbrev Now : List Turn → Type 0
+  abbrev Now : List Utterance → Type 0
   Now turns = Between u.lane.guest left.end l.transcript.client turns p
 
   quiet_now : (now_is : NetSession) → left.end.session ≡ Some now_is → left.end.groups ≡ u.lane.hub.groups → left.end.handshake ≡ u.lane.hub.handshake → left.end.link.to_send ≡ u.lane.hub.link.to_send
@@ -92,14 +91,7 @@ module _ (shape : NetShape) (u t : PortState) (l : PortLog) (left : NetLeft) (p 
       opened = ap is_some session
 
       by_hears : Hears Responder u.lane.hub u.lane.hub_memory l.transcript.server packet (GoesOn left.end opens left.own) → Now (Heard packet ∷ l.transcript.server)
-      by_hears (inl none) =
-          let took : GoesOn left.end opens left.own ≡ GoesOn (record u.lane.hub { link = none.link }) false u.lane.hub_memory = none.is in
-          let same : left.end ≡ record u.lane.hub { link = none.link } = cc took in
-          let here : Now l.transcript.server =
-          quiet_now q (ap (λ (x : NetEndState). x.session) same ∙ session) (ap (λ (x : NetEndState). x.groups) same) (ap (λ (x : NetEndState). x.handshake) same)
-          (ap (λ (x : NetEndState). x.link.to_send) same ∙ none.sends) refl in
-          subst (λ (xs : List (List ℕ)). ExchangeIn sid u.lane.guest.groups p (unheard (said l.transcript.client) xs ++ listed (unsaid u.lane.guest))
-          (outbox left.end l.transcript.server l.transcript.client) left.end.session left.end.groups) (sym none.messages) here
+      by_hears (inl none) = grind (arith, none.is)
       by_hears (inr (inr refused)) = let never : GoesOn left.end opens left.own ≡ Resets refused.cause = refused.is in absurd (cc never)
       by_hears (inr (inl one)) = by_notes noted.1
         where
@@ -135,10 +127,7 @@ module _ (shape : NetShape) (u t : PortState) (l : PortLog) (left : NetLeft) (p 
 
           with_out : (known : List (List ℕ)) → left.end.groups ≡ known → left.end.handshake ≡ u.lane.hub.handshake → left.end.link.to_send ≡ u.lane.hub.link.to_send
               → ExchangeIn sid u.lane.guest.groups p asks (outbox u.lane.hub l.transcript.server l.transcript.client) left.end.session known → Now (Heard packet ∷ l.transcript.server)
-          with_out known groups handshake sends exchange =
-              subst (λ (xs : List (List ℕ)). ExchangeIn sid u.lane.guest.groups p asks (outbox left.end l.transcript.server l.transcript.client) left.end.session xs) (sym groups)
-              (subst (λ (xs : List (List ℕ)). ExchangeIn sid u.lane.guest.groups p asks xs left.end.session known)
-              (sym (same_outbox u.lane.hub left.end l.transcript.server l.transcript.client handshake sends)) exchange)
+          with_out known groups handshake sends exchange = grind (arith, same_outbox)
 
           by_notes : HubNotes (record u.lane.hub { link = one.link }) left.end q noted.0 one.bytes ⊎ HubLearns (record u.lane.hub { link = one.link }) left.end noted.0 one.bytes
               → Now (Heard packet ∷ l.transcript.server)
@@ -152,34 +141,27 @@ module _ (shape : NetShape) (u t : PortState) (l : PortLog) (left : NetLeft) (p 
               (before.tells.0 (named_in one.bytes learns.named)) learns.named (ap reply_in session ∙ listens) (ap reply_in learns.session ∙ learns.reply) learns.agrees before)
 
 hub_in : (shape : NetShape) (u t : PortState) (l : PortLog) (answer : NetAnswer) (left : NetLeft) (p q : NetSession) → Acts shape B u t l answer left → Goes answer → u.lane.hub.session ≡ Some q
-    → u.lane.guest.session ≡ Some p → Fresh [] u.lane.guest.groups → IsUp A u.lane.wire.wire → IsUp B u.lane.wire.wire → IsFront (heard (turns_now answer l.transcript.server)) (said l.transcript.client)
-    → Between u.lane.guest u.lane.hub l.transcript.client l.transcript.server p → Between u.lane.guest left.end l.transcript.client (turns_now answer l.transcript.server) p
-hub_in shape u t l Idle left p q acts goes session guest fresh up other front was =
-    let same : left.end ≡ u.lane.hub = ap (λ (x : NetLeft). x.end) acts.step.1 in
-    quiet_now shape u t l left p q session fresh was q (ap (λ (x : NetEndState). x.session) same ∙ session) (ap (λ (x : NetEndState). x.groups) same) (ap (λ (x : NetEndState). x.handshake) same)
-    (ap (λ (x : NetEndState). x.link.to_send) same) refl
+    → u.lane.guest.session ≡ Some p → Fresh [] u.lane.guest.groups → IsUp A u.lane.wire.wire → IsUp B u.lane.wire.wire → IsFront (heard (utterances_now answer l.transcript.server)) (said l.transcript.client)
+    → Between u.lane.guest u.lane.hub l.transcript.client l.transcript.server p → Between u.lane.guest left.end l.transcript.client (utterances_now answer l.transcript.server) p
 hub_in shape u t l (Published id) left p q acts goes session guest fresh up other front was =
     let step = acts.step in
     let says = says_of Responder u.lane.hub (seen_at B u.lane) (Publishes step.session step.frame) step.rule in
     let same : left.end ≡ record u.lane.hub { session = Some (published step.session) } = ap (λ (x : NetLeft). x.end) step.is in
     let here : step.session ≡ q = one_session u.lane.hub.session step.session q says.0.in_session.session session in
-    quiet_now shape u t l left p q session fresh was (published step.session) (ap (λ (x : NetEndState). x.session) same) (ap (λ (x : NetEndState). x.groups) same) (ap (λ (x : NetEndState). x.handshake) same)
-    (ap (λ (x : NetEndState). x.link.to_send) same) (ap (λ (x : NetSession). x.reply) here)
+    grind (arith, quiet_now)
 hub_in shape u t l (Frame frame) left p q acts goes session guest fresh up other front was =
     let step = acts.step in
     let says = says_of Responder u.lane.hub (seen_at B u.lane) (Fetches step.session step.activity) step.rule in
     let same : left.end ≡ record u.lane.hub { session = Some (taken u.lane.hub step.session step.activity); last = frame } = ap (λ (x : NetLeft). x.end) step.is in
     let here : step.session ≡ q = one_session u.lane.hub.session step.session q says.0.session session in
-    quiet_now shape u t l left p q session fresh was (taken u.lane.hub step.session step.activity) (ap (λ (x : NetEndState). x.session) same) (ap (λ (x : NetEndState). x.groups) same)
-    (ap (λ (x : NetEndState). x.handshake) same) (ap (λ (x : NetEndState). x.link.to_send) same) (ap (λ (x : NetSession). x.reply) here)
+    grind (arith, quiet_now)
 hub_in shape u t l Blocked left p q acts goes session guest fresh up other front was =
     let acting = acting_at shape B u l acts.finds other in
     let agreed = hub_agreed shape u.lane l acts.finds.two_ends up (ap is_some guest) other (ap is_some session) in
     let small = (guest_sid shape u.lane l acts.finds.two_ends up (ap is_some guest)).small in
     let forms = forms_now shape u t l left p q session fresh was left.end acting
     (record { session = session; agreed = agreed; small = small; empty = λ quiet. free_empty Responder u.lane.hub l.transcript.server acting.ends quiet }) acts.step.0 in
-    subst (λ (xs : List (List ℕ)). ExchangeIn u.lane.guest.handshake.draft.sid u.lane.guest.groups p (outbox u.lane.guest l.transcript.client l.transcript.server)
-    (outbox left.end l.transcript.server l.transcript.client) left.end.session xs) (sym forms.groups_are) forms.exchange
+    rw forms.groups_are forms.exchange
 hub_in shape u t l (Sent packet opens) left p q acts goes session guest fresh up other front was =
     let step = acts.step in
     let acting = acting_at shape B u l acts.finds other in
@@ -189,17 +171,13 @@ hub_in shape u t l (Sent packet opens) left p q acts goes session guest fresh up
     (record { session = session; agreed = agreed; small = small; empty = λ quiet. free_empty Responder u.lane.hub l.transcript.server acting.ends quiet }) step.holds in
     let puts : PutsIt step.held left.end l.transcript.server packet =
     sends_own Responder shape.slots u.queue u.lane.hub l.hub l.transcript.server (seen_at B u.lane) u.lane.hub_memory (reach_of B u.lane) packet opens left forms.q acting step agreed.owed forms.session_is in
-    subst (λ (xs : List (List ℕ)). ExchangeIn u.lane.guest.handshake.draft.sid u.lane.guest.groups p (outbox u.lane.guest l.transcript.client l.transcript.server)
-    (outbox left.end (Said packet ∷ l.transcript.server) l.transcript.client) left.end.session xs) (sym (puts.groups ∙ forms.groups_are))
-    (subst (λ (o : Option NetSession). ExchangeIn u.lane.guest.handshake.draft.sid u.lane.guest.groups p (outbox u.lane.guest l.transcript.client l.transcript.server)
-    (outbox left.end (Said packet ∷ l.transcript.server) l.transcript.client) o u.lane.hub.groups) (sym puts.session)
-    (subst (λ (xs : List (List ℕ)). ExchangeIn u.lane.guest.handshake.draft.sid u.lane.guest.groups p (outbox u.lane.guest l.transcript.client l.transcript.server) xs step.held.session u.lane.hub.groups)
-    (sym (outbox_put step.held left.end l.transcript.server l.transcript.client packet puts (acts.finds.two_ends.front_a up))) forms.exchange))
+    rw (puts.groups ∙ forms.groups_are, puts.session) (rw (outbox_put step.held left.end l.transcript.server
+    l.transcript.client packet puts (acts.finds.two_ends.front_a up)) forms.exchange)
 hub_in shape u t l (Took packet opens) left p q acts goes session guest fresh up other front was =
     let says = says_of Responder u.lane.hub (seen_at B u.lane) (Takes packet) acts.step.0 in
     let listens : MayListen q = subst (λ (x : Option NetSession). IfOpen x MayListen) session says.2 in
     took_now shape u t l left p q session fresh was packet opens (acting_at shape B u l acts.finds other) acts.finds.two_ends up other listens.0 front acts.step.1
-hub_in shape u t l _ left p q acts goes session guest fresh up other front was = absurd goes
+hub_in shape u t l answer left p q acts goes session guest fresh up other front was = grind (arith, quiet_now)
 
 -- WITHOUT A SESSION
 pub record ShutLeft (s t : NetEndState) : Type 0 where
@@ -215,25 +193,13 @@ shut_took : (s t : NetEndState) (memory packet new : List ℕ) (opens : Bool) �
 shut_took s t memory packet new opens none takes = by_link takes.link takes.takes takes.hears
   where
     by_take : (r : NetEndState) → r.session ≡ None → r.groups ≡ s.groups → r.link.to_send ≡ s.link.to_send → (x : HandshakeTake) → GoesOn t opens new ≡ by_handshake Responder r memory x → ShutTook s t
-    by_take r shut groups sends (GoesTake h) is =
-        let same : t ≡ record r { handshake = h } = cc is in
-        record { groups = ap (λ (x : NetEndState). x.groups) same ∙ groups; reply = ap (λ (x : NetEndState). reply_in x.session) same ∙ ap reply_in shut; sends = ap (λ (x : NetEndState). x.link.to_send) same ∙ sends }
-    by_take r shut groups sends (GoesOpen h) is =
-        let same : t ≡ opened_net_end (record r { handshake = h }) = cc is in
-        record { groups = ap (λ (x : NetEndState). x.groups) same ∙ groups; reply = ap (λ (x : NetEndState). reply_in x.session) same; sends = ap (λ (x : NetEndState). x.link.to_send) same ∙ sends }
-    by_take r shut groups sends (Faults cause) is = absurd (cc is)
+    by_take r shut groups sends x is = grind arith
 
     by_decoded : (r : NetEndState) → r.session ≡ None → r.groups ≡ s.groups → r.link.to_send ≡ s.link.to_send → (d : Result Message TagFault) → GoesOn t opens new ≡ reads Responder r memory d → ShutTook s t
-    by_decoded r shut groups sends (Ok m) is =
-        by_take r shut groups sends (handshake_take r.handshake m) (is ∙ ap (λ (o : Option NetSession). hears_message Responder r memory o m) shut)
-    by_decoded r shut groups sends (Err fault) is = absurd (cc is)
+    by_decoded r shut groups sends d is = grind (arith, by_take)
 
     by_whole : (r : NetEndState) → r.session ≡ None → r.groups ≡ s.groups → r.link.to_send ≡ s.link.to_send → (whole : Option (List ℕ)) → HearsWhole Responder r memory whole (GoesOn t opens new) → ShutTook s t
-    by_whole r shut groups sends None is =
-        let took : GoesOn t opens new ≡ GoesOn r false memory = is in
-        let same : t ≡ r = cc took in
-        record { groups = ap (λ (x : NetEndState). x.groups) same ∙ groups; reply = ap (λ (x : NetEndState). reply_in x.session) same ∙ ap reply_in shut; sends = ap (λ (x : NetEndState). x.link.to_send) same ∙ sends }
-    by_whole r shut groups sends (Some bytes) hears = by_decoded (record r { link = cleared r.link }) shut groups sends hears.0 hears.2
+    by_whole r shut groups sends whole is = grind (arith, by_decoded)
 
     by_link : (link : LinkTake) → TakesBytes s.link packet link → HearsLink Responder s memory link (GoesOn t opens new) → ShutTook s t
     by_link (HeardBy k) took hears =
@@ -264,21 +230,15 @@ pub record ShutAfter (answer : NetAnswer) (s t : NetEndState) : Type 0 where
 
 pub shut_after : (s : NetEndState) (at : Seen) (memory : List ℕ) (reach : Reach) (answer : NetAnswer) (left : NetLeft) → s.session ≡ None → Goes answer → NetEndStep Responder s at memory reach answer left
     → ShutAfter answer s left.end
-shut_after s at memory reach Idle left none goes step =
-    let same : left.end ≡ s = ap (λ (x : NetLeft). x.end) step.1 in
-    record {
-      left = record { groups = ap (λ (x : NetEndState). x.groups) same; reply = ap (λ (x : NetEndState). reply_in x.session) same ∙ ap reply_in none };
-      stays = ap (λ (x : NetEndState). x.session) same ∙ none;
-    }
+shut_after s at memory reach Idle left none goes step = grind (arith, ap (λ (x : NetLeft). x.end) step.1)
 shut_after s at memory reach (Published id) left none goes step =
     none_some step.session (sym none ∙ (says_of Responder s at (Publishes step.session step.frame) step.rule).0.in_session.session)
 shut_after s at memory reach (Frame frame) left none goes step = none_some step.session (sym none ∙ (says_of Responder s at (Fetches step.session step.activity) step.rule).0.session)
 shut_after s at memory reach Blocked left none goes step =
     let held = shut_held s at reach (port_rule Responder s at) left.end none refl step.0 in record { left = record { groups = held.1; reply = ap reply_in held.0 }; stays = held.0 }
 shut_after s at memory reach (Sent packet opens) left none goes step =
-    let held = shut_held s at reach (port_rule Responder s at) step.held none refl step.holds in
-    let session : left.end.session ≡ step.held.session = ap (λ (x : NetLeft). x.end.session) step.is in
-    record { left = record { groups = ap (λ (x : NetLeft). x.end.groups) step.is ∙ held.1; reply = ap reply_in (session ∙ held.0) }; stays = session ∙ held.0 }
+    let shut = shut_held s at reach (port_rule Responder s at) step.held none refl step.holds in
+    grind (arith, shut, ap (λ (x : NetLeft). x.end.session) step.is)
 shut_after s at memory reach (Took packet opens) left none goes step =
     let took = shut_took s left.end memory packet left.own opens none step.1 in record { left = record { groups = took.groups; reply = took.reply }; stays = tt }
 shut_after s at memory reach _ left none goes step = absurd goes
@@ -298,20 +258,13 @@ HeardAs u l p now after_session messages =
 asks_now : (shape : NetShape) (u : PortState) (l : PortLog) (answer : NetAnswer) (p : NetSession) (now : List (List ℕ)) (after_session : Option NetSession) → Goes answer → reply_in after_session ≡ None
     → ClosedFits l.transcript.server l.transcript.client answer
     → ExchangeIn u.lane.guest.handshake.draft.sid u.lane.guest.groups p (outbox u.lane.guest l.transcript.client l.transcript.server) now after_session u.lane.hub.groups
-    → ExchangeIn u.lane.guest.handshake.draft.sid u.lane.guest.groups p (outbox u.lane.guest l.transcript.client (turns_now answer l.transcript.server)) now after_session u.lane.hub.groups
+    → ExchangeIn u.lane.guest.handshake.draft.sid u.lane.guest.groups p (outbox u.lane.guest l.transcript.client (utterances_now answer l.transcript.server)) now after_session u.lane.hub.groups
 asks_now shape u l (Joined lost) p now after_session goes none fits exchange = absurd goes
 asks_now shape u l (Reset cause packet lost) p now after_session goes none fits exchange = absurd goes
 asks_now shape u l (Took packet opens) p now after_session goes none fits exchange = by_ended (ended_by (half_heard l.transcript.server) packet) (heard_grown l.transcript.server packet)
   where
     by_ended : (o : Option (List ℕ)) → Grown o (heard l.transcript.server) (heard (Heard packet ∷ l.transcript.server)) → HeardAs u l p now after_session (heard (Heard packet ∷ l.transcript.server))
-    by_ended None is = subst (HeardAs u l p now after_session) (sym is) exchange
-    by_ended (Some m) is =
-        let front : IsFront (heard l.transcript.server ++ m ∷ []) (said l.transcript.client) = subst (λ (xs : List (List ℕ)). IsFront xs (said l.transcript.client)) is fits.front in
-        let low : EachLow (m ∷ []) = low_rest (heard l.transcript.server) (m ∷ []) (subst EachLow is fits.heard_plain.low) in
-        let first = outbox_heard u.lane.guest l.transcript.client l.transcript.server packet m is front in
-        hub_hears u.lane.guest.handshake.draft.sid u.lane.guest.groups p (outbox u.lane.guest l.transcript.client (Heard packet ∷ l.transcript.server)) now after_session after_session u.lane.hub.groups m
-        (not_low m low.0) refl
-        (subst (λ (xs : List (List ℕ)). ExchangeIn u.lane.guest.handshake.draft.sid u.lane.guest.groups p xs now after_session u.lane.hub.groups) first exchange)
+    by_ended o is = grind (arith, low_rest, outbox_heard, hub_hears, not_low)
 asks_now shape u l _ p now after_session goes none fits exchange = exchange
 
 -- A STEP
@@ -326,8 +279,7 @@ hub_exchange shape u t l answer left acts fresh exchange p up other some = as_no
     guest_some = ap (λ (x : NetEndState). x.session) (sym acts.now.peer_end) ∙ some
 
     in_log : l.guest.session ≢ None
-    in_log =
-        let both = open_both Initiator shape.slots [] u.lane.guest l.guest acts.finds.ready.guest in λ gone. true_false (sym (ap is_some guest_some) ∙ both.shut gone)
+    in_log = grind (arith, guest_some, open_both, true_false)
 
     theirs : theirs_now answer u.lane.wire.wire.end_b u.lane.wire.wire.end_a ≡ Up
     theirs = sym (ap (λ (w : WireLog). w.wire.end_a) acts.now.wire ∙ (wire_now B u.lane answer).theirs) ∙ up
@@ -341,21 +293,17 @@ hub_exchange shape u t l answer left acts fresh exchange p up other some = as_no
     up_before : IsUp B u.lane.wire.wire
     up_before = acts_up_at shape B u t l answer left acts goes
 
-    turns : then_.transcript.server ≡ turns_now answer l.transcript.server
+    turns : then_.transcript.server ≡ utterances_now answer l.transcript.server
     turns = (turns_at B l.transcript answer).mine
 
     same : then_.transcript.client ≡ l.transcript.client
     same = (turns_at B l.transcript answer).theirs
 
-    front : IsFront (heard (turns_now answer l.transcript.server)) (said l.transcript.client)
-    front = subst (λ (xs : List Turn). IsFront (heard xs) (said l.transcript.client)) turns (subst (λ (xs : List Turn). IsFront (heard then_.transcript.server) (said xs)) same (acts.two_ends.front other))
+    front : IsFront (heard (utterances_now answer l.transcript.server)) (said l.transcript.client)
+    front = subst (λ (xs : List Utterance). IsFront (heard xs) (said l.transcript.client)) turns (subst (λ (xs : List Utterance). IsFront (heard then_.transcript.server) (said xs)) same (acts.two_ends.front other))
 
-    as_now : Between u.lane.guest left.end l.transcript.client (turns_now answer l.transcript.server) p → Between t.lane.guest t.lane.hub then_.transcript.client then_.transcript.server p
-    as_now one =
-        subst (λ (xs : List Turn). Between t.lane.guest t.lane.hub then_.transcript.client xs p) (sym turns)
-        (subst (λ (xs : List Turn). Between t.lane.guest t.lane.hub xs (turns_now answer l.transcript.server) p) (sym same)
-        (subst (λ (x : NetEndState). Between x t.lane.hub l.transcript.client (turns_now answer l.transcript.server) p) (sym acts.now.peer_end)
-        (subst (λ (x : NetEndState). Between u.lane.guest x l.transcript.client (turns_now answer l.transcript.server) p) (sym acts.now.end) one)))
+    as_now : Between u.lane.guest left.end l.transcript.client (utterances_now answer l.transcript.server) p → Between t.lane.guest t.lane.hub then_.transcript.client then_.transcript.server p
+    as_now one = rw (turns, same, acts.now.peer_end, acts.now.end) one
 
     was : Between u.lane.guest u.lane.hub l.transcript.client l.transcript.server p
     was = exchange p guest_before up_before guest_some
@@ -377,7 +325,7 @@ hub_exchange shape u t l answer left acts fresh exchange p up other some = as_no
         empty_unsaid left.end (took.sends ∙ free_empty Responder u.lane.hub l.transcript.server (acting_at shape B u l acts.finds up_before).ends says.0.quiet)
     none_left none _ is stays = shut_now stays
 
-    by_session : (session : Option NetSession) → u.lane.hub.session ≡ session → Between u.lane.guest left.end l.transcript.client (turns_now answer l.transcript.server) p
+    by_session : (session : Option NetSession) → u.lane.hub.session ≡ session → Between u.lane.guest left.end l.transcript.client (utterances_now answer l.transcript.server) p
     by_session (Some q) is = hub_in shape u t l answer left p q acts goes is guest_some fresh guest_before up_before front was
     by_session None is =
         let before = open_both Responder shape.slots u.queue u.lane.hub l.hub acts.finds.ready.hub in
@@ -387,9 +335,9 @@ hub_exchange shape u t l answer left acts fresh exchange p up other some = as_no
         let low = low_outbox u.lane.hub l.transcript.server l.transcript.client plain.said_plain.low
         (shut_unsaid Responder u.lane.hub l.transcript.server (acting_at shape B u l acts.finds up_before).ends is) in
         let here = shut_after u.lane.hub (seen_at B u.lane) u.lane.hub_memory (reach_of B u.lane) answer left is goes acts.step in
-        let low_now = low_outbox left.end (turns_now answer l.transcript.server) l.transcript.client fits.said_plain.low (none_left is answer refl here.stays) in
-        subst (λ (xs : List (List ℕ)). ExchangeIn u.lane.guest.handshake.draft.sid u.lane.guest.groups p (outbox u.lane.guest l.transcript.client (turns_now answer l.transcript.server))
-        (outbox left.end (turns_now answer l.transcript.server) l.transcript.client) left.end.session xs) (sym here.left.groups)
-        (asks_now shape u l answer p (outbox left.end (turns_now answer l.transcript.server) l.transcript.client) left.end.session goes here.left.reply fits
+        let low_now = low_outbox left.end (utterances_now answer l.transcript.server) l.transcript.client fits.said_plain.low (none_left is answer refl here.stays) in
+        subst (λ (xs : List (List ℕ)). ExchangeIn u.lane.guest.handshake.draft.sid u.lane.guest.groups p (outbox u.lane.guest l.transcript.client (utterances_now answer l.transcript.server))
+        (outbox left.end (utterances_now answer l.transcript.server) l.transcript.client) left.end.session xs) (sym here.left.groups)
+        (asks_now shape u l answer p (outbox left.end (utterances_now answer l.transcript.server) l.transcript.client) left.end.session goes here.left.reply fits
         (shut_same u.lane.guest.handshake.draft.sid u.lane.guest.groups p (outbox u.lane.guest l.transcript.client l.transcript.server) (outbox u.lane.hub l.transcript.server l.transcript.client)
-        (outbox left.end (turns_now answer l.transcript.server) l.transcript.client) u.lane.hub.session left.end.session u.lane.hub.groups low low_now (ap reply_in is) here.left.reply was))
+        (outbox left.end (utterances_now answer l.transcript.server) l.transcript.client) u.lane.hub.session left.end.session u.lane.hub.groups low low_now (ap reply_in is) here.left.reply was))

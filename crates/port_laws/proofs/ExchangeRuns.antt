@@ -3,7 +3,7 @@ use Rattle.std.proofs.Common.{◌≡◌, true, false, Option, Some, List, [], re
 use Rattle.std.specs.Prelude.{is_some, ⊤}
 use Rattle.ldc_link.specs.declared.phase.Role.TheVariants.{Initiator}
 use Rattle.ldc_queue.specs.declared.end.End.TheVariants.{A, B}
-use Rattle.ldc_queue.specs.Transcript.{Turn}
+use Rattle.ldc_queue.specs.Transcript.{Utterance}
 use Rattle.runs.specs.Lawful.{log_of, run_lawful}
 use Rattle.runs.specs.Run.{Run}
 use Rattle.channel_model.specs.WireLog.{WireLog}
@@ -26,20 +26,19 @@ use Rattle.port_laws.proofs.GroupsExchanged.{guest_joins}
 use Rattle.port_laws.proofs.ExchangeGuest.{Between, ExchangeStands, guest_exchange}
 use Rattle.port_laws.proofs.ExchangeHub.{hub_exchange}
 use Rattle.port_laws.proofs.WayRuns.{KeptWays, acts_of, never_alone, ways_step}
-use Rattle.port_laws.proofs.Outbox.{outbox}
 
 -- THE GROUPS of a guest are repeated nowhere
 fresh_event : (u : NetLaneState) (l : PortLog) (event : NetEvent) (t : NetLaneState) → u.guest.groups ≡ l.members → NetLaneStep u event t → Fresh [] l.members → Fresh [] (after l (OnLane event)).members
 fresh_event u l event t are step fresh = grind (arith, fresh_more)
 
 -- A GUEST that is given a frame, or joins a group
-given_exchange : (s : NetEndState) (given : Given) (t hub : NetEndState) (client server : List Turn) (p : NetSession) → NetGives s given t → (s.session ≡ Some p → Between s hub client server p) → t.session ≡ Some p → Between t hub client server p
+given_exchange : (s : NetEndState) (given : Given) (t hub : NetEndState) (client server : List Utterance) (p : NetSession) → NetGives s given t → (s.session ≡ Some p → Between s hub client server p) → t.session ≡ Some p → Between t hub client server p
 given_exchange s given t hub client server p gives had is = grind arith
 
 untold_some : (session : Option NetSession) (q : NetSession) → untold session ≡ Some q → (p : NetSession) × (session ≡ Some p) × (q.telling ≡ p.telling) × (q.reply ≡ p.reply) × (q.untold ≡ true)
 untold_some session q is = grind arith
 
-joined_exchange : (s : NetEndState) (joining : Joining) (t hub : NetEndState) (client server : List Turn) (q : NetSession) → NetJoins s joining t → ((p : NetSession) → s.session ≡ Some p → Between s hub client server p)
+joined_exchange : (s : NetEndState) (joining : Joining) (t hub : NetEndState) (client server : List Utterance) (q : NetSession) → NetJoins s joining t → ((p : NetSession) → s.session ≡ Some p → Between s hub client server p)
     → t.session ≡ Some q → Between t hub client server q
 joined_exchange s (Already address) t hub client server q joins had is =
     subst (λ (x : NetEndState). Between x hub client server q) (sym joins.1) (had q (ap (λ (x : NetEndState). x.session) (sym joins.1) ∙ is))
@@ -47,8 +46,7 @@ joined_exchange s (GroupsFull address) t hub client server q joins had is =
     subst (λ (x : NetEndState). Between x hub client server q) (sym joins.2) (had q (ap (λ (x : NetEndState). x.session) (sym joins.2) ∙ is))
 joined_exchange s (Member address) t hub client server q joins had is =
     let there = untold_some s.session q (ap (λ (x : NetEndState). x.session) (sym joins.3) ∙ is) in
-    subst (λ (x : NetEndState). Between x hub client server q) (sym joins.3)
-    (guest_joins s.handshake.draft.sid s.groups address there.0 q (outbox s client server) (outbox hub server client) hub.session hub.groups there.2 there.3 there.4 (had there.0 there.1))
+    rw joins.3 (guest_joins _ _ _ _ q _ _ _ _ there.2 there.3 there.4 (had there.0 there.1))
 
 -- AN EVENT
 lane_exchange : (shape : NetShape) (u t : PortState) (l : PortLog) (event : NetEvent) → OfQueue u event → Finds shape u l → NetLaneStep u.lane event t.lane → (moved_on l.wire (on_wire event)).forged ≡ false

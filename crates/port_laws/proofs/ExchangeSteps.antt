@@ -1,11 +1,11 @@
 -- A step of either end of a port in session keeps what is known of all that is on the way.
-use Rattle.std.proofs.Common.{◌≡◌, ℕ, ◌^◌, ◌<◌, ◌≤◌, Option, Some, None, List, [], ◌∷◌, ◌++◌, length, refl, sym, subst, ap, ◌∙◌, arith, length-append}
+use Rattle.std.proofs.Common.{◌≡◌, ℕ, ◌^◌, ◌<◌, ◌≤◌, Option, Some, None, List, [], ◌∷◌, ◌++◌, length, refl, sym, subst, ap, ◌∙◌, arith, length-append, append_assoc, drop_at}
 use Rattle.std.proofs.lemmas.List.{append-nil, take_all}
 use Rattle.ldc_link.specs.declared.phase.Role.TheVariants.{Initiator, Responder}
 use Rattle.ldc_packet.specs.declared.packet.Subtype.TheVariants.{Info}
 use Rattle.ldc_packet.specs.Spelling.{subtype_code}
 use Rattle.ldc_queue.specs.OneStream.{IsFront}
-use Rattle.ldc_queue.specs.Transcript.{Heard, Said, Turn}
+use Rattle.ldc_queue.specs.Transcript.{Heard, Said, Utterance}
 use Rattle.vio_tag.proofs.Canonical.{canonical_spells, length_canonical}
 use Rattle.vio_tag.specs.declared.message.MsgBody.TheVariants.{Mcast}
 use Rattle.vio_tag.specs.Spelling.{SpellsMessage, canonical}
@@ -18,22 +18,22 @@ use Rattle.port_model.specs.Spoken.{addresses_of}
 use Rattle.port_laws.specs.Counted.{AreGroups, unsaid}
 use Rattle.port_laws.proofs.FormsOwn.{Formed, Kept, PutsIt, Ranged, Replied, Told}
 use Rattle.port_laws.proofs.OwnBytes.{membership_reads, seven_six}
-use Rattle.port_laws.proofs.Outbox.{SaysGroups, TellsSome, first_unheard, outbox, says_groups, unheard_more}
+use Rattle.port_laws.proofs.Outbox.{SaysGroups, TellsSome, outbox, says_groups, unheard_more}
 use Rattle.port_laws.proofs.ShortMessages.{seven_long}
 use Rattle.port_laws.proofs.GroupsExchanged.{RepliesAgree, ReplyAgrees, ExchangeIn, guest_ranges, guest_tells, hub_ranges, hub_replies, reply_in}
 
 -- THE OUTBOX
-pub outbox_more : (s held : NetEndState) (mine theirs : List Turn) (m : List ℕ) → unsaid s ≡ None → unsaid held ≡ Some m → outbox held mine theirs ≡ outbox s mine theirs ++ m ∷ []
+pub outbox_more : (s held : NetEndState) (mine theirs : List Utterance) (m : List ℕ) → unsaid s ≡ None → unsaid held ≡ Some m → outbox held mine theirs ≡ outbox s mine theirs ++ m ∷ []
 outbox_more s held mine theirs m none now = grind (arith, append-nil)
 
 -- what is put goes from the link on the way
-pub outbox_put : (held t : NetEndState) (mine theirs : List Turn) (packet : List ℕ) → PutsIt held t mine packet → IsFront (heard theirs) (said mine) → outbox t (Said packet ∷ mine) theirs ≡ outbox held mine theirs
+pub outbox_put : (held t : NetEndState) (mine theirs : List Utterance) (packet : List ℕ) → PutsIt held t mine packet → IsFront (heard theirs) (said mine) → outbox t (Said packet ∷ mine) theirs ≡ outbox held mine theirs
 outbox_put held t mine theirs packet puts front = grind (arith, unheard_more, append-nil)
 
 -- what is heard leaves the other's
-pub outbox_heard : (peer : NetEndState) (theirs mine : List Turn) (packet m : List ℕ) → heard (Heard packet ∷ mine) ≡ heard mine ++ m ∷ [] → IsFront (heard mine ++ m ∷ []) (said theirs)
+pub outbox_heard : (peer : NetEndState) (theirs mine : List Utterance) (packet m : List ℕ) → heard (Heard packet ∷ mine) ≡ heard mine ++ m ∷ [] → IsFront (heard mine ++ m ∷ []) (said theirs)
     → outbox peer theirs mine ≡ m ∷ outbox peer theirs (Heard packet ∷ mine)
-outbox_heard peer theirs mine packet m is front = grind (arith, first_unheard)
+outbox_heard peer theirs mine packet m is front = grind (arith, append_assoc, drop_at)
 
 -- WHAT THE GUEST TELLS
 record Member (sid : ℕ) (groups : List (List ℕ)) : Type 0 where
@@ -61,14 +61,14 @@ member sid groups are small =
     }
 
 -- THE GUEST forms a message, or none
-pub record GuestForms (held : NetEndState) (s : NetEndState) (sid : ℕ) (client server : List Turn) (answers : List (List ℕ)) (session : Option NetSession) (known : List (List ℕ)) : Type 0 where
+pub record GuestForms (held : NetEndState) (s : NetEndState) (sid : ℕ) (client server : List Utterance) (answers : List (List ℕ)) (session : Option NetSession) (known : List (List ℕ)) : Type 0 where
   pub q : NetSession
   pub session_is : held.session ≡ Some q
   pub groups : held.groups ≡ s.groups
   pub handshake : held.handshake ≡ s.handshake
   pub exchange : ExchangeIn sid s.groups q (outbox held client server) answers session known
 
-pub guest_forms : (s held : NetEndState) (p : NetSession) (sid : ℕ) (client server : List Turn) (answers : List (List ℕ)) (session : Option NetSession) (known : List (List ℕ)) → s.session ≡ Some p
+pub guest_forms : (s held : NetEndState) (p : NetSession) (sid : ℕ) (client server : List Utterance) (answers : List (List ℕ)) (session : Option NetSession) (known : List (List ℕ)) → s.session ≡ Some p
     → AreGroups s.groups → sid < 2 ^ 32 → s.handshake.draft.sid ≡ sid → Formed Initiator sid s p held → ExchangeIn sid s.groups p (outbox s client server) answers session known
     → GuestForms held s sid client server answers session known
 guest_forms s held p sid client server answers session known is are small draft (Kept same) exchange = record {
@@ -101,7 +101,7 @@ guest_forms s held p sid client server answers session known is are small draft 
     }
 
 -- THE SWITCH'S END forms a message, or none
-pub record HubForms (held : NetEndState) (s : NetEndState) (sid : ℕ) (groups : List (List ℕ)) (p : NetSession) (asks : List (List ℕ)) (client server : List Turn) : Type 0 where
+pub record HubForms (held : NetEndState) (s : NetEndState) (sid : ℕ) (groups : List (List ℕ)) (p : NetSession) (asks : List (List ℕ)) (client server : List Utterance) : Type 0 where
   pub q : NetSession
   pub session_is : held.session ≡ Some q
   pub groups_are : held.groups ≡ s.groups
@@ -114,7 +114,7 @@ in_reply session q is = ap reply_in is
 answer_long : (s : NetEndState) (r : GroupsReply) → ReplyAgrees r → length (canonical (groups_answer s r)) ≡ 56
 answer_long s r agrees = grind (arith, length_canonical, length-append)
 
-pub hub_forms : (s held : NetEndState) (q : NetSession) (sid : ℕ) (groups : List (List ℕ)) (p : NetSession) (asks : List (List ℕ)) (client server : List Turn) → s.session ≡ Some q
+pub hub_forms : (s held : NetEndState) (q : NetSession) (sid : ℕ) (groups : List (List ℕ)) (p : NetSession) (asks : List (List ℕ)) (client server : List Utterance) → s.session ≡ Some q
     → Formed Responder sid s q held → ExchangeIn sid groups p asks (outbox s server client) s.session s.groups → HubForms held s sid groups p asks client server
 hub_forms s held q sid groups p asks client server is (Kept same) exchange = record {
   q = q;

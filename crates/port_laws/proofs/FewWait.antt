@@ -12,11 +12,11 @@ use Rattle.vio_handshake.proofs.Places.{AllSaid, AttributesSaid, Deal, PeerReady
 use Rattle.vio_handshake.specs.Messages.{ack}
 use Rattle.vio_tag.proofs.Canonical.{length_canonical}
 use Rattle.vio_tag.specs.declared.message.MsgBody.TheVariants.{Rdx}
-use Rattle.vio_tag.specs.Spelling.{envelope_at, envelope_code, subtype_at}
+use Rattle.vio_tag.specs.Spelling.{envelope_at, subtype_at}
 use Rattle.channel_model.specs.Sayings.{half_said, heard, said}
 use Rattle.channel_model.specs.WireAt.{IsUp}
 use Rattle.channel_laws.proofs.EndStanding.{open_up}
-use Rattle.channel_laws.proofs.HandshakePlaces.{AtPlace, EachOwn, IsOwn, deal, open_place}
+use Rattle.channel_laws.proofs.HandshakePlaces.{AtPlace, EachOwn, deal, open_place}
 use Rattle.channel_laws.proofs.HandshakesPlaced.{envelope_reads, own_code}
 use Rattle.channel_laws.proofs.PartsSaid.{PartsSaid}
 use Rattle.channel_laws.proofs.PartsWaiting.{LongSaid, Unheard, room_of, unheard}
@@ -25,16 +25,16 @@ use Rattle.channel_laws.specs.LinkPlaces.{BothUp, LinkPlace, live_phase}
 use Rattle.channel_laws.specs.LinkPlaces as link
 use Rattle.channel_laws.specs.Sides.{Sides, sides_of}
 use Rattle.port_model.proofs.Refuting.{none_some, true_false}
-use Rattle.port_model.specs.EndLog.{SessionLog, opened_log}
+use Rattle.port_model.specs.EndLog.{SessionLog}
 use Rattle.port_model.specs.NetEndState.{NetSession}
 use Rattle.port_model.specs.NetLaneState.{NetShape}
 use Rattle.port_model.specs.PortLog.{PortLog}
 use Rattle.port_model.specs.PortState.{PortState}
 use Rattle.port_model.specs.Spoken.{RangeAck, RangeInfo, Spoken, spoken}
 use Rattle.port_laws.specs.Counted.{unsaid}
-use Rattle.port_laws.specs.NetCore.{lane_core, one_if}
+use Rattle.port_laws.specs.NetCore.{lane_core}
 use Rattle.port_laws.specs.WaysStand.{Way, Ways, WaysStand, ack_first, acks_in, info_first, infos_in, or_new}
-use Rattle.port_laws.proofs.Outbox.{EachFits, MessageFits, RangeFits, count-append, count_groups, listed, outbox, unheard as undrawn}
+use Rattle.port_laws.proofs.Outbox.{EachFits, count-append, count_groups, listed, outbox, unheard as undrawn}
 use Rattle.port_laws.proofs.PeerOpens.{TwoEnds, mine_at, theirs_at}
 use Rattle.port_laws.proofs.PortTwoEnds.{answers_of, asks_of, open_turns}
 use Rattle.port_laws.proofs.EndCounting.{own_left}
@@ -42,6 +42,7 @@ use Rattle.port_laws.proofs.PutCounts.{own_half}
 use Rattle.port_laws.proofs.RingActs.{Finds, acting_at, open_both}
 use Rattle.port_laws.proofs.StepCounts.{Acting}
 use Rattle.port_laws.proofs.ExchangeGuest.{Between, ExchangeStands, guest_sid}
+use Rattle.port_laws.proofs.EndMoves.{one_most}
 
 -- LISTS
 suffix_of : {X : Type 0} (xs five ys rest : List X) → xs ++ ys ≡ five ++ rest → length five ≤ length xs → (x : List X) × (xs ≡ five ++ x) × (rest ≡ x ++ ys)
@@ -90,14 +91,9 @@ groups_counted m messages is = grind (arith, info_more, ack_more)
 own_few : (d : Deal) (sid : ℕ) (messages : List (List ℕ)) → EachOwn d messages → EachFits Initiator sid messages → room_of messages ≤ 111 * counted messages
 own_few d sid [] each fits = omega arith
 own_few d sid (m ∷ messages) each fits =
-    let own : IsOwn d m = each.0 in
-    let fit : MessageFits Initiator sid m = fits.0 in
     let rest = own_few d sid messages each.1 fits.1 in
-    let envelope : envelope_at m ≡ envelope_code own.message.body = ap envelope_at own.is ∙ envelope_reads own.message own.body in
-    elim (own_code own.message.body own.body) [
-      | inl one ↦ (let range : RangeFits sid m = fit.range (envelope ∙ one) in omega (arith, rest, range.long, one_counted m messages (range_kind m (envelope ∙ one) range.subtype)))
-      | inr two ↦ omega (arith, rest, (fit.groups (envelope ∙ two)).long, groups_counted m messages (envelope ∙ two))
-    ]
+    let envelope = ap envelope_at each.0.is ∙ envelope_reads each.0.message each.0.body in
+    grind (arith, each.0, fits.0, rest, envelope, own_code, one_counted, range_kind, groups_counted)
 
 -- ONE DIRECTION has one INFO, or one ACK
 infos_few : (slots : ℕ) (v w : SessionLog) (infos acks : List (List ℕ)) → Way slots v w infos acks → length infos ≤ 1
@@ -146,9 +142,6 @@ both_up _ is = absurd (cc is)
 
 longer : (xs ys : List (List ℕ)) → IsFront xs ys → length xs ≤ length ys
 longer xs ys front = omega (arith, ap length front.1, length-append xs front.0)
-
-telling_few : (b : Bool) → one_if b ≤ 1
-telling_few b = grind arith
 
 module _ (shape : NetShape) (u : PortState) (l : PortLog) (p : NetSession) (finds : Finds shape u l) (ways : WaysStand u.lane l) (exchange : ExchangeStands u.lane l) (up : IsUp A u.lane.wire.wire)
     (other_up : IsUp B u.lane.wire.wire) (session : u.lane.guest.session ≡ Some p) (whole : u.lane.wire.lossy ≡ false) (parts : PartsSaid l.transcript.client) (long : LongSaid l.transcript.client) where
@@ -216,7 +209,7 @@ module _ (shape : NetShape) (u : PortState) (l : PortLog) (p : NetSession) (find
   fits = fits_front u.lane.guest.handshake.draft.sid left.messages (listed (unsaid u.lane.guest)) (subst (EachFits Initiator u.lane.guest.handshake.draft.sid) asks between.asks_fit)
 
   groups_few : count_groups left.messages ≤ 1
-  groups_few = grind (arith, between, asks, count-append, left, telling_few)
+  groups_few = grind (arith, between, asks, count-append, left, one_most)
 
   way : Ways l.shape.slots (said l.transcript.client) (heard l.transcript.client) (said l.transcript.server) (heard l.transcript.server) (or_new l.guest.session) (or_new l.hub.session)
   way = ways up other_up guest_in
@@ -235,13 +228,7 @@ module _ (shape : NetShape) (u : PortState) (l : PortLog) (p : NetSession) (find
   ack_none short = by_log l.hub.session refl
     where
       by_log : (log : Option SessionLog) → l.hub.session ≡ log → length (acks_in left.messages) ≤ 0
-      by_log None is =
-          let theirs = subst (λ (o : Option SessionLog). Way l.shape.slots (or_new o) (or_new l.guest.session) (infos_in way.coming) (acks_in way.going)) is way.theirs in
-          omega (
-            arith,
-            acks_none l.shape.slots (opened_log 0) (or_new l.guest.session) (infos_in way.coming) (acks_in way.going) refl theirs,
-            ap (λ (xs : List (List ℕ)). length (acks_in xs)) going,
-          )
+      by_log None is = grind (arith, acks_none, way, going)
       by_log (Some w) is =
           let hub = open_both Responder shape.slots u.queue u.lane.hub l.hub finds.ready.hub in
           let there = hub.opened (λ none. none_some w (sym none ∙ is)) in
@@ -258,10 +245,7 @@ module _ (shape : NetShape) (u : PortState) (l : PortLog) (p : NetSession) (find
       owed = ap is_none (guest_sid shape u.lane l finds.two_ends up opened).agreed.owed
 
       by_left : (bytes : List ℕ) → u.lane.guest.link.to_send ≡ bytes → half_said l.transcript.client ≡ []
-      by_left [] is = acting.ends.link.cuts.free is
-      by_left (byte ∷ bytes) is =
-          own_half Initiator shape.slots [] u.lane.guest l.guest l.transcript.client p acting.counts acting.ends session
-          (own_left (is_none u.lane.guest.handshake.owed) u.lane.guest.link.to_send owed (omega (arith, ap length is)))
+      by_left bytes is = grind (arith, owed, acting, own_half, own_left)
 
   pub guest_few : length u.lane.wire.wire.to_b ≤ 5
   guest_few = by_suffix suffix.0 suffix.1 suffix.2

@@ -1,20 +1,19 @@
 -- Each event of a port's lane keeps that the addresses of both ends are short.
-use Rattle.std.proofs.Common.{◌≡◌, ℕ, ◌≤◌, Bool, true, false, Option, Some, List, [], ◌∷◌, ◌++◌, length, refl, sym, subst, arith}
+use Rattle.std.proofs.Common.{◌≡◌, ℕ, ◌≤◌, true, false, Option, Some, List, [], ◌∷◌, ◌++◌, length, refl, sym, subst, arith}
 use Rattle.std.specs.Prelude.{◌+◌}
 use Rattle.ldc_link.specs.declared.phase.Role.{Role}
 use Rattle.ldc_link.specs.declared.phase.Role.TheVariants.{Initiator, Responder}
-use Rattle.ldc_queue.specs.declared.end.End.{End}
 use Rattle.channel_model.specs.Seeing.{Seen}
 use Rattle.cookie_copy.specs.Reach.{Reach}
 use Rattle.port_model.specs.Fetching.{Fetched, fetched}
-use Rattle.port_model.specs.NetEndPutting.{answers, net_holds, net_put, opened_by_put}
+use Rattle.port_model.specs.NetEndPutting.{answers, net_holds, net_put}
 use Rattle.port_model.specs.NetEndRule.{Announces, Fetches, NetRule, Publishes, Puts, Replies, Says, Tells, port_rule}
 use Rattle.port_model.specs.NetEndState.{Activity, NetEndState, NetSession, joined_net_end}
-use Rattle.port_model.specs.NetEndStep.{Blocked, Frame, Given, Idle, Joining, NetAnswer, NetEndStep, NetGives, NetJoins, NetLeft, Published, Sent, Took, untold}
+use Rattle.port_model.specs.NetEndStep.{Blocked, Frame, Idle, NetAnswer, NetEndStep, NetLeft, Published, Sent, Took, untold}
 use Rattle.port_model.specs.NetEndTaking.{GoesOn}
 use Rattle.port_model.specs.NetEvent.{NetEvent}
 use Rattle.port_model.specs.NetLaneState.{NetLaneState}
-use Rattle.port_model.specs.NetLaneStep.{NetLaneStep, Resets}
+use Rattle.port_model.specs.NetLaneStep.{NetLaneStep}
 use Rattle.port_model.proofs.Ruling.{says_of}
 use Rattle.port_laws.specs.NetFits.{AreShort, NetFits, SessionFits}
 use Rattle.port_laws.proofs.EndMoves.{packet_goes}
@@ -49,11 +48,8 @@ held_fits role s at reach (Announces p) held fits is same =
     (session_fits role s _ p (record p { infos = p.infos + 1; asking = true }) fits (says_of role s at (Announces p) is).0.in_session.session refl refl refl)
 held_fits role s at reach _ held fits is same = none_some held same
 
-opened_fits : (role : Role) (opens : Bool) (s : NetEndState) → NetFits role s → NetFits role (opened_by_put role opens s)
-opened_fits role opens s given = grind arith
-
 put_fits : (role : Role) (held : NetEndState) → NetFits role held → NetFits role (net_put role held)
-put_fits role held given = grind (arith, opened_fits)
+put_fits role held given = grind arith
 
 abbrev LeftFits : Role → NetLeft → Type 0
 LeftFits role left = NetFits role left.end
@@ -73,9 +69,6 @@ step_fits role s at memory reach (Frame frame) t fits step =
     (session_fits role s _ step.session _ fits (says_of role s at (Fetches step.session step.activity) step.rule).0.session refl refl refl)
 step_fits role s at memory reach _ t fits step = subst (LeftFits role) (sym step.2) (joined_fits role s fits)
 
-pub gives_fits : (role : Role) (s : NetEndState) (given : Given) (t : NetEndState) → NetFits role s → NetGives s given t → NetFits role t
-gives_fits role s given t given_2 gives = grind (arith, same_fits)
-
 one_more : (groups : List (List ℕ)) (address : List ℕ) → AreShort groups → length address ≤ 6 → AreShort (groups ++ address ∷ [])
 one_more [] address short few = (few, tt)
 one_more (group ∷ groups) address short few = (short.0, one_more groups address short.1 few)
@@ -83,15 +76,9 @@ one_more (group ∷ groups) address short few = (short.0, one_more groups addres
 untold_fits : (session : Option NetSession) → SessionFits session → SessionFits (untold session)
 untold_fits session given = grind arith
 
-pub joins_fits : (s : NetEndState) (joining : Joining) (t : NetEndState) → NetFits Initiator s → NetJoins s joining t → NetFits Initiator t
-joins_fits s joining t given joins = grind (arith, one_more, untold_fits)
-
 -- AN EVENT
 abbrev pub BothFit : NetLaneState → Type 0
 BothFit s = NetFits Initiator s.guest × NetFits Responder s.hub
 
-resets_fit : (e : End) (event : NetEvent) (s : NetLaneState) (lost : ℕ) (t : NetLaneState) → BothFit s → Resets e event s lost t → BothFit t
-resets_fit e event s lost t given resets = grind (arith, joined_fits)
-
 pub event_fits : (s : NetLaneState) (event : NetEvent) (t : NetLaneState) → NetLaneStep s event t → BothFit s → BothFit t
-event_fits s event t step given = grind (arith, step_fits, resets_fit, gives_fits, joins_fits)
+event_fits s event t step given = grind (arith, step_fits, joined_fits, same_fits, one_more, untold_fits)

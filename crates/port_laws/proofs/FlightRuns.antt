@@ -1,14 +1,12 @@
 -- Along every run of a port that nobody forged few packets wait and are still to be put.
-use Rattle.std.proofs.Common.{◌≡◌, ℕ, ◌+◌, ◌*◌, ◌≤◌, Bool, true, false, Option, Some, List, [], refl, sym, subst, ap, ◌∙◌, arith}
+use Rattle.std.proofs.Common.{◌≡◌, ℕ, ◌+◌, ◌*◌, ◌≤◌, Bool, true, false, Option, List, [], refl, subst, ap, ◌∙◌, arith}
 use Rattle.std.specs.Prelude.{is_some, ⊤}
 use Rattle.ldc_link.specs.declared.phase.Role.{Role}
 use Rattle.ldc_link.specs.declared.phase.Role.TheVariants.{Initiator, Responder}
-use Rattle.ldc_packet.specs.declared.packet.Subtype.{Subtype}
 use Rattle.ldc_queue.specs.declared.end.End.{End}
 use Rattle.ldc_queue.specs.declared.end.End.TheVariants.{A, B}
 use Rattle.runs.specs.Lawful.{run_lawful}
 use Rattle.runs.specs.Run.{Run}
-use Rattle.vio_tag.specs.declared.message.MsgBody.{MsgBody}
 use Rattle.channel_model.specs.TranscriptLog.{transcript_of}
 use Rattle.channel_laws.proofs.Lifting.{stand_run}
 use Rattle.channel_laws.proofs.PacketsTaken.{unforged_took}
@@ -31,7 +29,6 @@ use Rattle.port_laws.specs.NetCore.{lane_core, more_of, one_if}
 use Rattle.port_laws.specs.PortCore.{port_core, port_event, port_events}
 use Rattle.port_laws.proofs.CoreLaws.{offers_match, sizes_fit}
 use Rattle.port_laws.proofs.FlightSums.{FewFly, Known, Spends, TakeSpends, step_few}
-use Rattle.port_laws.proofs.MessageDoes.{MessageDoes}
 use Rattle.port_laws.proofs.PortCounts.{PortCounts, Ready, counts_step, port_counts, ready_before}
 use Rattle.port_laws.proofs.PortRuns.{before_core, fresh_port_core, port_fits_behind, port_step_core}
 use Rattle.port_laws.proofs.RuleFrames.{end_acts}
@@ -48,12 +45,8 @@ RisesBy s (Resets cause) = ⊤
 same_rises : (session : Option NetSession) → Rises session session
 same_rises session = omega arith
 
-does_rise : (role : Role) (s : NetEndState) (p : NetSession) (memory : List ℕ) (subtype : Subtype) (b : MsgBody) (t : NetEndState) (new : List ℕ) → s.session ≡ Some p
-    → MessageDoes role s p memory subtype b t new → Rises (Some p) t.session
-does_rise role s p memory subtype b t new is given = grind (arith, same_rises)
-
 take_rises : (role : Role) (s : NetEndState) (memory : List ℕ) (take : NetTake) → TookWhat role s memory take → RisesBy s take
-take_rises role s memory take given = grind (arith, same_rises, does_rise)
+take_rises role s memory take given = grind (arith, same_rises)
 
 -- THE END after its step
 left_end : (e : End) (left : NetLeft) (u : NetLaneState) (event : NetEvent) → net_end e (record (with_left e left u) { wire = net_wire event u }) ≡ left.end
@@ -67,8 +60,7 @@ took_rises : (shape : NetShape) (e : End) (u : PortState) (l : PortLog) (packet 
 took_rises shape e u l packet opens t ready step =
     let s : NetEndState = net_end e u.lane in
     let acting = end_acts shape e u l ready (says_of (role_at e) s (seen_at e u.lane) (Takes packet) step.step.0).0.up in
-    subst (λ (x : NetEndState). Rises s.session x.session) (sym (end_left e u.lane packet opens t step))
-    (take_rises (role_at e) s _ (GoesOn step.left.end opens step.left.own)
+    rw (end_left e u.lane packet opens t step) (take_rises (role_at e) s _ (GoesOn step.left.end opens step.left.own)
     (took_what (role_at e) s (transcript_of e l.transcript) _ packet (GoesOn step.left.end opens step.left.own) acting.ends step.step.1))
 
 -- a guest's session opens with two messages to begin

@@ -7,7 +7,7 @@ use Rattle.ldc_link.specs.declared.phase.Role.TheVariants.{Initiator, Responder}
 use Rattle.ldc_queue.specs.declared.end.ChannelState.{ChannelState}
 use Rattle.ldc_queue.specs.declared.end.ChannelState.TheVariants.{Down, Resetting, Up}
 use Rattle.ldc_queue.specs.declared.end.End.TheVariants.{A, B}
-use Rattle.ldc_queue.specs.Transcript.{Turn}
+use Rattle.ldc_queue.specs.Transcript.{Utterance}
 use Rattle.ldc_queue.specs.Wire.{peer_behind, queue_behind, upset}
 use Rattle.vio_tag.specs.declared.cause.Cause.{Cause}
 use Rattle.channel_model.specs.TranscriptLog.{TranscriptLog}
@@ -69,14 +69,14 @@ holds_open : (c held : EndCore) (what : Holding) → Holds c what held → held.
 holds_open c held HoldsOn still = ap (λ (x : EndCore). x.is_open) still.is
 holds_open c held _ offers = offers.is_open
 
-waits_spent : (role : Role) (c t : EndCore) (turns : List Turn) → EndStands role c turns → EndWaits c t → spent t + 2 * one_if c.is_open ≤ spent c + 2 * one_if t.is_open
+waits_spent : (role : Role) (c t : EndCore) (turns : List Utterance) → EndStands role c turns → EndWaits c t → spent t + 2 * one_if c.is_open ≤ spent c + 2 * one_if t.is_open
 waits_spent role c t turns stands waits = grind (arith, waits_left, holds_open)
 
 -- a message of its session is none by which that opens
 shut_own : (c held : EndCore) (what : Holding) → c.is_open ≡ false → Holds c what held → own_in what ≡ 0
 shut_own c held what shut offers = grind (arith, true_false)
 
-pub says_spent : (role : Role) (c t : EndCore) (turns : List Turn) (packet : List ℕ) (opens : Bool) → EndStands role c turns → (says : EndSays role c packet opens t) → (role ≡ Initiator → opens ≡ true → t.more ≤ 2)
+pub says_spent : (role : Role) (c t : EndCore) (turns : List Utterance) (packet : List ℕ) (opens : Bool) → EndStands role c turns → (says : EndSays role c packet opens t) → (role ≡ Initiator → opens ≡ true → t.more ≤ 2)
     → spent t + 1 + 2 * one_if c.is_open ≤ spent c + 2 * one_if t.is_open
 says_spent role c t turns packet opens stands says few = by_role role opens stands says few
   where
@@ -185,9 +185,7 @@ event_few s t (OnChannel (Joined B lost)) known step spends clean few =
     (a_rests s.wire s.a t.a s.b step.a few)
 event_few s t (OnChannel (Reset A cause packet lost)) known step spends clean few =
     let none = resets_none (giver cause) Initiator s.a t.a cause packet step.a in
-    a_begins s.wire s.a t.a t.b
-    (anew_spent Initiator s.a t.a known.ends.a.handshake known.a_rings none (resets_anew (giver cause) Initiator s.a t.a known.transcript.client cause packet known.ends.a step.a))
-    (b_rests s.wire s.a s.b t.b step.b few)
+    grind (arith, none, a_begins, anew_spent, resets_anew, b_rests)
 event_few s t (OnChannel (Reset B cause packet lost)) known step spends clean few =
     let none = resets_none (giver cause) Responder s.b t.b cause packet step.b in
     b_begins s.wire t.a s.b t.b
@@ -205,8 +203,7 @@ event_few s t (OnChannel (Sent A packet opens)) known step spends clean few =
     (b_rests s.wire s.a s.b t.b step.b few)
 event_few s t (OnChannel (Sent B packet opens)) known step spends clean few =
     let says = says_spent Responder s.b t.b known.transcript.server packet opens known.ends.b step.b (λ role. absurd (cc role)) in
-    b_acts s.wire (length (s.wire.wire.to_a ++ packet ∷ []) + length s.wire.wire.to_b) t.a s.b t.b step.stands.0 (omega (arith, says, length-append s.wire.wire.to_a (packet ∷ [])))
-    (a_rests s.wire s.a t.a s.b step.a few)
+    grind (arith, b_acts, length-append, a_rests)
 event_few s t (OnChannel (Blocked A)) known step spends clean few =
     a_acts s.wire (length s.wire.wire.to_a + length s.wire.wire.to_b) s.a t.a t.b step.stands.0 (omega (arith, waits_spent Initiator s.a t.a known.transcript.client known.ends.a step.a))
     (b_rests s.wire s.a s.b t.b step.b few)

@@ -1,15 +1,15 @@
 -- The message of its session that an end of a port forms, and that it puts: what it says, and what the end notes of it.
-use Rattle.std.proofs.Common.{◌≡◌, ℕ, ◌+◌, ◌^◌, ◌<◌, Bool, true, false, Option, Some, None, List, [], ◌∷◌, ◌++◌, length, inl, inr, refl, sym, subst, ap, ◌∙◌, arith}
+use Rattle.std.proofs.Common.{◌≡◌, ℕ, ◌+◌, ◌^◌, ◌<◌, Bool, true, false, Option, Some, None, List, [], ◌∷◌, ◌++◌, inl, inr, refl, sym, subst, ap, ◌∙◌, arith, length}
 use Rattle.std.specs.Prelude.{◌%◌, is_none}
 use Rattle.std.proofs.lemmas.Bool.{leb-false}
 use Rattle.cookie_copy.specs.Reach.{Reach}
 use Rattle.ldc_link.specs.Calls.{Puts as PutsPacket}
 use Rattle.ldc_link.specs.declared.phase.Role.{Role}
 use Rattle.ldc_link.specs.declared.phase.Role.TheVariants.{Initiator}
-use Rattle.ldc_link.specs.LinkState.{LinkState, is_established, is_up}
+use Rattle.ldc_link.specs.LinkState.{LinkState, is_up, is_established}
 use Rattle.ldc_link.specs.Putting.{behind_put, owes}
 use Rattle.ldc_packet.specs.declared.packet.Subtype.TheVariants.{Ack, Info}
-use Rattle.ldc_queue.specs.Transcript.{Said, Turn}
+use Rattle.ldc_queue.specs.Transcript.{Said, Utterance}
 use Rattle.vio_handshake.specs.declared.handshake.Handshake.{Handshake}
 use Rattle.vio_tag.proofs.Canonical.{length_canonical}
 use Rattle.vio_tag.specs.declared.message.Message.{Message}
@@ -17,9 +17,9 @@ use Rattle.vio_tag.specs.Spelling.{canonical}
 use Rattle.channel_model.specs.Ranges.{wrapped}
 use Rattle.channel_model.specs.Sayings.{half_said, said}
 use Rattle.channel_model.specs.Seeing.{Seen}
-use Rattle.channel_laws.proofs.EndCases.{PutControl, PutHandshake, PutMore, PutOwn, PutReady, PutWhat, end_put, put_down}
+use Rattle.channel_laws.proofs.EndCases.{PutOwn, PutWhat, end_put, put_down, PutControl, PutHandshake, PutMore, PutReady}
 use Rattle.channel_laws.proofs.EndResting.{held_handshake}
-use Rattle.channel_laws.proofs.EndStanding.{stands_step}
+use Rattle.channel_laws.proofs.EndStanding.{stands_step, last_none}
 use Rattle.channel_laws.specs.EndCore.{Waits}
 use Rattle.channel_laws.specs.Standing.{EndStands}
 use Rattle.port_model.proofs.Refuting.{none_some, of_some, true_false}
@@ -39,7 +39,7 @@ use Rattle.port_laws.proofs.EndMoves.{HeldCore, held_core, puts_behind, says_cor
 use Rattle.port_laws.proofs.HearsIn.{AllAgreed}
 use Rattle.port_laws.proofs.HeldCounts.{held_counts}
 use Rattle.port_laws.proofs.Outbox.{SaysRange, says_range}
-use Rattle.port_laws.proofs.PutCounts.{own_half, own_short, put_empty, put_end, short_left, shut_put}
+use Rattle.port_laws.proofs.PutCounts.{own_half, own_short, put_empty, put_end, shut_put}
 use Rattle.port_laws.proofs.StepCounts.{Acting}
 use Rattle.port_laws.proofs.TookCounts.{free_empty, session_up}
 
@@ -108,7 +108,7 @@ formed_by role sid s at reach (Announces q) held p may is same =
 formed_by role sid s at reach _ held p may is same = none_some held same
 
 -- IT PUTS the message that it holds, whole in one packet
-pub record PutsIt (held t : NetEndState) (turns : List Turn) (packet : List ℕ) : Type 0 where
+pub record PutsIt (held t : NetEndState) (turns : List Utterance) (packet : List ℕ) : Type 0 where
   pub message : List ℕ
   pub was : unsaid held ≡ Some message
   pub says : said (Said packet ∷ turns) ≡ said turns ++ message ∷ []
@@ -117,7 +117,7 @@ pub record PutsIt (held t : NetEndState) (turns : List Turn) (packet : List ℕ)
   pub groups : t.groups ≡ held.groups
   pub handshake : t.handshake ≡ held.handshake
 
-puts_own : (role : Role) (slots : ℕ) (queue : List (List ℕ)) (held : NetEndState) (l : EndLog) (turns : List Turn) (packet : List ℕ) (q : NetSession) → EndCounts role slots queue held l
+puts_own : (role : Role) (slots : ℕ) (queue : List (List ℕ)) (held : NetEndState) (l : EndLog) (turns : List Utterance) (packet : List ℕ) (q : NetSession) → EndCounts role slots queue held l
     → EndStands role (net_core role held) turns → held.session ≡ Some q → is_none held.handshake.owed ≡ true → is_up held.link ≡ true
     → PutWhat role (net_core role held) turns packet (net_opens held) (net_core role (net_put role held)) → PutsIt held (net_put role held) turns packet
 puts_own role slots queue held l turns packet q counts stands session owns up (PutControl next gone link says same shut is_open) =
@@ -131,18 +131,10 @@ puts_own role slots queue held l turns packet q counts stands session owns up (P
     let left : unsaid held ≡ Some held.link.to_send = own_left (is_none held.handshake.owed) held.link.to_send own says.some in
     let none : half_said turns ≡ [] = own_half role slots queue held l turns q counts stands session left in
     let put_is : net_put role held ≡ put_end held = shut_put role (net_opens held) (put_end held) shut in
-    let empty : (net_core role (net_put role held)).link.to_send ≡ [] = ap (λ (x : LinkState). x.to_send) link ∙ short_left held.link turns packet says in
-    record {
-      message = held.link.to_send;
-      was = left;
-      says = says.messages ∙ ap (λ (xs : List ℕ). said turns ++ (xs ++ held.link.to_send) ∷ []) none;
-      none = ap unsaid put_is ∙ put_empty role held shut empty;
-      session = ap (λ (x : NetEndState). x.session) put_is;
-      groups = ap (λ (x : NetEndState). x.groups) put_is;
-      handshake = same;
-    }
+    let empty : (net_core role (net_put role held)).link.to_send ≡ [] = ap (λ (x : LinkState). x.to_send) link ∙ last_none held.link turns packet says in
+    grind (arith, put_empty)
 
-pub sends_own : (role : Role) (slots : ℕ) (queue : List (List ℕ)) (s : NetEndState) (l : EndLog) (turns : List Turn) (at : Seen) (memory : List ℕ) (reach : Reach) (packet : List ℕ) (opens : Bool)
+pub sends_own : (role : Role) (slots : ℕ) (queue : List (List ℕ)) (s : NetEndState) (l : EndLog) (turns : List Utterance) (at : Seen) (memory : List ℕ) (reach : Reach) (packet : List ℕ) (opens : Bool)
     (t : NetLeft) (q : NetSession) → Acting role slots queue s l turns → (step : NetSends role s at memory reach packet opens t) → s.handshake.owed ≡ None → step.held.session ≡ Some q
     → PutsIt step.held t.end turns packet
 sends_own role slots queue s l turns at memory reach packet opens t q acting step owed session =
@@ -161,11 +153,11 @@ sends_own role slots queue s l turns at memory reach packet opens t q acting ste
     (puts_own role slots queue held l turns packet q counts stands session owns (session_up role held turns q stands session) what)
 
 -- AN END THAT OPENS by a packet holds nothing of its session then
-opens_empty : (role : Role) (held : NetEndState) (turns : List Turn) (packet : List ℕ) → net_opens held ≡ true → PutWhat role (net_core role held) turns packet (net_opens held) (net_core role (net_put role held))
+opens_empty : (role : Role) (held : NetEndState) (turns : List Utterance) (packet : List ℕ) → net_opens held ≡ true → PutWhat role (net_core role held) turns packet (net_opens held) (net_core role (net_put role held))
     → (net_put role held).link.to_send ≡ []
-opens_empty role held turns packet opens given = grind (arith, true_false, short_left)
+opens_empty role held turns packet opens given = grind (arith, true_false, last_none)
 
-pub opens_unsaid : (role : Role) (slots : ℕ) (queue : List (List ℕ)) (s : NetEndState) (l : EndLog) (turns : List Turn) (at : Seen) (memory : List ℕ) (reach : Reach) (packet : List ℕ) (opens : Bool)
+pub opens_unsaid : (role : Role) (slots : ℕ) (queue : List (List ℕ)) (s : NetEndState) (l : EndLog) (turns : List Utterance) (at : Seen) (memory : List ℕ) (reach : Reach) (packet : List ℕ) (opens : Bool)
     (t : NetLeft) → Acting role slots queue s l turns → NetSends role s at memory reach packet opens t → opens ≡ true → unsaid t.end ≡ None
 opens_unsaid role slots queue s l turns at memory reach packet opens t acting step is =
     let held : NetEndState = step.held in

@@ -7,14 +7,14 @@ use Rattle.ldc_queue.specs.declared.end.ChannelState.{ChannelState}
 use Rattle.ldc_queue.specs.declared.end.ChannelState.TheVariants.{Up}
 use Rattle.ldc_queue.specs.declared.end.End.{End}
 use Rattle.ldc_queue.specs.declared.end.End.TheVariants.{A, B}
-use Rattle.ldc_queue.specs.Transcript.{Turn}
+use Rattle.ldc_queue.specs.Transcript.{Utterance}
 use Rattle.ldc_queue.specs.Wire.{peer_behind, peer_of, state_of}
 use Rattle.runs.specs.Lawful.{log_of}
 use Rattle.runs.specs.Run.{Run}
 use Rattle.channel_model.specs.TranscriptLog.{transcript_of}
 use Rattle.channel_model.specs.WireLog.{WireLog}
 use Rattle.port_model.proofs.Refuting.{none_some, true_false}
-use Rattle.port_model.specs.EndLog.{EndLog, SessionLog, change, opened_log}
+use Rattle.port_model.specs.EndLog.{EndLog, SessionLog, change}
 use Rattle.port_model.specs.NetEndStep.{Frame, NetAnswer, NetLeft}
 use Rattle.port_model.specs.NetEvent.{Asked, CalmTick, Gives, Injects, Loses, NetEvent, Pokes, Steps, Ticked, on_wire}
 use Rattle.port_model.specs.NetLaneState.{IsNetShape, NetLaneState, NetShape}
@@ -50,32 +50,20 @@ behind_less x y o = grind arith
 theirs_less : (answer : NetAnswer) (x y : ChannelState) (o : Option SessionLog) → taken_by (theirs_now answer x y) o ≤ taken_by y o
 theirs_less answer x y o = grind (arith, behind_less)
 
-none_taken : (x : ChannelState) → taken_by x None ≡ 0
-none_taken x = grind arith
-
-one_more : (n : ℕ) (x : ChannelState) (f : SessionLog → SessionLog) (o : Option SessionLog) → ((w : SessionLog) → (f w).taken ≤ w.taken + n) → taken_by x (change f o) ≤ taken_by x o + n
-one_more n x f o less = grind arith
-
-opened_none : (x : ChannelState) (sid n : ℕ) → taken_by x (Some (opened_log sid)) ≤ n
-opened_none x sid n = grind arith
-
-mine_less : (slots : ℕ) (turns : List Turn) (answer : NetAnswer) (x : ChannelState) (l : EndLog) → taken_by (mine_now answer x) (after_answer slots turns answer l).session ≤ taken_by x l.session + frames_in answer
+mine_less : (slots : ℕ) (turns : List Utterance) (answer : NetAnswer) (x : ChannelState) (l : EndLog) → taken_by (mine_now answer x) (after_answer slots turns answer l).session ≤ taken_by x l.session + frames_in answer
 unfolding frames_in
-mine_less slots turns answer x l = grind (arith, opened_none, one_more, heard_taken, left_taken)
+mine_less slots turns answer x l = grind (arith, heard_taken, left_taken)
 
 -- THE LOG of the end itself: a session that opens published nothing; and where none is open after it, no more is gone than is lost
 never_changed : (f : SessionLog → SessionLog) (o : Option SessionLog) (v : SessionLog) (P : Type 0) → o ≡ None → change f o ≡ Some v → P
 never_changed f o v P none is = let made = changed f o v is in none_some made.0 (sym none ∙ made.1)
 
-opened_zero : (slots : ℕ) (turns : List Turn) (answer : NetAnswer) (l : EndLog) (v : SessionLog) → l.session ≡ None → (after_answer slots turns answer l).session ≡ Some v → v.published ≡ 0
+opened_zero : (slots : ℕ) (turns : List Utterance) (answer : NetAnswer) (l : EndLog) (v : SessionLog) → l.session ≡ None → (after_answer slots turns answer l).session ≡ Some v → v.published ≡ 0
 opened_zero slots turns answer l v none is = grind (arith, never_changed, none_some)
 
-shut_before : (f : SessionLog → SessionLog) (o : Option SessionLog) → ((v : SessionLog) → change f o ≡ Some v → ⊥) → o ≡ None
-shut_before f o never = grind arith
-
-own_gone : (slots : ℕ) (turns : List Turn) (answer : NetAnswer) (l : EndLog) → (Goes answer → (v : SessionLog) → (after_answer slots turns answer l).session ≡ Some v → ⊥)
+own_gone : (slots : ℕ) (turns : List Utterance) (answer : NetAnswer) (l : EndLog) → (Goes answer → (v : SessionLog) → (after_answer slots turns answer l).session ≡ Some v → ⊥)
     → (after_answer slots turns answer l).gone ≤ l.gone + lost_by answer
-own_gone slots turns answer l never = grind (arith, none_acked, shut_before)
+own_gone slots turns answer l never = grind (arith, none_acked)
 
 -- WHAT AN EVENT ADDS: so many frames at most are taken of an end's by it, or said to be lost
 record Adds (e d : End) (s t : NetLaneState) (l m : PortLog) (more : ℕ) : Type 0 where
@@ -85,33 +73,24 @@ record Adds (e d : End) (s t : NetLaneState) (l m : PortLog) (more : ℕ) : Type
 
 own_adds : (shape : NetShape) (e : End) (u t : PortState) (l : PortLog) (answer : NetAnswer) (left : NetLeft) (more : ℕ) → Acts shape e u t l answer left → lost_by answer ≤ more
     → Adds e (peer_of e) u.lane t.lane l (after l (OnLane (Steps e answer))) more
-own_adds shape e u t l answer left more acts less = record {
-  gone = λ never.
-      let most = own_gone l.shape.slots (transcript_of e l.transcript) answer (log_of_end e l) (λ goes v is. never (up goes) v (ap (λ (x : EndLog). x.session) log.mine ∙ is)) in
-      omega (arith, most, less, ap (λ (x : EndLog). x.gone) log.mine);
-  taken =
-      let same : taken_of (peer_of e) t.lane m ≡ taken_by (theirs_now answer x y) (log_of_end (peer_of e) l).session =
-      ap (λ (z : ChannelState). taken_by z (log_of_end (peer_of e) m).session) (ap (λ (w : WireLog). state_of (peer_of e) w.wire) acts.now.wire ∙ (wire_now e u.lane answer).theirs)
-      ∙ ap (λ (z : EndLog). taken_by (theirs_now answer x y) z.session) log.theirs in
-      let most = theirs_less answer x y (log_of_end (peer_of e) l).session in
-      omega (arith, same, most);
-  opened = λ v none is. opened_zero l.shape.slots (transcript_of e l.transcript) answer (log_of_end e l) v none (sym (ap (λ (z : EndLog). z.session) log.mine) ∙ is);
-}
-  where
-    m : PortLog
-    m = after l (OnLane (Steps e answer))
-
-    x : ChannelState
-    x = state_of e u.lane.wire.wire
-
-    y : ChannelState
-    y = state_of (peer_of e) u.lane.wire.wire
-
-    log : LogNow e l answer
-    log = log_now e l answer
-
-    up : Goes answer → state_of e t.lane.wire.wire ≡ Up
-    up goes = ap (λ (w : WireLog). state_of e w.wire) acts.now.wire ∙ (wire_now e u.lane answer).mine ∙ goes_same answer x goes ∙ acts_up_at shape e u t l answer left acts goes
+own_adds shape e u t l answer left more acts less =
+    let m : PortLog = after l (OnLane (Steps e answer)) in
+    let x : ChannelState = state_of e u.lane.wire.wire in
+    let y : ChannelState = state_of (peer_of e) u.lane.wire.wire in
+    let log : LogNow e l answer = log_now e l answer in
+    let up : Goes answer → state_of e t.lane.wire.wire ≡ Up = λ goes.
+    ap (λ (w : WireLog). state_of e w.wire) acts.now.wire ∙ (wire_now e u.lane answer).mine ∙ goes_same answer x goes ∙ acts_up_at shape e u t l answer left acts goes in
+    record {
+      gone = λ never.
+          let most = own_gone l.shape.slots (transcript_of e l.transcript) answer (log_of_end e l) (λ goes v is. never (up goes) v (ap (λ (x : EndLog). x.session) log.mine ∙ is)) in
+          omega (arith, most, less, ap (λ (x : EndLog). x.gone) log.mine);
+      taken =
+          let same : taken_of (peer_of e) t.lane m ≡ taken_by (theirs_now answer x y) (log_of_end (peer_of e) l).session =
+          ap (λ (z : ChannelState). taken_by z (log_of_end (peer_of e) m).session) (ap (λ (w : WireLog). state_of (peer_of e) w.wire) acts.now.wire ∙ (wire_now e u.lane answer).theirs)
+          ∙ ap (λ (z : EndLog). taken_by (theirs_now answer x y) z.session) log.theirs in
+          omega (arith, same, theirs_less answer x y (log_of_end (peer_of e) l).session);
+      opened = λ v none is. opened_zero l.shape.slots (transcript_of e l.transcript) answer (log_of_end e l) v none (sym (ap (λ (z : EndLog). z.session) log.mine) ∙ is);
+    }
 
 taker_adds : (shape : NetShape) (d : End) (u t : PortState) (l : PortLog) (answer : NetAnswer) (left : NetLeft) (more : ℕ) → Acts shape d u t l answer left → frames_in answer ≤ more
     → Adds (peer_of d) d u.lane t.lane l (after l (OnLane (Steps d answer))) more
@@ -123,7 +102,7 @@ anew_adds : (e d : End) (s t : NetLaneState) (l m : PortLog) (more : ℕ) → (l
 anew_adds e d s t l m more shut gone theirs peer = grind (arith, behind_less, none_some)
 
 other_anew : (e d : End) (s t : NetLaneState) (l m : PortLog) → log_of_end e m ≡ log_of_end e l → (log_of_end d m).session ≡ None → Adds e d s t l m 0
-other_anew e d s t l m same shut = grind (arith, none_taken, none_some)
+other_anew e d s t l m same shut = grind (arith, none_some)
 
 -- or neither of them
 still_adds : (e d : End) (s t : NetLaneState) (l m : PortLog) → state_of d t.wire.wire ≡ state_of d s.wire.wire → (log_of_end e m).session ≡ (log_of_end e l).session
@@ -236,14 +215,7 @@ module _ (shape : NetShape) (is : IsNetShape shape) where
   }
   along (event ∷ events) s t l by_end lost had run =
       let rest = along events run.0 t (after l event) (λ d. by_end d ++ took d event) (λ d. lost d + lost_at (peer_of d) event) (all_step s l event run.0 by_end lost had run.1) run.2 in
-      record {
-        gone = λ d clean.
-            (let less = rest.gone d clean in
-            let first = length-append (by_end d) (took d event) in
-            let both = length-append (took d event) (frames_taken d events) in
-            omega (arith, less, first, both));
-        wire = rest.wire;
-      }
+      grind (arith, length-append)
 
   fresh_all : All shape (fresh_port shape) (no_events shape) (λ d. []) (λ d. 0)
   fresh_all = grind (arith, fresh_once, none_some)
@@ -257,8 +229,7 @@ bounded : (n : ℕ) (frames given : List (List ℕ)) → n ≤ length given → 
 bounded n [] given within order = omega (arith, within)
 bounded n (frame ∷ frames) given within order =
     let there = slice_get_within given order.0 frame order.2 in
-    let rest = bounded (order.0 + 1) frames given (omega (arith, there)) order.3 in
-    omega (arith, rest, order.1)
+    omega (arith, bounded (order.0 + 1) frames given (omega (arith, there)) order.3, order.1)
 
 none_left : (n : ℕ) (given : List (List ℕ)) → length given ≤ n → drop n given ≡ []
 none_left zero [] less = refl
@@ -310,11 +281,11 @@ all_taken taken given held lost order all none empty = grind (arith, in_order_al
 pub guest_all : (shape : NetShape) (events : List PortEvent) (s : PortState) → IsNetShape shape → Run PortStep (fresh_port shape) events s → s.lane.wire.forged ≡ false
     → frames_lost A events ≡ 0 → s.lane.guest.frames ≡ [] → frames_taken B events ≡ (log_of after (no_events shape) events).guest.given
 guest_all shape events s is run clean none empty =
-    all_taken (frames_taken B events) (log_of after (no_events shape) events).guest.given s.lane.guest.frames (frames_lost A events) (hub_takes_in_order shape events s is run clean)
+    all_taken _ _ _ _ (hub_takes_in_order shape events s is run clean)
     (guest_counted shape events s is run clean) none empty
 
 pub hub_all : (shape : NetShape) (events : List PortEvent) (s : PortState) → IsNetShape shape → Run PortStep (fresh_port shape) events s → s.lane.wire.forged ≡ false
     → frames_lost B events ≡ 0 → s.lane.hub.frames ++ s.queue ≡ [] → frames_taken A events ≡ (log_of after (no_events shape) events).hub.given
 hub_all shape events s is run clean none empty =
-    all_taken (frames_taken A events) (log_of after (no_events shape) events).hub.given (s.lane.hub.frames ++ s.queue) (frames_lost B events) (guest_takes_in_order shape events s is run clean)
+    all_taken _ _ _ _ (guest_takes_in_order shape events s is run clean)
     (hub_counted shape events s is run clean) none empty

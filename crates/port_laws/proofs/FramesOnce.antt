@@ -1,13 +1,13 @@
 -- On a port that nobody forged the frames that an end took are frames that the other end was given, in their order, each at most once. The
 -- place of the next one among those given never falls, and rises with each frame that is taken.
 use Rattle.std.proofs.Common.{◌≡◌, ℕ, ◌+◌, ◌-◌, ◌≤◌, ◌⊎◌, inl, inr, true, false, Option, Some, None, List, [], ◌∷◌, ◌++◌, refl, sym, subst, ap, ◌∙◌, arith, append_assoc}
-use Rattle.std.specs.Prelude.{is_some, slice_get}
+use Rattle.std.specs.Prelude.{slice_get}
 use Rattle.std.proofs.lemmas.List.{append-nil}
 use Rattle.ldc_queue.specs.declared.end.ChannelState.{ChannelState}
 use Rattle.ldc_queue.specs.declared.end.ChannelState.TheVariants.{Up}
 use Rattle.ldc_queue.specs.declared.end.End.{End}
 use Rattle.ldc_queue.specs.declared.end.End.TheVariants.{A, B}
-use Rattle.ldc_queue.specs.Transcript.{Turn}
+use Rattle.ldc_queue.specs.Transcript.{Utterance}
 use Rattle.ldc_queue.specs.Wire.{peer_behind, peer_of, state_of}
 use Rattle.runs.specs.Lawful.{log_of}
 use Rattle.runs.specs.Run.{Run}
@@ -84,46 +84,24 @@ pub record Bounds (e d : End) (s : NetLaneState) (l : PortLog) : Type 0 where
   pub shut : (log_of_end e l).session ≡ None → (log_of_end e l).published ≡ (log_of_end e l).gone
 
 pub bounds : (shape : NetShape) (d : End) (s : PortState) (l : PortLog) → Finds shape s l → Bounds (peer_of d) d s.lane l
-bounds shape d s l finds = record { within = within; counted = counted; shut = shut }
-  where
-    e : End
-    e = peer_of d
-
-    f : NetEndState
-    f = net_end e s.lane
-
-    lost : (v : SessionLog) (p : NetSession) → (log_of_end e l).session ≡ Some v → f.session ≡ Some p → p.published - p.seen ≡ v.published - v.seen
-    lost v p log is =
-        sym (ap unseen is) ∙ lost_log (role_at e) shape.slots (queue_of e s) f (log_of_end e l) (end_counted shape e s l finds.ready) ∙ ap lost_in log
-
-    within : (v : SessionLog) → state_of e s.lane.wire.wire ≡ Up → (log_of_end e l).session ≡ Some v → (v.seen ≤ taken_of d s.lane l) × (taken_of d s.lane l ≤ v.published)
-    within v up log =
-        let both = both_open (role_at e) shape.slots (queue_of e s) f (log_of_end e l) v (end_counted shape e s l finds.ready) log in
-        let ring : RingHolds l.shape.slots both.p.seen (taken_of d s.lane l) both.p.published f.frames (memory_of e s.lane) =
-        subst (λ (x : Option NetSession). RingIn l.shape.slots (taken_of d s.lane l) x f.frames (memory_of e s.lane)) both.is (peer_ring_of d s.lane l finds.rings up) in
-        let seen : both.p.seen ≡ v.seen = sym both.open_is.counts.ring.seen ∙ left_seen (unsaid f) both.open_is.of_log ∙ ap (λ (x : SessionLog). x.seen) both.same in
-        let first = ring.seen_first in
-        let most = ring.taken_first in
-        let within_log = seen_within (role_at e) shape.slots (queue_of e s) f (log_of_end e l) v (end_counted shape e s l finds.ready) (end_stood shape e s l finds.ready) log in
-        (omega (arith, first, seen), omega (arith, first, most, seen, within_log, lost v both.p log both.is))
-
-    counted : (v : SessionLog) → (log_of_end e l).session ≡ Some v → (log_of_end e l).published ≡ (log_of_end e l).gone + (v.published - v.seen)
-    counted v log =
-        let both = both_open (role_at e) shape.slots (queue_of e s) f (log_of_end e l) v (end_counted shape e s l finds.ready) log in
-        let ring = both.open_is.counts.ring in
-        let all = ring.all in
-        let left = ring.left in
-        let stands = (counts_stand f both.p (end_stood shape e s l finds.ready) both.is).seen in
-        omega (arith, all, left, stands, lost v both.p log both.is)
-
-    shut : (log_of_end e l).session ≡ None → (log_of_end e l).published ≡ (log_of_end e l).gone
-    shut none = (shut_counts (role_at e) shape.slots (queue_of e s) f (log_of_end e l) (end_counted shape e s l finds.ready) (by_session f.session refl)).gone_all
-      where
-        by_session : (session : Option NetSession) → f.session ≡ session → f.session ≡ None
-        by_session None is = is
-        by_session (Some p) is =
-            let both = open_both (role_at e) shape.slots (queue_of e s) f (log_of_end e l) (end_counted shape e s l finds.ready) in
-            true_false (sym (ap is_some is) ∙ both.shut none)
+bounds shape d s l finds =
+    let e : End = peer_of d in
+    let f : NetEndState = net_end e s.lane in
+    let lost : (v : SessionLog) (p : NetSession) → (log_of_end e l).session ≡ Some v → f.session ≡ Some p → p.published - p.seen ≡ v.published - v.seen = λ v p log is.
+    sym (ap unseen is) ∙ lost_log (role_at e) shape.slots (queue_of e s) f (log_of_end e l) (end_counted shape e s l finds.ready) ∙ ap lost_in log in
+    let within : (v : SessionLog) → state_of e s.lane.wire.wire ≡ Up → (log_of_end e l).session ≡ Some v → (v.seen ≤ taken_of d s.lane l) × (taken_of d s.lane l ≤ v.published) = λ v up log.
+    let both = both_open (role_at e) shape.slots (queue_of e s) f (log_of_end e l) v (end_counted shape e s l finds.ready) log in
+    let ring : RingHolds l.shape.slots both.p.seen (taken_of d s.lane l) both.p.published f.frames (memory_of e s.lane) =
+    subst (λ (x : Option NetSession). RingIn l.shape.slots (taken_of d s.lane l) x f.frames (memory_of e s.lane)) both.is (peer_ring_of d s.lane l finds.rings up) in
+    let seen : both.p.seen ≡ v.seen = sym both.open_is.counts.ring.seen ∙ left_seen (unsaid f) both.open_is.of_log ∙ ap (λ (x : SessionLog). x.seen) both.same in
+    let first = ring.seen_first in
+    let within_log = seen_within (role_at e) shape.slots (queue_of e s) f (log_of_end e l) v (end_counted shape e s l finds.ready) (end_stood shape e s l finds.ready) log in
+    (omega (arith, first, seen), omega (arith, first, ring.taken_first, seen, within_log, lost v both.p log both.is)) in
+    let counted : (v : SessionLog) → (log_of_end e l).session ≡ Some v → (log_of_end e l).published ≡ (log_of_end e l).gone + (v.published - v.seen) = λ v log.
+    grind (arith, lost, both_open, end_counted, counts_stand, end_stood) in
+    let shut : (log_of_end e l).session ≡ None → (log_of_end e l).published ≡ (log_of_end e l).gone = λ none.
+    grind (arith, shut_counts, end_counted, open_both, true_false) in
+    record { within = within; counted = counted; shut = shut }
 
 -- WHAT AN EVENT DOES to the end's log, where it is up and in session after it: the session opened, or it stayed
 pub data Change (e d : End) (s t : NetLaneState) (l m : PortLog) (v : SessionLog) : Type 0 where
@@ -143,12 +121,8 @@ place_most _ _ gone published taken open_is = omega arith
 shut_place : (x : ChannelState) (session : Option SessionLog) (gone published taken : ℕ) → session ≡ None → place_by x session gone published taken ≤ published
 shut_place x session gone published taken none = grind (arith, none_some)
 
-place_less : (n : ℕ) (x : ChannelState) (session : Option SessionLog) (gone published taken : ℕ) → n ≤ published → ((v : SessionLog) → x ≡ Up → session ≡ Some v → n ≤ gone + (taken - v.seen))
-    → n ≤ place_by x session gone published taken
-place_less n x session gone published taken most inside = grind arith
-
 rises : (e d : End) (s t : NetLaneState) (l m : PortLog) → Bounds e d s l → Bounds e d t m → Moves e d s t l m → place e d s l ≤ place e d t m
-rises e d s t l m was now moves = grind (arith, place_less, place_most, shut_place)
+rises e d s t l m was now moves = grind (arith, place_most, shut_place)
 
 -- A STEP OF AN END, by its own log
 pub changed : (f : SessionLog → SessionLog) (session : Option SessionLog) (v : SessionLog) → change f session ≡ Some v → (w : SessionLog) × (session ≡ Some w) × (f w ≡ v)
@@ -172,7 +146,7 @@ data OwnLog (l m : EndLog) (v : SessionLog) : Type 0 where
   LogOpened : l.session ≡ None → m.gone ≡ l.gone → OwnLog l m v
   LogStayed : (w : SessionLog) → OwnChange l m v w → OwnLog l m v
 
-own_log : (slots : ℕ) (turns : List Turn) (answer : NetAnswer) (l : EndLog) (v : SessionLog) → Goes answer → (opens_by answer ≡ true → l.session ≡ None) → (after_answer slots turns answer l).session ≡ Some v
+own_log : (slots : ℕ) (turns : List Utterance) (answer : NetAnswer) (l : EndLog) (v : SessionLog) → Goes answer → (opens_by answer ≡ true → l.session ≡ None) → (after_answer slots turns answer l).session ≡ Some v
     → OwnLog l (after_answer slots turns answer l) v
 own_log slots turns (Took packet true) l v goes shut is =
     let none = none_acked slots (ended_by (half_heard turns) packet) l.session (shut refl) in LogOpened (shut refl) (omega (arith, none))
@@ -197,14 +171,14 @@ own_log slots turns (Joined lost) l v goes shut is = absurd goes
 own_log slots turns (Reset cause packet lost) l v goes shut is = absurd goes
 own_log slots turns _ l v goes shut is = LogStayed v (record { was = is; gone = refl })
 
-own_grows : (slots : ℕ) (turns : List Turn) (answer : NetAnswer) (l : EndLog) → l.published ≤ (after_answer slots turns answer l).published
+own_grows : (slots : ℕ) (turns : List Utterance) (answer : NetAnswer) (l : EndLog) → l.published ≤ (after_answer slots turns answer l).published
 own_grows slots turns answer l = grind arith
 
 -- how many frames it took
 change_taken : (f : SessionLog → SessionLog) (n : ℕ) (session : Option SessionLog) → ((w : SessionLog) → w.taken + n ≤ (f w).taken) → taken_in session ≤ taken_in (change f session)
 change_taken f n session more = grind arith
 
-taken_grows : (slots : ℕ) (turns : List Turn) (answer : NetAnswer) (l : EndLog) → Goes answer → (opens_by answer ≡ true → l.session ≡ None) → taken_in l.session ≤ taken_in (after_answer slots turns answer l).session
+taken_grows : (slots : ℕ) (turns : List Utterance) (answer : NetAnswer) (l : EndLog) → Goes answer → (opens_by answer ≡ true → l.session ≡ None) → taken_in l.session ≤ taken_in (after_answer slots turns answer l).session
 taken_grows slots turns answer l goes shut = grind (arith, change_taken, heard_taken, left_taken)
 
 -- THE END ITSELF makes a step
@@ -229,26 +203,19 @@ own_moves shape e u t l answer left acts = record { grows = grows; changes = cha
     grows = omega (arith, own_grows l.shape.slots (transcript_of e l.transcript) answer (log_of_end e l), ap (λ (x : EndLog). x.published) log.mine)
 
     changes : (v : SessionLog) → state_of e t.lane.wire.wire ≡ Up → (log_of_end e m).session ≡ Some v → Change e (peer_of e) u.lane t.lane l m v
-    changes v up is = by_log (own_log l.shape.slots (transcript_of e l.transcript) answer (log_of_end e l) v goes (acts_none shape e u t l answer left acts) here)
-      where
-        here : now.session ≡ Some v
-        here = ap (λ (x : EndLog). x.session) (sym log.mine) ∙ is
-
-        goes : Goes answer
-        goes = guest_goes l.shape.slots (transcript_of e l.transcript) answer (log_of_end e l) (λ gone. none_some v (sym gone ∙ here))
-
-        state : state_of (peer_of e) t.lane.wire.wire ≡ state_of (peer_of e) u.lane.wire.wire
-        state =
-            ap (λ (w : WireLog). state_of (peer_of e) w.wire) acts.now.wire ∙ (wire_now e u.lane answer).theirs
-            ∙ goes_theirs answer (state_of e u.lane.wire.wire) (state_of (peer_of e) u.lane.wire.wire) goes
-
-        same : taken_of (peer_of e) t.lane m ≡ taken_of (peer_of e) u.lane l
-        same = ap (λ (x : ChannelState). taken_by x (log_of_end (peer_of e) m).session) state ∙ ap (λ (x : EndLog). taken_by (state_of (peer_of e) u.lane.wire.wire) x.session) log.theirs
-
-        by_log : OwnLog (log_of_end e l) now v → Change e (peer_of e) u.lane t.lane l m v
-        by_log (LogOpened none gone) = Opened none (ap (λ (x : EndLog). x.gone) log.mine ∙ gone)
-        by_log (LogStayed w change_is) =
-            Stayed w (acts_up_at shape e u t l answer left acts goes) change_is.was (omega (arith, change_is.gone, ap (λ (x : EndLog). x.gone) log.mine)) (omega (arith, same))
+    changes v up is =
+        let here : now.session ≡ Some v = ap (λ (x : EndLog). x.session) (sym log.mine) ∙ is in
+        let goes : Goes answer =
+        guest_goes l.shape.slots (transcript_of e l.transcript) answer (log_of_end e l) (λ gone. none_some v (sym gone ∙ here)) in
+        let state : state_of (peer_of e) t.lane.wire.wire ≡ state_of (peer_of e) u.lane.wire.wire =
+        grind (arith, goes, wire_now, goes_theirs) in
+        let same : taken_of (peer_of e) t.lane m ≡ taken_of (peer_of e) u.lane l =
+        ap (λ (x : ChannelState). taken_by x (log_of_end (peer_of e) m).session) state ∙ ap (λ (x : EndLog). taken_by (state_of (peer_of e) u.lane.wire.wire) x.session) log.theirs in
+        elim (own_log l.shape.slots (transcript_of e l.transcript) answer (log_of_end e l) v goes (acts_none shape e u t l answer left acts) here) [
+          | LogOpened none gone ↦ Opened none (ap (λ (x : EndLog). x.gone) log.mine ∙ gone)
+          | LogStayed w change_is ↦
+              Stayed w (acts_up_at shape e u t l answer left acts goes) change_is.was (omega (arith, change_is.gone, ap (λ (x : EndLog). x.gone) log.mine)) (omega (arith, same))
+        ]
 
 -- THE OTHER END, which takes its frames, is reset, or makes a step
 anew_moves : (e d : End) (s t : NetLaneState) (l m : PortLog) → log_of_end e m ≡ log_of_end e l → state_of e t.wire.wire ≡ peer_behind (state_of d s.wire.wire) (state_of e s.wire.wire)
@@ -266,38 +233,29 @@ begins_or_goes answer x y = grind arith
 
 taker_moves : (shape : NetShape) (d : End) (u t : PortState) (l : PortLog) (answer : NetAnswer) (left : NetLeft) → Acts shape d u t l answer left
     → Moves (peer_of d) d u.lane t.lane l (after l (OnLane (Steps d answer)))
-taker_moves shape d u t l answer left acts = by_way (begins_or_goes answer x y)
-  where
-    m : PortLog
-    m = after l (OnLane (Steps d answer))
-
-    x : ChannelState
-    x = state_of d u.lane.wire.wire
-
-    y : ChannelState
-    y = state_of (peer_of d) u.lane.wire.wire
-
-    log : LogNow d l answer
-    log = log_now d l answer
-
-    state : state_of (peer_of d) t.lane.wire.wire ≡ theirs_now answer x y
-    state = ap (λ (w : WireLog). state_of (peer_of d) w.wire) acts.now.wire ∙ (wire_now d u.lane answer).theirs
-
-    by_way : (theirs_now answer x y ≡ peer_behind x y) ⊎ Goes answer → Moves (peer_of d) d u.lane t.lane l m
-    by_way (inl behind) = anew_moves (peer_of d) d u.lane t.lane l m log.theirs (state ∙ behind)
-    by_way (inr goes) =
-        let here : x ≡ Up = acts_up_at shape d u t l answer left acts goes in
-        let was : taken_of d u.lane l ≡ taken_in (log_of_end d l).session = ap (λ (z : ChannelState). taken_by z (log_of_end d l).session) here in
-        let up_now : state_of d t.lane.wire.wire ≡ Up = ap (λ (w : WireLog). state_of d w.wire) acts.now.wire ∙ (wire_now d u.lane answer).mine ∙ goes_same answer x goes ∙ here in
-        let now : taken_of d t.lane m ≡ taken_in (after_answer l.shape.slots (transcript_of d l.transcript) answer (log_of_end d l)).session =
-        ap (λ (z : ChannelState). taken_by z (log_of_end d m).session) up_now ∙ ap (λ (z : EndLog). taken_in z.session) log.mine in
-        let more = taken_grows l.shape.slots (transcript_of d l.transcript) answer (log_of_end d l) goes (acts_none shape d u t l answer left acts) in
-        record {
-          grows = omega (arith, ap (λ (z : EndLog). z.published) log.theirs);
-          changes = λ v up is.
-              Stayed v (sym (state ∙ goes_theirs answer x y goes) ∙ up) (ap (λ (z : EndLog). z.session) (sym log.theirs) ∙ is) (omega (arith, ap (λ (z : EndLog). z.gone) log.theirs))
-              (omega (arith, was, now, more));
-        }
+taker_moves shape d u t l answer left acts =
+    let m : PortLog = after l (OnLane (Steps d answer)) in
+    let x : ChannelState = state_of d u.lane.wire.wire in
+    let y : ChannelState = state_of (peer_of d) u.lane.wire.wire in
+    let log : LogNow d l answer = log_now d l answer in
+    let state : state_of (peer_of d) t.lane.wire.wire ≡ theirs_now answer x y =
+    ap (λ (w : WireLog). state_of (peer_of d) w.wire) acts.now.wire ∙ (wire_now d u.lane answer).theirs in
+    elim (begins_or_goes answer x y) [
+      | inl behind ↦ anew_moves (peer_of d) d u.lane t.lane l m log.theirs (state ∙ behind)
+      | inr goes ↦
+          let here : x ≡ Up = acts_up_at shape d u t l answer left acts goes in
+          let was : taken_of d u.lane l ≡ taken_in (log_of_end d l).session = ap (λ (z : ChannelState). taken_by z (log_of_end d l).session) here in
+          let up_now : state_of d t.lane.wire.wire ≡ Up = ap (λ (w : WireLog). state_of d w.wire) acts.now.wire ∙ (wire_now d u.lane answer).mine ∙ goes_same answer x goes ∙ here in
+          let now : taken_of d t.lane m ≡ taken_in (after_answer l.shape.slots (transcript_of d l.transcript) answer (log_of_end d l)).session =
+          ap (λ (z : ChannelState). taken_by z (log_of_end d m).session) up_now ∙ ap (λ (z : EndLog). taken_in z.session) log.mine in
+          let more = taken_grows l.shape.slots (transcript_of d l.transcript) answer (log_of_end d l) goes (acts_none shape d u t l answer left acts) in
+          record {
+            grows = omega (arith, ap (λ (z : EndLog). z.published) log.theirs);
+            changes = λ v up is.
+                Stayed v (sym (state ∙ goes_theirs answer x y goes) ∙ up) (ap (λ (z : EndLog). z.session) (sym log.theirs) ∙ is) (omega (arith, ap (λ (z : EndLog). z.gone) log.theirs))
+                (omega (arith, was, now, more));
+          }
+    ]
 
 -- WHAT DOESN'T TOUCH a session
 pub record SameLog (l m : EndLog) : Type 0 where
@@ -362,7 +320,7 @@ Grown before_it behind = (more : List (List ℕ)) × (behind ≡ before_it ++ mo
 same_given : (given : List (List ℕ)) → Grown given given
 same_given given = ([], sym (append-nil given))
 
-answer_given : (slots : ℕ) (turns : List Turn) (answer : NetAnswer) (l : EndLog) → Grown l.given (after_answer slots turns answer l).given
+answer_given : (slots : ℕ) (turns : List Utterance) (answer : NetAnswer) (l : EndLog) → Grown l.given (after_answer slots turns answer l).given
 answer_given slots turns (Took packet true) l = same_given l.given
 answer_given slots turns (Sent packet true) l = same_given l.given
 answer_given slots turns _ l = same_given l.given
@@ -404,9 +362,7 @@ next_of shape d u l frame t finds step =
     let taken : taken_of d u.lane l ≡ takes.v.taken = ap (λ (x : ChannelState). taken_by x (log_of_end d l).session) takes.up ∙ ap taken_in takes.mine in
     let here = next_place (state_of e u.lane.wire.wire) g.session g.gone g.published (taken_of d u.lane l) log.of_log takes.peer_up log.is in
     let at : g.gone + (takes.v.taken - takes.p.seen) ≡ place e d u.lane l = omega (arith, here, seen, taken) in
-    let then_taken : taken_of d t m ≡ takes.v.taken + 1 =
-    ap (λ (x : ChannelState). taken_by x (log_of_end d m).session) (ap (λ (w : WireLog). state_of d w.wire) now.wire ∙ takes.up) ∙ ap (λ (x : EndLog). taken_in x.session) logs.mine
-    ∙ ap (λ (o : Option SessionLog). taken_in (change more_taken o)) takes.mine in
+    let then_taken : taken_of d t m ≡ takes.v.taken + 1 = grind arith in
     let then_ = next_place (state_of e t.wire.wire) (log_of_end e m).session (log_of_end e m).gone (log_of_end e m).published (taken_of d t m) log.of_log
     (ap (λ (w : WireLog). state_of e w.wire) now.wire ∙ takes.peer_up) (ap (λ (x : EndLog). x.session) logs.theirs ∙ log.is) in
     let first = takes.ring.seen_first in
@@ -423,8 +379,7 @@ goes_below n k frames new given behind none less grown below = grind (arith, Bel
 last_below : (n k : ℕ) (frames new given behind : List (List ℕ)) (frame : List ℕ) → new ≡ frame ∷ [] → slice_get given n ≡ Some frame → n + 1 ≤ k → Grown given behind → Below 0 n frames given
     → Below 0 k (frames ++ new) behind
 last_below n k frames new given behind frame one get less grown below =
-    subst (λ (xs : List (List ℕ)). Below 0 k (frames ++ xs) behind) (sym one)
-    (subst (Below 0 k (frames ++ frame ∷ [])) (sym grown.1)
+    rw one (subst (Below 0 k (frames ++ frame ∷ [])) (sym grown.1)
     (below_given 0 k (frames ++ frame ∷ []) given grown.0 (below_more 0 (n + 1) k (frames ++ frame ∷ []) given less (below_last 0 n frames given frame get below))))
 
 record TakesOne (d : End) (event : NetEvent) : Type 0 where
@@ -441,13 +396,10 @@ before_place e d event s l = grind (arith, before_wire)
 frame_next : (shape : NetShape) → IsNetShape shape → (d : End) (s : PortState) (l : PortLog) (event : NetEvent) (t : PortState) → (one : TakesOne d event) → Kept shape s l → PortStep s (OnLane event) t
     → l.wire.forged ≡ false → Next (peer_of d) d (before event s).lane t.lane l (after l (OnLane event)) one.frame
 frame_next shape is d s l event t one kept step clean =
+    let frame_event : NetEvent = Steps d (Frame one.frame) in
+    let made : PortStep s (OnLane frame_event) t → Next (peer_of d) d (before frame_event s).lane t.lane l (after l (OnLane frame_event)) one.frame = λ of_frame.
+    next_of shape d (before frame_event s) l one.frame t.lane (finds_before shape s l frame_event is kept clean) of_frame.1 in
     subst (λ (x : NetEvent). PortStep s (OnLane x) t → Next (peer_of d) d (before x s).lane t.lane l (after l (OnLane x)) one.frame) (sym one.event_is) made step
-  where
-    frame_event : NetEvent
-    frame_event = Steps d (Frame one.frame)
-
-    made : PortStep s (OnLane frame_event) t → Next (peer_of d) d (before frame_event s).lane t.lane l (after l (OnLane frame_event)) one.frame
-    made of_frame = next_of shape d (before frame_event s) l one.frame t.lane (finds_before shape s l frame_event is kept clean) of_frame.1
 
 -- the frames that each end took
 pub record Once (shape : NetShape) (s : PortState) (l : PortLog) (by_end : End → List (List ℕ)) : Type 0 where
@@ -478,27 +430,19 @@ once_lane shape is s l event t by_end had step = record { kept = kept; in_order 
         omega (arith, rise, before_place (peer_of d) d event s l)
 
     in_order : (d : End) → m.wire.forged ≡ false → Below 0 (place (peer_of d) d t.lane m) (by_end d ++ took d (OnLane event)) (log_of_end (peer_of d) m).given
-    in_order d clean = by_event (takes_one d event)
-      where
-        was : l.wire.forged ≡ false
-        was = was_clean l.wire event clean
-
-        n : ℕ
-        n = place (peer_of d) d s.lane l
-
-        k : ℕ
-        k = place (peer_of d) d t.lane m
-
-        given : List (List ℕ)
-        given = (log_of_end (peer_of d) l).given
-
-        by_event : (took d (OnLane event) ≡ []) ⊎ TakesOne d event → Below 0 k (by_end d ++ took d (OnLane event)) (log_of_end (peer_of d) m).given
-        by_event (inl none) = goes_below n k (by_end d) (took d (OnLane event)) given (log_of_end (peer_of d) m).given none (place_rises d clean) (event_given (peer_of d) l event) (had.in_order d was)
-        by_event (inr one) =
-            let next = frame_next shape is d s l event t one had.kept step was in
-            let same = before_place (peer_of d) d event s l in
-            last_below n k (by_end d) (took d (OnLane event)) given (log_of_end (peer_of d) m).given one.frame one.took_is (subst (λ (i : ℕ). slice_get given i ≡ Some one.frame) same next.get)
-            (subst (λ (i : ℕ). i + 1 ≤ k) same next.more) (event_given (peer_of d) l event) (had.in_order d was)
+    in_order d clean =
+        let was : l.wire.forged ≡ false = was_clean l.wire event clean in
+        let n : ℕ = place (peer_of d) d s.lane l in
+        let k : ℕ = place (peer_of d) d t.lane m in
+        let given : List (List ℕ) = (log_of_end (peer_of d) l).given in
+        elim (takes_one d event) [
+          | inl none ↦ goes_below n k (by_end d) (took d (OnLane event)) given (log_of_end (peer_of d) m).given none (place_rises d clean) (event_given (peer_of d) l event) (had.in_order d was)
+          | inr one ↦
+              let next = frame_next shape is d s l event t one had.kept step was in
+              let same = before_place (peer_of d) d event s l in
+              last_below n k (by_end d) (took d (OnLane event)) given (log_of_end (peer_of d) m).given one.frame one.took_is (subst (λ (i : ℕ). slice_get given i ≡ Some one.frame) same next.get)
+              (subst (λ (i : ℕ). i + 1 ≤ k) same next.more) (event_given (peer_of d) l event) (had.in_order d was)
+        ]
 
 received_given : (e : End) (l : PortLog) (frame : List ℕ) → Grown (log_of_end e l).given (log_of_end e (after l (Receives frame))).given
 received_given A l frame = same_given l.guest.given
@@ -515,11 +459,7 @@ pub once_step : (shape : NetShape) → IsNetShape shape → (s : PortState) (l :
 once_step shape is s l (OnLane event) t by_end had step = once_lane shape is s l event t by_end had step
 once_step shape is s l (Receives frame) t by_end had step = record {
   kept = kept_step shape is s l (Receives frame) t had.kept step;
-  in_order = λ d clean.
-      let m : PortLog = after l (Receives frame) in
-      let same : place (peer_of d) d t.lane m ≡ place (peer_of d) d s.lane l = ap (λ (x : PortState). place (peer_of d) d x.lane m) step.2 ∙ received_place d s.lane l frame in
-      goes_below (place (peer_of d) d s.lane l) (place (peer_of d) d t.lane m) (by_end d) (took d (Receives frame)) (log_of_end (peer_of d) l).given (log_of_end (peer_of d) m).given
-      (received_none d frame) (omega (arith, same)) (received_given (peer_of d) l frame) (had.in_order d clean);
+  in_order = grind (arith, received_place, goes_below, received_none, received_given);
 }
 
 -- ALONG A RUN
@@ -543,8 +483,7 @@ takes_in_order : (shape : NetShape) (events : List PortEvent) (s : PortState) (d
     → InOrder 0 (frames_taken d events) (log_of_end (peer_of d) (log_of after (no_events shape) events)).given
 takes_in_order shape events s d is run clean =
     let all = along shape is events (fresh_port shape) s (no_events shape) (λ x. []) (fresh_once shape is) run in
-    let l : PortLog = log_of after (no_events shape) events in
-    below_in 0 (place (peer_of d) d s.lane l) (frames_taken d events) (log_of_end (peer_of d) l).given (all.in_order d (sym (ap (λ (w : WireLog). w.forged) all.kept.counts.wire) ∙ clean))
+    grind (arith, all, log_of after (no_events shape) events, below_in)
 
 pub hub_takes_in_order : (shape : NetShape) (events : List PortEvent) (s : PortState) → IsNetShape shape → Run PortStep (fresh_port shape) events s → s.lane.wire.forged ≡ false
     → InOrder 0 (frames_taken B events) (log_of after (no_events shape) events).guest.given

@@ -1,7 +1,6 @@
 -- The groups of a guest are those that it joined.
 use Rattle.std.proofs.Common.{◌≡◌, ℕ, Bool, Option, Some, List, refl, ap, ◌∙◌, arith}
 use Rattle.ldc_link.specs.declared.phase.Role.TheVariants.{Initiator}
-use Rattle.ldc_queue.specs.declared.end.End.{End}
 use Rattle.runs.specs.Lawful.{Lawful, run_lawful}
 use Rattle.runs.specs.Run.{Run}
 use Rattle.channel_model.specs.Seeing.{Seen}
@@ -16,9 +15,9 @@ use Rattle.port_model.specs.NetEndStep.{Blocked, Frame, Given, Idle, Joining, Ne
 use Rattle.port_model.specs.NetEndTaking.{GoesOn}
 use Rattle.port_model.specs.NetEvent.{NetEvent}
 use Rattle.port_model.specs.NetLaneState.{NetLaneState, NetShape}
-use Rattle.port_model.specs.NetLaneStep.{NetLaneStep, Resets}
+use Rattle.port_model.specs.NetLaneStep.{NetLaneStep}
 use Rattle.port_model.specs.PortLog.{PortLog, after, members_after, no_events}
-use Rattle.port_model.specs.PortState.{OnLane, PortEvent, PortState, PortStep, before, fresh_port}
+use Rattle.port_model.specs.PortState.{PortEvent, PortState, PortStep, before, fresh_port}
 use Rattle.port_model.proofs.Refuting.{none_some, of_some}
 use Rattle.port_laws.specs.NetFits.{NetFits}
 use Rattle.port_laws.proofs.EndMoves.{packet_goes}
@@ -53,14 +52,11 @@ step_same s at memory reach _ t fits step = ap (λ (x : NetLeft). x.end.groups) 
 abbrev pub GroupsAre : NetLaneState → List (List ℕ) → Type 0
 GroupsAre s members = s.guest.groups ≡ members
 
-resets_same : (e : End) (event : NetEvent) (s : NetLaneState) (lost : ℕ) (t : NetLaneState) → Resets e event s lost t → t.guest.groups ≡ s.guest.groups
-resets_same e event s lost t resets = grind arith
-
 gives_same : (s : NetEndState) (given : Given) (t : NetEndState) → NetGives s given t → Same s t
 gives_same s given t gives = grind arith
 
 pub event_groups : (s : NetLaneState) (event : NetEvent) (t : NetLaneState) (members : List (List ℕ)) → BothFit s → NetLaneStep s event t → GroupsAre s members → GroupsAre t (members_after event members)
-event_groups s event t members given step are = grind (arith, step_same, resets_same, gives_same)
+event_groups s event t members given step are = grind (arith, step_same, gives_same)
 
 -- A JOIN stands by them
 may_join : (members : List (List ℕ)) (s t : NetEndState) (joining : Joining) → s.groups ≡ members → NetJoins s joining t → MayJoin members joining
@@ -74,11 +70,8 @@ record Agrees (s : PortState) (l : PortLog) : Type 0 where
 before_groups : (event : NetEvent) (s : PortState) → (before event s).lane.guest ≡ s.lane.guest
 before_groups event s = before_keeps (λ (x : PortState). x.lane.guest ≡ s.lane.guest) event s (λ frame frames. refl) refl
 
-joins_at : (s : PortState) (l : PortLog) (event : NetEvent) (t : PortState) → GroupsAre s.lane l.members → NetLaneStep (before event s).lane event t.lane → JoiningAt l (OnLane event)
-joins_at s l event t are step = grind (arith, may_join)
-
 port_joins_step : (s : PortState) (l : PortLog) (event : PortEvent) (t : PortState) → Agrees s l → PortStep s event t → JoiningAt l event × Agrees t (after l event)
-port_joins_step s l event t agrees step = grind (arith, joins_at, port_fits, event_groups, before_fits, before_groups)
+port_joins_step s l event t agrees step = grind (arith, may_join, port_fits, event_groups, before_fits, before_groups)
 
 pub port_joins : (shape : NetShape) (events : List PortEvent) (s : PortState) → Run PortStep (fresh_port shape) events s → Lawful JoiningAt after (no_events shape) events
 port_joins shape events s run =

@@ -173,19 +173,8 @@ same_exchange sid groups p q asks answers session now known telling reply untold
 -- the guest joins one more group
 more_tells : (groups : List (List ℕ)) (address : List ℕ) (known : ℕ) (asks : List (List ℕ)) → EachTells groups known asks → EachTells (groups ++ address ∷ []) known asks
 more_tells groups address known [] tells = tt
-more_tells groups address known (m ∷ asks) tells = (
-  λ is.
-      let one = tells.0 is in
-      record {
-        set = one.set;
-        few = one.few;
-        many = one.many;
-        is = one.is ∙ sym (take-append-le one.many groups (address ∷ []) one.inside);
-        more = one.more;
-        inside = omega (arith, one.inside, length-append groups (address ∷ []));
-      },
-  more_tells groups address known asks tells.1,
-)
+more_tells groups address known (m ∷ asks) tells =
+    grind (arith, more_tells groups address known asks tells.1, take-append-le, length-append)
 
 pub guest_joins : (sid : ℕ) (groups : List (List ℕ)) (address : List ℕ) (p q : NetSession) (asks answers : List (List ℕ)) (session : Option NetSession) (known : List (List ℕ))
     → q.telling ≡ p.telling → q.reply ≡ p.reply → q.untold ≡ true → ExchangeIn sid groups p asks answers session known → ExchangeIn sid (groups ++ address ∷ []) q asks answers session known

@@ -1,5 +1,5 @@
 -- The switch's end learns a guest's groups as the guest tells them: each list goes on from the one before, and repeats none.
-use Rattle.std.proofs.Common.{◌≡◌, ℕ, zero, suc, ◌≤◌, Bool, true, false, Some, List, [], ◌∷◌, ◌++◌, length, drop, refl, sym, subst, ap, ◌∙◌, arith, append_assoc}
+use Rattle.std.proofs.Common.{◌≡◌, ℕ, suc, ◌≤◌, Bool, true, false, Some, List, [], ◌∷◌, ◌++◌, length, drop, refl, sym, subst, ap, ◌∙◌, arith, append_assoc}
 use Rattle.std.specs.Prelude.{◌||◌, nat_eq, take, if◌then◌else◌, ⊤}
 use Rattle.std.specs.Cmp.Lexicographic.{pointwise}
 use Rattle.std.proofs.lemmas.Bool.{le-leb}
@@ -41,9 +41,7 @@ in_it (x ∷ xs) address ys = or_second (pointwise nat_eq address x) _ (in_it xs
 with_known : (done rest : List (List ℕ)) → with_groups (done ++ rest) rest ≡ done ++ rest
 with_known done [] = refl
 with_known done (address ∷ rest) =
-    let assoc : (done ++ address ∷ []) ++ rest ≡ done ++ (address ∷ rest) = append_assoc done (address ∷ []) rest in
-    ap (λ (b : Bool). with_groups (if b then done ++ (address ∷ rest) else (done ++ (address ∷ rest)) ++ address ∷ []) rest) (in_it done address rest)
-    ∙ ap (λ (xs : List (List ℕ)). with_groups xs rest) (sym assoc) ∙ with_known (done ++ address ∷ []) rest ∙ assoc
+    grind (arith, with_known (done ++ address ∷ []) rest, append_assoc done (address ∷ []) rest, in_it)
 
 with_fresh : (first rest : List (List ℕ)) → Fresh first rest → with_groups first rest ≡ first ++ rest
 with_fresh first [] fresh = sym (append-nil first)
@@ -58,10 +56,9 @@ learns_all : (xs ys : List (List ℕ)) → Fresh [] (xs ++ ys) → with_groups x
 learns_all xs ys fresh = with_both xs xs ys ∙ ap (λ (zs : List (List ℕ)). with_groups zs ys) (with_known [] xs) ∙ with_fresh xs ys (fresh_past [] xs ys fresh)
 
 take_less : (k n : ℕ) (xs : List (List ℕ)) → k ≤ n → take k (take n xs) ≡ take k xs
-take_less zero n xs few = refl
-take_less (suc k) zero xs few = absurd (omega (arith, few))
 take_less (suc k) (suc n) [] few = refl
 take_less (suc k) (suc n) (x ∷ xs) few = ap (λ (ys : List (List ℕ)). x ∷ ys) (take_less k n xs (omega (arith, few)))
+take_less k n xs few = grind arith
 
 learns_front : (groups known : List (List ℕ)) (many : ℕ) → Fresh [] groups → known ≡ take (length known) groups → length known ≤ many → with_groups known (take many groups) ≡ take many groups
 learns_front groups known many fresh front few =

@@ -14,17 +14,16 @@ use Rattle.vio_tag.specs.declared.message.MsgBody.{MsgBody}
 use Rattle.vio_tag.specs.declared.message.MsgBody.TheVariants.{DringData, Mcast}
 use Rattle.vio_tag.specs.Form.{HasForm, IsWellFormed}
 use Rattle.vio_tag.specs.Spelling.{HasLength, SpellsBody, SpellsMessage, addresses_at, envelope_code}
-use Rattle.channel_model.specs.Messages.{end_of, start_of}
 use Rattle.dring.specs.Slots.{range_length}
 use Rattle.port_model.proofs.Refuting.{false_true}
 use Rattle.port_model.specs.EndLog.{EndLog, SessionLog, acked_by, answer_code, answer_to, groups_fields, heard_kind, hears_log, list_after, range_of}
 use Rattle.port_model.specs.Groups.{groups_after}
 use Rattle.port_model.specs.FramesStand.{CountsStand, FramesStand}
-use Rattle.port_model.specs.NetEndState.{Activity, GroupsReply, NetEndState, NetSession}
+use Rattle.port_model.specs.NetEndState.{GroupsReply, NetEndState, NetSession}
 use Rattle.port_model.specs.NetEndTaking.{active, replying}
 use Rattle.port_model.specs.RuleFacts.{IfOpen}
 use Rattle.port_model.specs.Spoken.{GroupsAck, GroupsInfo, Other, RangeAck, RangeInfo, Spoken, count_of, set_of, seven_of, spoken, spoken_by}
-use Rattle.port_laws.specs.Counted.{ActiveCounts, AnswersFor, AnswersRightly, EndCounts, GuestCounts, GuestGroups, IsAnswer, PeerCounts, RingCounts, SessionCounts, unsaid}
+use Rattle.port_laws.specs.Counted.{AnswersFor, AnswersRightly, EndCounts, GuestCounts, GuestGroups, IsAnswer, PeerCounts, RingCounts, SessionCounts, unsaid}
 use Rattle.port_laws.proofs.EndCounting.{OpenCounts, empty_unsaid, end_from, guest_same, open_empty}
 use Rattle.port_laws.proofs.LettingGo.{spoken_same}
 use Rattle.port_laws.proofs.MessageDoes.{Acks, Asks, Declines, IsKept, MessageDoes, Names, Told, reply_code}
@@ -50,9 +49,6 @@ ring_same : (p q : NetSession) (published gone : ℕ) (v w : SessionLog) → Rin
     → q.asking ≡ p.asking → w.published ≡ v.published → w.seen ≡ v.seen → w.infos ≡ v.infos → w.asking ≡ v.asking → RingCounts q published (gone + 0) w
 ring_same p q published gone v w ring base all seen infos asking here seen_here infos_here asking_here = grind arith
 
-active_none : (slots : ℕ) (v : SessionLog) (activity : Option Activity) → activity ≡ None → ActiveCounts slots v activity → (v.asked ≡ v.acks) × (v.answered ≡ v.taken)
-active_none slots v activity is counts = subst (ActiveCounts slots v) is counts
-
 groups_as : (role : Role) (groups now : List (List ℕ)) → now ≡ groups → GuestGroups role groups → GuestGroups role now
 groups_as role groups now is are = subst (GuestGroups role) (sym is) are
 
@@ -61,7 +57,7 @@ asks_counts : (role : Role) (slots : ℕ) (queue : List (List ℕ)) (s t : NetEn
     → SessionCounts role slots s.groups l.published l.gone None s.link.begun p v → p.active ≡ None → unsaid t ≡ None → p.place ≡ start → p.seq ≡ seq
     → t.slots ≡ s.slots → t.frames ≡ s.frames → t.next_id ≡ s.next_id → t.groups ≡ s.groups → t.session ≡ Some (active p seq start) → EndCounts role slots queue t (heard_as slots bytes v l RangeInfo)
 asks_counts role slots queue s t l p v bytes seq start counts opened none left place seq_is same frames next groups session =
-    grind (arith, active_none, end_from, groups_as, ring_same, guest_same)
+    grind (arith, end_from, groups_as, ring_same, guest_same)
 
 -- the session after an ACK of so many slots
 abbrev acked_session : NetSession → ℕ → NetSession
@@ -86,14 +82,8 @@ acks_counts role slots queue s t l p v bytes count counts opened left range few 
     (guest_same role p (acked_session p count) s.groups t.groups v (record v { seen = v.seen + count; asking = false }) opened.guest groups refl refl refl refl refl) opened.reply in
     subst (λ (n : ℕ). EndCounts role slots queue t (record l { session = Some (record v { seen = v.seen + n; asking = false }); gone = l.gone + n })) (sym range) kept
 
-hub_knows : (role : Role) (p : NetSession) (groups : List (List ℕ)) (v : SessionLog) → role ≡ Responder → groups ≡ v.groups → GuestCounts role p groups v
-hub_knows role p groups v is known = subst (λ (x : Role). GuestCounts x p groups v) (sym is) known
-
 hub_known : (role : Role) (p : NetSession) (groups : List (List ℕ)) (v : SessionLog) → role ≡ Responder → GuestCounts role p groups v → groups ≡ v.groups
 hub_known role p groups v is counts = subst (λ (x : Role). GuestCounts x p groups v) is counts
-
-groups_free : (role : Role) (groups : List (List ℕ)) → role ≡ Responder → GuestGroups role groups
-groups_free role groups is = subst (λ (x : Role). GuestGroups x groups) (sym is) tt
 
 peer_same : (slots : ℕ) (p q : NetSession) (v w : SessionLog) → PeerCounts slots p v → q.seq ≡ p.seq → q.place ≡ p.place → q.active ≡ p.active → w.asked ≡ v.asked → w.acks ≡ v.acks → w.taken ≡ v.taken
     → w.answered ≡ v.answered → PeerCounts slots q w
@@ -103,17 +93,14 @@ names_counts : (role : Role) (slots : ℕ) (queue : List (List ℕ)) (s t : NetE
     → SessionCounts role slots s.groups l.published l.gone None s.link.begun p v → unsaid t ≡ None → role ≡ Responder → q ≡ record p { reply = q.reply }
     → AnswersRightly q.reply (heard_kind slots GroupsInfo bytes v).owed → t.groups ≡ (heard_kind slots GroupsInfo bytes v).groups → t.slots ≡ s.slots → t.frames ≡ s.frames → t.next_id ≡ s.next_id → t.session ≡ Some q → EndCounts role slots queue t (heard_as slots bytes v l GroupsInfo)
 names_counts role slots queue s t l p q v bytes counts opened left hub is answer known same frames next session =
-    grind (arith, end_from, groups_free, ring_same, peer_same, hub_knows)
-
-guest_told : (role : Role) (p : NetSession) (groups now : List (List ℕ)) (v w : SessionLog) → GuestCounts role p groups v → now ≡ groups → w.membership ≡ v.membership → w.told ≡ true → w.groups ≡ v.groups
-    → GuestCounts role (record p { telling = false }) now w
-guest_told role p groups now v w counts same membership told known = grind (arith, false_true)
+    grind (arith, end_from, ring_same, peer_same)
 
 told_counts : (role : Role) (slots : ℕ) (queue : List (List ℕ)) (s t : NetEndState) (l : EndLog) (p : NetSession) (v : SessionLog) (bytes : List ℕ) → EndCounts role slots queue s l
     → SessionCounts role slots s.groups l.published l.gone None s.link.begun p v → unsaid t ≡ None
     → t.slots ≡ s.slots → t.frames ≡ s.frames → t.next_id ≡ s.next_id → t.groups ≡ s.groups → t.session ≡ Some (record p { telling = false })
     → EndCounts role slots queue t (heard_as slots bytes v l GroupsAck)
-told_counts role slots queue s t l p v bytes counts opened left same frames next groups session = grind (arith, end_from, groups_as, ring_same, peer_same, guest_told)
+told_counts role slots queue s t l p v bytes counts opened left same frames next groups session =
+    grind (arith, end_from, groups_as, ring_same, peer_same, false_true)
 
 -- a message that is none of these, and no message
 pub stays_counts : (role : Role) (slots : ℕ) (queue : List (List ℕ)) (s t : NetEndState) (l : EndLog) (p : NetSession) (v : SessionLog) → EndCounts role slots queue s l
@@ -141,11 +128,7 @@ named_counts : (bytes : List ℕ) (held known : List (List ℕ)) (set count : �
     → held ≡ known → IsKept held set count addresses groups reply → Named bytes known groups reply
 named_counts bytes held known set count addresses groups reply long fields same kept =
     let behind : Option (List (List ℕ)) = groups_after (set_of bytes) (count_of bytes) (seven_of bytes) known in
-    let there : IsKept known (set_of bytes) (count_of bytes) (seven_of bytes) groups reply =
-    subst (λ (xs : List (List ℕ)). IsKept xs (set_of bytes) (count_of bytes) (seven_of bytes) groups reply) same
-    (subst (λ (n : ℕ). IsKept held n (count_of bytes) (seven_of bytes) groups reply) fields.0
-    (subst (λ (n : ℕ). IsKept held set n (seven_of bytes) groups reply) fields.1
-    (subst (λ (xs : List (List ℕ)). IsKept held set count xs groups reply) fields.2 kept))) in
+    let there : IsKept known (set_of bytes) (count_of bytes) (seven_of bytes) groups reply = grind arith in
     let answer : GroupsReply = record { subtype = reply_code behind; set = set_of bytes; count = count_of bytes; addresses = seven_of bytes } in
     let answers : AnswersFor answer (Some (answer_to bytes behind)) =
     record {
@@ -187,11 +170,8 @@ heard_counts role slots queue s l p memory bytes m t new hearing form spells doe
         (asks_counts role slots queue s t l p opened_here.of_log bytes seq start hearing.counts opened_here.counts hearing.idle (left_of_same (ap (λ (x : NetEndState). x.link) is)) place.place place.seq_is
         (ap (λ (x : NetEndState). x.slots) is) (ap (λ (x : NetEndState). x.frames) is) (ap (λ (x : NetEndState). x.next_id) is) (ap (λ (x : NetEndState). x.groups) is) (ap (λ (x : NetEndState). x.session) is))
     by_kind (Acks seq ident start end state kind body begins inside most undone stays is) =
-        let fields : SpellsBody bytes (DringData seq ident start end state) = subst (SpellsBody bytes) body spells.body in
         let stood : CountsStand s p = subst (λ (x : Option NetSession). IfOpen x (CountsStand s)) hearing.session hearing.stands.session in
-        let range : range_of slots bytes ≡ range_length s.slots start end =
-        ap (λ (n : ℕ). range_length n (start_of bytes) (end_of bytes)) (sym hearing.counts.slots_is) ∙ ap (λ (n : ℕ). range_length s.slots n (end_of bytes)) (sym fields.2)
-        ∙ ap (λ (n : ℕ). range_length s.slots start n) (sym fields.3) in
+        let range : range_of slots bytes ≡ range_length s.slots start end = grind arith in
         as_kind RangeAck (spoken_of bytes m Ack (DringData seq ident start end state) spells kind body)
         (acks_counts role slots queue s t l p opened_here.of_log bytes (range_length s.slots start end) hearing.counts opened_here.counts (left_of_same (ap (λ (x : NetEndState). x.link) is)) range
         (omega (arith, most, stood.held)) (ap (λ (x : NetEndState). x.slots) is) (ap (λ (x : NetEndState). x.frames) is) (ap (λ (x : NetEndState). x.next_id) is) (ap (λ (x : NetEndState). x.groups) is)

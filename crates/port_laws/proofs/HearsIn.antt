@@ -7,7 +7,7 @@ use Rattle.ldc_link.specs.Taking.{Heard as HeardBy, LinkTake, TakesBytes, Unhear
 use Rattle.ldc_packet.specs.declared.packet.Subtype.{Subtype}
 use Rattle.ldc_packet.specs.Spelling.{subtype_code}
 use Rattle.ldc_queue.specs.declared.end.ChannelState.TheVariants.{Up}
-use Rattle.ldc_queue.specs.Transcript.{Heard, Turn}
+use Rattle.ldc_queue.specs.Transcript.{Heard, Utterance}
 use Rattle.vio_bytes.specs.Place.{number_at}
 use Rattle.vio_handshake.proofs.Places.{AllSaid, Deal, handshake_at}
 use Rattle.vio_handshake.specs.declared.handshake.Handshake.{Handshake}
@@ -27,7 +27,7 @@ use Rattle.channel_model.specs.Sayings.{heard}
 use Rattle.channel_laws.proofs.EndStanding.{open_up}
 use Rattle.channel_laws.proofs.HandshakePlaces.{IsOwn, deal, open_place}
 use Rattle.channel_laws.proofs.LinkCases.{LinkHeard, link_heard}
-use Rattle.channel_laws.proofs.TurnCases.{HearsOn, hears_on}
+use Rattle.channel_laws.proofs.UtteranceCases.{HearsOn, hears_on}
 use Rattle.channel_laws.specs.EndStep.{IsOfSession}
 use Rattle.channel_laws.specs.Sides.{Sides, other}
 use Rattle.channel_laws.specs.Standing.{EndStands}
@@ -39,13 +39,13 @@ use Rattle.port_laws.proofs.PeerOpens.{TwoEnds, mine_at, theirs_at}
 use Rattle.port_laws.proofs.TookCounts.{heard_send, risen_up}
 
 -- WHAT IT MAKES of a packet
-pub record HearsNone (s : NetEndState) (memory : List ℕ) (turns : List Turn) (packet : List ℕ) (take : NetTake) : Type 0 where
+pub record HearsNone (s : NetEndState) (memory : List ℕ) (turns : List Utterance) (packet : List ℕ) (take : NetTake) : Type 0 where
   pub link : LinkState
   pub sends : link.to_send ≡ s.link.to_send
   pub messages : heard (Heard packet ∷ turns) ≡ heard turns
   pub is : take ≡ GoesOn (record s { link = link }) false memory
 
-pub record HearsOne (role : Role) (s : NetEndState) (memory : List ℕ) (turns : List Turn) (packet : List ℕ) (take : NetTake) : Type 0 where
+pub record HearsOne (role : Role) (s : NetEndState) (memory : List ℕ) (turns : List Utterance) (packet : List ℕ) (take : NetTake) : Type 0 where
   pub from : LinkState
   pub takes : TakesBytes s.link packet (HeardBy from)
   pub link : LinkState
@@ -61,10 +61,10 @@ pub record Refused (s : NetEndState) (packet : List ℕ) (take : NetTake) : Type
   pub takes : TakesBytes s.link packet (Unheard cause)
   pub is : take ≡ Resets cause
 
-abbrev pub Hears : Role → NetEndState → List ℕ → List Turn → List ℕ → NetTake → Type 0
+abbrev pub Hears : Role → NetEndState → List ℕ → List Utterance → List ℕ → NetTake → Type 0
 Hears role s memory turns packet take = HearsNone s memory turns packet take ⊎ (HearsOne role s memory turns packet take ⊎ Refused s packet take)
 
-pub hears_in : (role : Role) (s : NetEndState) (turns : List Turn) (memory packet : List ℕ) (take : NetTake) → EndStands role (net_core role s) turns → is_up s.link ≡ true
+pub hears_in : (role : Role) (s : NetEndState) (turns : List Utterance) (memory packet : List ℕ) (take : NetTake) → EndStands role (net_core role s) turns → is_up s.link ≡ true
     → NetTakes role s memory packet take → Hears role s memory turns packet take
 hears_in role s turns memory packet take stands up takes = by_link takes.link takes.takes takes.hears
   where
@@ -133,14 +133,7 @@ own_body sid bytes s (DringData seq ident start end state) of small long is =
     record {
       message = record { subtype = s; sid = sid; body = DringData (number_at 8 8 bytes) (number_at 8 16 bytes) (number_at 4 24 bytes) (number_at 4 28 bytes) (number_at 1 32 bytes) };
       form = tt;
-      spells = record {
-        kind = ap type_at is ∙ tagged.kind;
-        subtype = ap subtype_at is ∙ tagged.subtype;
-        envelope = ap envelope_at is ∙ tagged.envelope;
-        sid = sym (ap sid_at is ∙ range_sid s sid seq ident start end state ∙ simple_sid s sid small);
-        long = long;
-        body = (refl, refl, refl, refl, refl);
-      };
+      spells = grind (arith, range_sid, simple_sid);
       of = tt;
       sid_is = refl;
       long = long;
@@ -150,14 +143,7 @@ own_body sid bytes s (Mcast set count addresses) of small long is =
     record {
       message = record { subtype = s; sid = sid; body = Mcast (number_at 1 8 bytes) (number_at 1 9 bytes) (addresses_at 10 7 bytes) };
       form = tt;
-      spells = record {
-        kind = ap type_at is ∙ tagged.kind;
-        subtype = ap subtype_at is ∙ tagged.subtype;
-        envelope = ap envelope_at is ∙ tagged.envelope;
-        sid = sym (ap sid_at is ∙ groups_sid s sid set count addresses ∙ simple_sid s sid small);
-        long = long;
-        body = (refl, refl, refl);
-      };
+      spells = grind (arith, groups_sid, simple_sid);
       of = tt;
       sid_is = refl;
       long = long;
@@ -171,8 +157,7 @@ own_read d bytes own small long =
 
 pub decodes_as : (bytes : List ℕ) (m : Message) (decoded : Result Message TagFault) → IsWellFormed m → SpellsMessage bytes m → Decodes bytes decoded → decoded ≡ Ok m
 decodes_as bytes m (Ok d) form spells decodes = ap Ok (spelled_once bytes d m decodes.message.0 form decodes.message.1 spells)
-decodes_as bytes m (Err fault) form spells decodes =
-    let never : Some fault ≡ None = sym decodes.fault ∙ spelled_no_fault bytes m form spells in absurd (cc never)
+decodes_as bytes m (Err fault) form spells decodes = grind (arith, spelled_no_fault)
 
 -- THE HANDSHAKE of an end in session: both rings have the session's number
 pub record AllAgreed (h : Handshake) (sid : ℕ) : Type 0 where

@@ -15,10 +15,10 @@ use Rattle.channel_model.specs.Seeing.{Seen}
 use Rattle.cookie_copy.specs.Reach.{Reach}
 use Rattle.port_model.proofs.Refuting.{false_true, none_some, of_some, true_false}
 use Rattle.port_model.proofs.Ruling.{says_of}
-use Rattle.port_model.specs.EndLog.{EndLog, SessionLog, groups_fields, said_kind}
+use Rattle.port_model.specs.EndLog.{EndLog, SessionLog, said_kind}
 use Rattle.port_model.specs.Fetching.{Fetched, NotReady, fetched}
 use Rattle.port_model.specs.Groups.{membership, seven}
-use Rattle.port_model.specs.NetEndPutting.{announcement, answer, answers, groups_answer, holding as holding_shake, holding_own, net_holds}
+use Rattle.port_model.specs.NetEndPutting.{announcement, answer, answers, groups_answer, holding_own, net_holds}
 use Rattle.port_model.specs.NetEndRule.{Announces as AnnouncesRule, Fetches, NetRule, Puts, Replies, Says, Tells, port_rule}
 use Rattle.port_model.specs.NetEndState.{Activity, GroupsReply, NetEndState, NetSession}
 use Rattle.port_model.specs.RuleFacts.{IsFreeIn}
@@ -57,14 +57,11 @@ formed role slots queue s l p q v message k counts log forms = grind (arith, len
 said_none : (s : Subtype) (message : List ℕ) (v : SessionLog) → IsAnswer s → said_kind (groups_spoken (subtype_code s)) message v ≡ record v { owed = None }
 said_none s message v is = grind arith
 
-right_owed : (slots : ℕ) (groups : List (List ℕ)) (v : SessionLog) (message : List ℕ) (s : Subtype) → IsAnswer s → v.owed ≡ Some (groups_fields message)
-    → SaysRightly slots groups v message (groups_spoken (subtype_code s))
-right_owed slots groups v message s is owed = grind arith
-
 replies_forms : (role : Role) (slots : ℕ) (s : NetEndState) (p : NetSession) (v : SessionLog) (published gone : ℕ) (reply : GroupsReply) (begun : Bool) → s.handshake.owed ≡ None → ReplyFits reply → AnswersFor reply v.owed
     → SessionCounts role slots s.groups published gone None begun p v
     → Forms role slots s p (record p { reply = None }) v published gone (groups_answer s reply) (groups_spoken (subtype_code reply.subtype))
-replies_forms role slots s p v published gone reply begun owed given answers counts = grind (arith, said_none, reply_short, groups_spoken_as, right_owed, reply_read, guest_same)
+replies_forms role slots s p v published gone reply begun owed given answers counts =
+    grind (arith, said_none, reply_short, groups_spoken_as, reply_read, guest_same)
 
 -- THE ANSWER to a ring
 answers_forms : (role : Role) (slots : ℕ) (s : NetEndState) (p : NetSession) (v : SessionLog) (published gone : ℕ) (activity : Activity) (last : ℕ) (begun : Bool) → s.handshake.owed ≡ None
@@ -78,7 +75,6 @@ tells_forms : (slots : ℕ) (s : NetEndState) (p : NetSession) (v : SessionLog) 
     → SessionCounts Initiator slots s.groups published gone None begun p v
     → Forms Initiator slots s p (record p { untold = false; telling = true }) v published gone (membership s.handshake.draft.sid s.groups) GroupsInfo
 tells_forms slots s p v published gone begun owed short groups untold counts =
-    let told : List ℕ = canonical (membership s.handshake.draft.sid s.groups) in
     record {
       owed = owed;
       short = membership_short s.handshake.draft.sid s.groups short;
@@ -149,10 +145,7 @@ pub held_counts : (role : Role) (slots : ℕ) (queue : List (List ℕ)) (s : Net
     → port_rule role s at ≡ rule → net_holds rule s reach ≡ Some held → EndCounts role slots queue held l
 held_counts role slots queue s l at reach Puts held holding is same = of_some (λ (x : NetEndState). EndCounts role slots queue x l) s held same holding.counts
 held_counts role slots queue s l at reach (Says message) held holding is same =
-    let says = says_of role s at (Says message) is in
-    of_some (λ (x : NetEndState). EndCounts role slots queue x l) _ held same
-    (linked_counts role slots queue s (holding_shake message s) l holding.counts (owed_unsaid s message says.2)
-    (owed_unsaid (holding_shake message s) message says.2) refl refl refl refl refl)
+    grind (arith, says_of role s at (Says message) is, of_some, linked_counts, owed_unsaid)
 held_counts role slots queue s l at reach (Replies p reply) held holding is same =
     let says = says_of role s at (Replies p reply) is in
     let here = opened_here role slots queue s l at p holding says.0 in

@@ -1,5 +1,5 @@
 -- A step of the switch's end that is idle leaves the whole port as it was: a frame that moves to the end from the out queue is published.
-use Rattle.std.proofs.Common.{◌≡◌, ℕ, ◌≤◌, Bool, true, false, Option, Some, List, [], ◌∷◌, length, refl, ap, ◌∙◌, arith, length-append}
+use Rattle.std.proofs.Common.{◌≡◌, ℕ, ◌≤◌, Bool, true, false, Some, List, [], ◌∷◌, length, refl, arith, length-append}
 use Rattle.std.specs.Prelude.{is_some, nat_lt}
 use Rattle.std.proofs.lemmas.Bool.{and_parts}
 use Rattle.ldc_link.specs.declared.phase.Role.TheVariants.{Responder}
@@ -10,19 +10,17 @@ use Rattle.port_model.proofs.Ruling.{says_of}
 use Rattle.port_model.specs.FramesStand.{FramesStand}
 use Rattle.port_model.specs.NetEndRule.{Idles, port_rule}
 use Rattle.port_model.specs.NetEndState.{NetSession, unseen_in}
-use Rattle.port_model.specs.NetEndStep.{Idle, NetLeft}
+use Rattle.port_model.specs.NetEndStep.{Idle}
 use Rattle.port_model.specs.NetEvent.{CalmTick, Steps}
-use Rattle.port_model.specs.NetLaneState.{IsNetShape, NetLaneState, NetShape, seen_at, with_left}
+use Rattle.port_model.specs.NetLaneState.{IsNetShape, NetShape, seen_at}
 use Rattle.port_model.specs.PortLog.{PortLog, after, no_events}
-use Rattle.port_model.specs.PortState.{OnLane, PortEvent, PortState, PortStep, fresh_port, moved, moves_first, takes_more}
+use Rattle.port_model.specs.PortState.{OnLane, PortEvent, PortState, PortStep, fresh_port, moves_first, takes_more}
 use Rattle.port_laws.proofs.PortCounts.{ready_before}
 use Rattle.port_laws.proofs.StepCounts.{counts_stand}
 use Rattle.port_laws.proofs.RingRuns.{port_kept}
 use Rattle.port_laws.proofs.RuleFrames.{end_stood}
 use Rattle.port_laws.proofs.RuleIdle.{past_end, rule_left}
-
-some_session : (session : Option NetSession) → is_some session ≡ true → (p : NetSession) × (session ≡ Some p)
-some_session session is = grind arith
+use Rattle.port_laws.proofs.PutCounts.{some_of}
 
 -- an idle end in session published all that it holds
 idle_long : (s : PortState) (p : NetSession) → port_rule Responder s.lane.hub (seen_at B s.lane) ≡ Idles → s.lane.hub.session ≡ Some p → length s.lane.hub.frames ≤ unseen_in p
@@ -32,20 +30,14 @@ moves_none : (b : Bool) (queue : List (List ℕ)) (s : PortState) → takes_more
     → port_rule Responder (moves_first b queue s).lane.hub (seen_at B (moves_first b queue s).lane) ≡ Idles → moves_first b queue s ≡ s
 moves_none true [] s takes is stands idles = refl
 moves_none true (frame ∷ frames) s takes is stands idles =
-    let session = some_session s.lane.hub.session (and_parts (is_some s.lane.hub.session) (nat_lt (length s.lane.hub.frames) s.lane.hub.slots) takes).0 in
+    let session = some_of s.lane.hub.session (and_parts (is_some s.lane.hub.session) (nat_lt (length s.lane.hub.frames) s.lane.hub.slots) takes).0 in
     let held = (counts_stand s.lane.hub session.0 stands session.1).held in
     let long = idle_long (moves_first true (frame ∷ frames) s) session.0 idles session.1 in
     absurd (omega (arith, held, long, length-append s.lane.hub.frames (frame ∷ [])))
 moves_none false queue s takes is stands idles = refl
 
-idle_lane : (u t : NetLaneState) (left : NetLeft) → left ≡ record { end = u.hub; own = u.hub_memory; peer = u.guest_memory } → t ≡ record (with_left B left u) { wire = u.wire } → t ≡ u
-idle_lane u t left same is = is ∙ ap (λ (x : NetLeft). record (with_left B x u) { wire = u.wire }) same
-
 pub idle_stays : (shape : NetShape) (events : List PortEvent) (s t : PortState) → IsNetShape shape → Run PortStep (fresh_port shape) events s → PortStep s (OnLane (Steps B Idle)) t → t ≡ s
 idle_stays shape events s t is run step =
     let l : PortLog = log_of after (no_events shape) events in
     let stands : FramesStand s.lane.hub = end_stood shape B s l (ready_before shape s l (CalmTick 0) is (port_kept shape events s is run).counts) in
-    let lane : t.lane ≡ (moved s).lane = idle_lane (moved s).lane t.lane step.1.left step.1.step.1 step.1.is in
-    let queue : t.queue ≡ (moved s).queue = step.2 in
-    ap (λ (x : NetLaneState). record { lane = x; queue = t.queue }) lane ∙ ap (λ (x : List (List ℕ)). record { lane = (moved s).lane; queue = x }) queue
-    ∙ moves_none (takes_more s.lane.hub) s.queue s refl refl stands step.1.step.0
+    grind (arith, moves_none)

@@ -1,6 +1,6 @@
 -- Each event of a port's lane is one of two ends on a channel.
-use Rattle.std.proofs.Common.{◌≡◌, ◌≢◌, ℕ, ◌≤◌, Bool, true, false, Option, Some, None, List, [], ◌∷◌, refl, sym, subst, ap, arith}
-use Rattle.std.specs.Prelude.{is_some, slice_get}
+use Rattle.std.proofs.Common.{◌≡◌, ◌≢◌, ℕ, Bool, true, false, Option, Some, None, List, [], ◌∷◌, refl, sym, subst, ap, arith}
+use Rattle.std.specs.Prelude.{slice_get}
 use Rattle.std.proofs.lemmas.Bool.Decides.{nat_tests}
 use Rattle.cookie_copy.specs.Faults.{is_up}
 use Rattle.ldc_link.specs.declared.phase.Role.{Role}
@@ -22,15 +22,15 @@ use Rattle.channel_laws.specs.EndStep.{EndBegins, EndStays, EndStep}
 use Rattle.channel_laws.proofs.EndsAtRest.{none_waits}
 use Rattle.channel_laws.specs.LaneCore.{AnswerStands, CoreStands, CoreStep, move_of, reset_move, wire_after}
 use Rattle.port_model.specs.NetEndPutting.{net_holds}
-use Rattle.port_model.specs.NetEndRule.{Fetches, Idles, Joins, NetRule, Takes, port_rule}
-use Rattle.port_model.specs.NetEndState.{NetEndState, NetSession, joined_net_end}
-use Rattle.port_model.specs.NetEndStep.{Blocked, Frame, Given, Idle, Joined, Joining, NetAnswer, NetEndStep, NetFails, NetGives, NetJoins, NetLeft, Published, Reset, Sent, Took, untold}
+use Rattle.port_model.specs.NetEndRule.{Idles, Joins, NetRule, Takes, port_rule}
+use Rattle.port_model.specs.NetEndState.{NetEndState, joined_net_end}
+use Rattle.port_model.specs.NetEndStep.{Blocked, Frame, Given, Idle, Joined, Joining, NetAnswer, NetEndStep, NetFails, NetGives, NetJoins, NetLeft, Published, Reset, Sent, Took}
 use Rattle.port_model.specs.NetEvent.{Asked, Declines, Gives, Injects, Joins as JoinsGroup, Loses, NetEvent, Pokes, Steps, Ticked, on_wire}
 use Rattle.port_model.specs.NetLaneState.{NetLaneState, NetShape, fresh_net, net_end, reach_of, role_at, seen_at, memory_of}
 use Rattle.port_model.specs.NetLaneStep.{NetLaneStep, Resets, declined_at, moved_on, net_wire, sizes_of}
 use Rattle.port_model.proofs.OwnResets.{net_resets_own}
 use Rattle.port_model.proofs.Ruling.{says_of}
-use Rattle.port_laws.specs.NetCore.{core_event, core_events, event_core, fresh_net_core, is_begun, lane_core, more_of, net_core, net_core_at}
+use Rattle.port_laws.specs.NetCore.{core_event, core_events, event_core, fresh_net_core, is_begun, lane_core, net_core, net_core_at}
 use Rattle.port_laws.specs.NetFits.{NetFits}
 use Rattle.port_laws.proofs.EndMoves.{move_by, stays_with, step_core}
 use Rattle.port_laws.proofs.Fitting.{BothFit, event_fits}
@@ -41,10 +41,10 @@ pub wire_same : (l : WireLog) (event : Option WireEvent) → moved_on l event �
 wire_same l event = grind arith
 
 -- WHERE AN ANSWER STANDS
-up_of : (state : ChannelState) → is_up state ≡ true → state ≡ Up
+pub up_of : (state : ChannelState) → is_up state ≡ true → state ≡ Up
 up_of state is = grind (arith, false_true)
 
-not_up : (state : ChannelState) → is_up state ≡ false → state ≢ Up
+pub not_up : (state : ChannelState) → is_up state ≡ false → state ≢ Up
 not_up state is = grind (arith, true_false, false_true)
 
 pub holds_up : (role : Role) (s : NetEndState) (at : Seen) (reach : Reach) (rule : NetRule) (held : NetEndState) → port_rule role s at ≡ rule → net_holds rule s reach ≡ Some held → is_up at.state ≡ true
@@ -61,10 +61,7 @@ fails_stand : (e : End) (s : NetLaneState) (rule : NetRule) (cause : Cause) (pac
 fails_stand e s (Takes bytes) cause packet is fails =
     let says = says_of (role_at e) (net_end e s) (seen_at e s) (Takes bytes) is in
     (up_of (state_of e s.wire.wire) says.0.up, carries_first e s.wire.wire bytes packet fails.0 says.1)
-fails_stand e s (Fetches p activity) cause packet is fails =
-    let says = says_of (role_at e) (net_end e s) (seen_at e s) (Fetches p activity) is in
-    (up_of (state_of e s.wire.wire) says.0.free.up, carries_none e s.wire.wire packet fails.0)
-fails_stand e s _ cause packet is fails = absurd fails
+fails_stand e s rule cause packet is fails = grind (arith, says_of, up_of, carries_none)
 
 answer_stands : (e : End) (s : NetLaneState) (answer : NetAnswer) (left : NetLeft)
     → NetEndStep (role_at e) (net_end e s) (seen_at e s) (memory_of e s) (reach_of e s) answer left
@@ -73,23 +70,13 @@ answer_stands e s (Joined lost) left step = not_up (state_of e s.wire.wire) (say
 answer_stands e s (Took packet opens) left step =
     let says = says_of (role_at e) (net_end e s) (seen_at e s) (Takes packet) step.0 in
     (up_of (state_of e s.wire.wire) says.0.up, says.1)
-answer_stands e s (Sent packet opens) left step =
-    let room = step.room in (
-      up_of (state_of e s.wire.wire) (holds_up (role_at e) (net_end e s) (seen_at e s) (reach_of e s) (port_rule (role_at e) (net_end e s) (seen_at e s)) step.held refl step.holds),
-      grind (arith, nat_tests, room),
-    )
-answer_stands e s Blocked left step =
-    let room = step.1 in (
-      up_of (state_of e s.wire.wire) (holds_up (role_at e) (net_end e s) (seen_at e s) (reach_of e s) (port_rule (role_at e) (net_end e s) (seen_at e s)) left.end refl step.0),
-      grind (arith, nat_tests, room),
-    )
+answer_stands e s (Sent packet opens) left step = grind (arith, step.room, up_of, holds_up, nat_tests)
+answer_stands e s Blocked left step = grind (arith, step.1, up_of, holds_up, nat_tests)
 answer_stands e s Idle left step =
     let says = says_of (role_at e) (net_end e s) (seen_at e s) Idles step.0 in
     (up_of (state_of e s.wire.wire) says.0.up, none_waits (waiting_for e s.wire.wire) says.1)
 answer_stands e s (Reset cause packet lost) left step =
-    subst (λ (x : Giver). MayReset x packet e s.wire.wire)
-    (sym (net_resets_own (role_at e) (port_rule (role_at e) (net_end e s) (seen_at e s)) (net_end e s) (memory_of e s) (reach_of e s) cause packet step.0))
-    (fails_stand e s (port_rule (role_at e) (net_end e s) (seen_at e s)) cause packet refl step.0)
+    rw (net_resets_own _ _ _ _ _ _ _ step.0) (fails_stand e s _ _ _ refl step.0)
 answer_stands e s _ left step = tt
 
 -- WHAT IT IS for both ends
@@ -170,11 +157,7 @@ up_moves e s answer left fits step up =
 
 end_moves : (e : End) (s : NetLaneState) (answer : NetAnswer) (left : NetLeft) → NetFits (role_at e) (net_end e s)
     → NetEndStep (role_at e) (net_end e s) (seen_at e s) (memory_of e s) (reach_of e s) answer left → Moves e s answer left
-end_moves e s (Joined lost) left fits step =
-    let before = is_begun (state_of e s.wire.wire) in
-    let now = is_begun (state_of e (net_wire (Steps e (Joined lost)) s).wire) in
-    subst (λ (m : EndMove). EndStep (role_at e) (net_core_at (role_at e) before (net_end e s)) m (net_core_at (role_at e) now left.end)) (sym (moves_own e s (Joined lost) left step))
-    (joined_moves (role_at e) before now (net_end e s) left.end (ap (λ (x : NetLeft). x.end) step.2))
+end_moves e s (Joined lost) left fits step = grind (arith, moves_own, joined_moves)
 end_moves e s (Published id) left fits step = up_moves e s (Published id) left fits step (published_up e s id left step)
 end_moves e s (Frame frame) left fits step = up_moves e s (Frame frame) left fits step (frame_up e s frame left step)
 end_moves e s (Reset cause packet lost) left fits step = up_moves e s (Reset cause packet lost) left fits step (reset_up e s cause packet lost left step)
@@ -197,14 +180,8 @@ ticked_core s queued lost t resets = grind (arith, begins, stays_at, peer_begun,
 gives_stays : (role : Role) (s : NetEndState) (given : Given) (t : NetEndState) → NetGives s given t → EndStays (net_core role s) (net_core role t)
 gives_stays role s given t gives = grind (arith, same_stays, stays_with)
 
-untold_open : (session : Option NetSession) → is_some (untold session) ≡ is_some session
-untold_open session = grind arith
-
-untold_more : (session : Option NetSession) → more_of (untold session) ≤ more_of session
-untold_more session = grind arith
-
 joins_stays : (s : NetEndState) (joining : Joining) (t : NetEndState) → NetJoins s joining t → EndStays (net_core Initiator s) (net_core Initiator t)
-joins_stays s joining t joins = grind (arith, same_stays, stays_with, untold_open, untold_more)
+joins_stays s joining t joins = grind (arith, same_stays, stays_with)
 
 -- WHAT CAME TO NOTHING
 declined_stands : (d : Declined) (s : NetLaneState) → DeclinesAt (sizes_of (declined_at d) s) s.wire d → AnswerStands s.shape.entries s.wire d

@@ -12,12 +12,12 @@ use Rattle.vio_tag.specs.declared.message.MsgBody.TheVariants.{DringData}
 use Rattle.vio_tag.specs.Form.{HasForm, IsWellFormed}
 use Rattle.vio_tag.specs.Spelling.{SpellsBody, SpellsMessage, envelope_code}
 use Rattle.dring.specs.Slots.{range_length}
-use Rattle.port_laws.proofs.MessageDoes.{Acks, Asks, Declines, MessageDoes, Names, TakeDoes, Told, message_does}
+use Rattle.port_laws.proofs.MessageDoes.{Acks, MessageDoes, TakeDoes, message_does, Asks, Declines, Names, Told}
 use Rattle.port_laws.specs.LetsGo.{InOrder, LetsGo, TakeLetsGo, TakeLetsNoneGo, acks}
 use Rattle.port_model.proofs.Refuting.{false_true}
 use Rattle.port_model.specs.EndLog.{acked_by}
 use Rattle.port_model.specs.NetEndState.{NetEndState, NetSession}
-use Rattle.port_model.specs.NetEndTaking.{GoesOn, NetTake, Resets, active, by_handshake, hears_message, opens_by_take, replying}
+use Rattle.port_model.specs.NetEndTaking.{GoesOn, NetTake, Resets, by_handshake, hears_message, opens_by_take}
 use Rattle.port_model.specs.Spoken.{Spoken, spoken, spoken_by}
 
 -- WHAT AN ACK NAMES, by the bytes of the message
@@ -46,8 +46,7 @@ kind_seen : (role : Role) (s : NetEndState) (p : NetSession) (memory : List ℕ)
     → MessageDoes role s p memory subtype b t new → LetsGo s p (acks s.slots b subtype) t opens
 kind_seen role s p memory subtype b t opens new order shut (Asks seq ident start end state kind body place stays is) =
     let none : acks s.slots b subtype ≡ 0 = ap (λ (x : MsgBody). acks s.slots x subtype) body ∙ ap (acks s.slots (DringData seq ident start end state)) kind in
-    subst (λ (n : ℕ). LetsGo s p n t opens) (sym none)
-    (same_seen s p (active p seq start) t opens (ap (λ (x : NetEndState). x.session) is) refl refl refl (ap (λ (x : NetEndState). x.frames) is) (ap (λ (x : NetEndState). x.next_id) is) shut)
+    grind (arith, same_seen)
 kind_seen role s p memory subtype b t opens new order shut (Acks seq ident start end state kind body begins inside most undone stays is) =
     let count : ℕ = range_length s.slots start end in
     let named : acks s.slots b subtype ≡ count = ap (λ (x : MsgBody). acks s.slots x subtype) body ∙ ap (acks s.slots (DringData seq ident start end state)) kind in
@@ -64,13 +63,9 @@ kind_seen role s p memory subtype b t opens new order shut (Acks seq ident start
       shut = shut;
     })
 kind_seen role s p memory subtype b t opens new order shut (Names set count addresses groups reply answer guest kind body stays is) =
-    let none : acks s.slots b subtype ≡ 0 = ap (λ (x : MsgBody). acks s.slots x subtype) body in
-    subst (λ (n : ℕ). LetsGo s p n t opens) (sym none)
-    (same_seen s p (replying reply p) t opens (ap (λ (x : NetEndState). x.session) is) refl refl refl (ap (λ (x : NetEndState). x.frames) is) (ap (λ (x : NetEndState). x.next_id) is) shut)
+    grind (arith, ap (λ (x : MsgBody). acks s.slots x subtype) body, same_seen)
 kind_seen role s p memory subtype b t opens new order shut (Told set count addresses guest kind body telling stays is) =
-    let none : acks s.slots b subtype ≡ 0 = ap (λ (x : MsgBody). acks s.slots x subtype) body in
-    subst (λ (n : ℕ). LetsGo s p n t opens) (sym none)
-    (same_seen s p (record p { telling = false }) t opens (ap (λ (x : NetEndState). x.session) is) refl refl refl (ap (λ (x : NetEndState). x.frames) is) (ap (λ (x : NetEndState). x.next_id) is) shut)
+    grind (arith, ap (λ (x : MsgBody). acks s.slots x subtype) body, same_seen)
 kind_seen role s p memory subtype b t opens new order shut (Declines h declined stays is) =
     subst (λ (n : ℕ). LetsGo s p n t opens) (sym (declined_none s.slots subtype b declined))
     (same_seen s p p t opens (ap (λ (x : NetEndState). x.session) is ∙ order.session) refl refl refl (ap (λ (x : NetEndState). x.frames) is) (ap (λ (x : NetEndState). x.next_id) is) shut)

@@ -5,7 +5,7 @@ use Rattle.std.specs.Prelude.{slice_get, ⊤}
 use Rattle.std.proofs.lemmas.Bool.{and_parts, cases_lt, leb-true}
 use Rattle.std.proofs.lemmas.Option.{slice_get_within}
 use Rattle.ldc_queue.specs.declared.end.End.TheVariants.{A, B}
-use Rattle.ldc_queue.specs.Transcript.{Turn}
+use Rattle.ldc_queue.specs.Transcript.{Utterance}
 use Rattle.vnet_msg.specs.Frames.{IsFrame, is_frame_length}
 use Rattle.channel_model.specs.Messages.{ended_by}
 use Rattle.channel_model.specs.Sayings.{half_heard, half_said}
@@ -66,7 +66,7 @@ publishes_head : (log : Option SessionLog) (opened : List OpenedLog) (published 
     → HeadIn (change more_published log) (published_in opened) (published + 1)
 publishes_head log opened published head = grind arith
 
-answer_log : (slots : ℕ) (turns : List Turn) (answer : NetAnswer) (l : EndLog) → EndLogStands l → EndLogStands (after_answer slots turns answer l)
+answer_log : (slots : ℕ) (turns : List Utterance) (answer : NetAnswer) (l : EndLog) → EndLogStands l → EndLogStands (after_answer slots turns answer l)
 answer_log slots turns (Took packet opens) l stands =
     opens_head opens _ _
     (record { head = head_change (heard_in slots (ended_by (half_heard turns) packet)) l.session l.opened l.published (heard_same slots (ended_by (half_heard turns) packet)) stands.head; given = stands.given })
@@ -124,11 +124,8 @@ pub record TablesStand (shape : NetShape) (s : NetLaneState) : Type 0 where
   pub guest : s.guest_table ≡ fresh_table shape
   pub hub : s.hub_table ≡ fresh_table shape
 
-tables_as : (shape : NetShape) (s t : NetLaneState) → t.guest_table ≡ s.guest_table → t.hub_table ≡ s.hub_table → TablesStand shape s → TablesStand shape t
-tables_as shape s t guest hub stands = record { guest = guest ∙ stands.guest; hub = hub ∙ stands.hub }
-
 pub tables_event : (shape : NetShape) (u : NetLaneState) (event : NetEvent) (t : NetLaneState) → NetLaneStep u event t → TablesStand shape u → TablesStand shape t
-tables_event shape u event t step = grind (arith, tables_as)
+tables_event shape u event t step = grind arith
 
 pub fresh_logs : (shape : NetShape) → LogsStand (no_events shape)
 fresh_logs shape = record { guest = record { head = tt; given = λ n frame get. absurd (cc get) }; hub = record { head = tt; given = λ n frame get. absurd (cc get) } }

@@ -7,14 +7,14 @@ use Rattle.cookie_copy.proofs.Steps.{length-write_spots}
 use Rattle.cookie_copy.specs.Faults.{is_up}
 use Rattle.cookie_copy.specs.Moved.{moved_in, moved_out, moved_spots, place_of}
 use Rattle.cookie_copy.specs.Reach.{Reach}
-use Rattle.dring.proofs.Turning.{length-free_slots}
+use Rattle.dring.proofs.Laps.{length-free_slots}
 use Rattle.dring.specs.Slots.{free_slots, free_state, range_length}
 use Rattle.ldc_link.specs.declared.phase.Role.{Role}
 use Rattle.ldc_link.specs.declared.phase.Role.TheVariants.{Initiator, Responder}
 use Rattle.ldc_packet.specs.declared.packet.Subtype.{Subtype}
 use Rattle.ldc_queue.specs.declared.end.End.{End}
 use Rattle.ldc_queue.specs.declared.end.End.TheVariants.{A, B}
-use Rattle.ldc_queue.specs.Transcript.{Turn}
+use Rattle.ldc_queue.specs.Transcript.{Utterance}
 use Rattle.map_table.specs.declared.cookie.Cookie.{Cookie}
 use Rattle.runs.specs.Lawful.{log_of, run_lawful}
 use Rattle.runs.specs.Run.{Run}
@@ -29,10 +29,10 @@ use Rattle.channel_model.specs.TranscriptLog.{transcript_of}
 use Rattle.port_model.proofs.Moving.{before_keeps}
 use Rattle.port_model.proofs.Ruling.{says_of}
 use Rattle.port_model.specs.Fetching.{slots_cookies}
-use Rattle.port_model.specs.NetEndPutting.{cleared_by_put, cleared_ring, net_opens}
+use Rattle.port_model.specs.NetEndPutting.{cleared_by_put, cleared_ring}
 use Rattle.port_model.specs.NetEndRule.{Publishes, Takes}
 use Rattle.port_model.specs.NetEndState.{NetEndState, NetSession, unseen_in}
-use Rattle.port_model.specs.NetEndStep.{Frame, Idle, NetAnswer, NetEndStep, NetLeft, Published, Sent, Took, published_memory}
+use Rattle.port_model.specs.NetEndStep.{Frame, NetAnswer, NetEndStep, NetLeft, Published, Took, published_memory}
 use Rattle.port_model.specs.NetEndTaking.{GoesOn, NetTake, Resets, freed}
 use Rattle.port_model.specs.NetEvent.{Asked, CalmTick, Declines, Gives, Injects, NetEvent, Pokes, Steps, Ticked}
 use Rattle.port_model.specs.NetLaneState.{IsNetShape, NetLaneState, NetShape, memory_of, net_end, reach_of, role_at, seen_at}
@@ -79,8 +79,7 @@ freed_long : (slots number count : ℕ) (memory : List ℕ) → 1 ≤ slots → 
 freed_long slots number zero memory some room = refl
 freed_long slots number (suc count) memory some room =
     let below = mod_below number slots (omega (arith, some)) in
-    let same : length (put_at (64 * (number % slots)) (free_state ∷ []) memory) ≡ length memory =
-    length-put_at (64 * (number % slots)) (free_state ∷ []) memory (omega (arith, below, room)) in
+    let same = length-put_at (64 * (number % slots)) (free_state ∷ []) memory (omega (arith, below, room)) in
     freed_long slots (number + 1) count (put_at (64 * (number % slots)) (free_state ∷ []) memory) some (omega (arith, same, room)) ∙ same
 
 cleared_long : (slots : ℕ) (memory : List ℕ) → 64 * slots ≤ length memory → length (cleared_ring slots memory) ≡ length memory
@@ -108,7 +107,7 @@ moved_long reach cookies offset bytes = length-write_spots (map (place_of reach.
 abbrev SameLong : List ℕ → List ℕ → NetLeft → Type 0
 SameLong own peer left = (length left.own ≡ length own) × (length left.peer ≡ length peer)
 
-step_long : (role : Role) (s : NetEndState) (turns : List Turn) (at : Seen) (memory : List ℕ) (reach : Reach) (answer : NetAnswer) (left : NetLeft) → 1 ≤ s.slots → Fits s.slots memory
+step_long : (role : Role) (s : NetEndState) (turns : List Utterance) (at : Seen) (memory : List ℕ) (reach : Reach) (answer : NetAnswer) (left : NetLeft) → 1 ≤ s.slots → Fits s.slots memory
     → (is_up at.state ≡ true → Owns role s turns memory) → NetEndStep role s at memory reach answer left → SameLong memory reach.memory left
 step_long role s turns at memory reach (Took packet opens) left some fits owns step =
     let few = fits.few in
@@ -117,24 +116,17 @@ step_long role s turns at memory reach (Took packet opens) left some fits owns s
       written_long s.slots memory left.own some (omega (arith, few, room)) (take_written role s memory (GoesOn left.end opens left.own) (took_what role s turns memory packet (GoesOn left.end opens left.own) ends step.1)),
       ap length step.2,
     )
-step_long role s turns at memory reach (Sent packet opens) left some fits owns step =
-    let few = fits.few in
-    let room = fits.room in
-    subst (SameLong memory reach.memory) (sym step.is) (put_long role (net_opens step.held) s.slots memory (omega (arith, few, room)), refl)
-step_long role s turns at memory reach Idle left some fits owns step = subst (SameLong memory reach.memory) (sym step.1) (refl, refl)
 step_long role s turns at memory reach (Published id) left some fits owns step =
     let says = says_of role s at (Publishes step.session step.frame) step.rule in
     let is = (owns says.0.in_session.free.up).frames (unseen_in step.session) step.frame says.1 in
-    subst (SameLong memory reach.memory) (sym step.is)
-    (published_long s.slots (step.session.published % s.slots) step.frame memory fits (mod_below step.session.published s.slots (omega (arith, some))) is, refl)
+    grind (arith, published_long, mod_below)
 step_long role s turns at memory reach (Frame frame) left some fits owns step =
-    let found = found_frame s reach step.session.place frame step.new step.found in
     subst (SameLong memory reach.memory) (sym step.is) (
       refl,
-      ap length found.new_is
+      ap length (found_frame s reach step.session.place frame step.new step.found).new_is
           ∙ moved_long reach (slots_cookies s) (64 * step.session.place) (header 4 (net_desc_of (moved_in reach.table reach.memory (slots_cookies s) (64 * step.session.place) 64)).ack),
     )
-step_long role s turns at memory reach _ left some fits owns step = subst (SameLong memory reach.memory) (sym step.2) (refl, refl)
+step_long role s turns at memory reach answer left some given owns step = grind (arith, put_long)
 
 -- A LANE
 pub record LongMemory (slots : ℕ) (s : NetLaneState) : Type 0 where

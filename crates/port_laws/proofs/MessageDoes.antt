@@ -7,9 +7,8 @@ use Rattle.ldc_link.specs.declared.phase.Role.TheVariants.{Initiator, Responder}
 use Rattle.ldc_packet.specs.declared.packet.Subtype.{Subtype}
 use Rattle.ldc_packet.specs.declared.packet.Subtype.TheVariants.{Ack, Info, Nack}
 use Rattle.vio_handshake.specs.declared.handshake.Handshake.{Handshake}
-use Rattle.vio_handshake.specs.declared.handshake.Phase.{Phase}
 use Rattle.vio_handshake.specs.declared.handshake.Phase.TheVariants.{Open}
-use Rattle.vio_handshake.specs.Rules.{Faults, Goes, GoesOpen, HandshakeTake, fault_or, handshake_take, is_declined, row}
+use Rattle.vio_handshake.specs.Rules.{Faults, Goes, GoesOpen, HandshakeTake, handshake_take, is_declined, row}
 use Rattle.vio_tag.specs.declared.cause.Cause.{Cause}
 use Rattle.vio_tag.specs.declared.cause.Cause.TheVariants as the_cause
 use Rattle.vio_tag.specs.declared.message.Message.{Message}
@@ -23,6 +22,7 @@ use Rattle.port_model.specs.EndLog.{list_after}
 use Rattle.port_model.specs.Groups.{groups_after}
 use Rattle.port_model.specs.NetEndState.{GroupsReply, NetEndState, NetSession, with_session}
 use Rattle.port_model.specs.NetEndTaking.{GoesOn, NetTake, Resets, acknowledged, active, by_handshake, ends_outside, first_undone, freed, hears_message, in_session, refused, replying, sid_first, takes_ack, takes_done, takes_groups, takes_info, takes_range, told}
+use Rattle.channel_laws.proofs.EndStanding.{opened_phase}
 
 -- an INFO that is the next
 pub record IsNext (p : NetSession) (seq start : ℕ) : Type 0 where
@@ -127,22 +127,13 @@ refused_does s p memory set count addresses = grind (arith, does_if)
 open_row : (role : Role) (h : Handshake) (subtype : Subtype) (sid : ℕ) (b : MsgBody) → row role Open h subtype sid b ≡ Faults the_cause.Order
 open_row role h subtype sid b = grind arith
 
-pub is_open_phase : (ph : Phase) → is_open_in ph ≡ true → ph ≡ Open
-is_open_phase ph is = grind (arith, false_true)
-
 abbrev Declining : Subtype → MsgBody → HandshakeTake → Type 0
 Declining subtype b (Goes h) = is_declined subtype b ≡ true
 Declining subtype b (GoesOpen h) = ⊥
 Declining subtype b (Faults cause) = ⊤
 
-declining_if : (subtype : Subtype) (b : MsgBody) (test : Bool) (h : Handshake) (rest : HandshakeTake) → is_declined subtype b ≡ test → Declining subtype b rest → Declining subtype b (if test then (Goes h) else rest)
-declining_if subtype b test h rest is declines = grind arith
-
-declining_or : (subtype : Subtype) (b : MsgBody) (fault : Option Cause) (rest : HandshakeTake) → Declining subtype b rest → Declining subtype b (fault_or fault rest)
-declining_or subtype b fault rest declines = grind arith
-
 open_declines : (h : Handshake) (message : Message) → is_open_in h.phase ≡ true → Declining message.subtype message.body (handshake_take h message)
-open_declines h message is = grind (arith, is_open_phase, open_row, declining_or, declining_if)
+open_declines h message is = grind (arith, opened_phase, open_row)
 
 handshake_does : (role : Role) (s : NetEndState) (p : NetSession) (memory : List ℕ) (subtype : Subtype) (b : MsgBody) (take : HandshakeTake) → Declining subtype b take
     → TakeDoes role s p memory subtype b (by_handshake role s memory take)

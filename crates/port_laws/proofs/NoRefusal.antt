@@ -1,5 +1,5 @@
 -- On a port that nobody forged an end resets itself for a gap alone, and only behind a loss: no message of a session is refused.
-use Rattle.std.proofs.Common.{◌≡◌, ◌≢◌, ℕ, ◌+◌, ◌-◌, ◌%◌, ◌≤◌, ◌⊎◌, Bool, true, false, Option, Some, None, List, [], ◌∷◌, ◌++◌, inl, inr, refl, sym, ap, ◌∙◌, subst, arith}
+use Rattle.std.proofs.Common.{◌≡◌, ◌≢◌, ℕ, ◌+◌, ◌-◌, ◌%◌, ◌≤◌, ◌⊎◌, true, false, Option, Some, None, List, [], ◌∷◌, ◌++◌, inl, inr, refl, sym, ap, ◌∙◌, subst, arith}
 use Rattle.std.specs.Prelude.{is_some}
 use Rattle.std.proofs.lemmas.Nat.{mod_below}
 use Rattle.ldc_link.specs.declared.phase.Role.TheVariants.{Initiator, Responder}
@@ -11,7 +11,7 @@ use Rattle.ldc_queue.specs.declared.end.End.TheVariants.{A, B}
 use Rattle.ldc_queue.specs.OneStream.{IsFront}
 use Rattle.ldc_queue.specs.Transcript.{Heard}
 use Rattle.ldc_queue.specs.Wire.{peer_of, state_of}
-use Rattle.runs.specs.Lawful.{Lawful, log_of}
+use Rattle.runs.specs.Lawful.{Lawful}
 use Rattle.runs.specs.Run.{Run}
 use Rattle.vio_tag.specs.declared.cause.Cause.{Cause}
 use Rattle.vio_tag.specs.Spelling.{envelope_at, subtype_at}
@@ -41,32 +41,28 @@ use Rattle.port_model.specs.NetLaneState.{IsNetShape, NetLaneState, NetShape, me
 use Rattle.port_model.specs.NetLaneStep.{NetLaneStep}
 use Rattle.port_model.specs.PortLog.{PortLog, after, log_of_end, no_events}
 use Rattle.port_model.specs.PortMay.{OfWire}
-use Rattle.port_model.specs.PortState.{OnLane, PortEvent, PortState, PortStep, Receives, before, fresh_port}
-use Rattle.port_model.specs.RuleFacts.{RuleSays}
-use Rattle.port_model.specs.Spoken.{RangeAck, RangeInfo, Spoken, range_spoken, spoken, spoken_by}
-use Rattle.port_laws.specs.Counted.{EndCounts}
+use Rattle.port_model.specs.PortState.{OnLane, PortEvent, PortState, PortStep, before, fresh_port}
+use Rattle.port_model.specs.Spoken.{RangeAck, RangeInfo, range_spoken, spoken, spoken_by}
 use Rattle.port_laws.specs.NetCore.{fresh_net_core, lane_core}
 use Rattle.port_laws.specs.PortCore.{port_core, port_events}
 use Rattle.port_laws.specs.RingHolds.{RingHolds}
 use Rattle.port_laws.specs.RingStands.{RingIn, taken_by}
-use Rattle.port_laws.specs.WaysStand.{Way, Ways, WaysStand, ack_first, acks_in, info_first, infos_in, or_new}
+use Rattle.port_laws.specs.WaysStand.{Way, Ways, WaysStand, acks_in, infos_in, or_new}
 use Rattle.port_laws.proofs.CoreLaws.{offers_match, sizes_fit}
-use Rattle.port_laws.proofs.EndCounting.{OpenCounts, open_empty}
-use Rattle.port_laws.proofs.HearsIn.{AllAgreed, Hears, OwnRead, hears_in, mine_agreed}
-use Rattle.port_laws.proofs.LaneMoves.{event_core_step}
+use Rattle.port_laws.proofs.EndCounting.{open_empty}
+use Rattle.port_laws.proofs.HearsIn.{AllAgreed, OwnRead, hears_in, mine_agreed}
+use Rattle.port_laws.proofs.LaneMoves.{event_core_step, up_of}
 use Rattle.port_laws.proofs.Outbox.{MessageFits, outbox}
 use Rattle.port_laws.proofs.PeerOpens.{PeerIn, TwoEnds, least_heard, peer_open}
 use Rattle.port_laws.proofs.PortCounts.{PortCounts, queue_of}
-use Rattle.port_laws.proofs.PortRuns.{before_core, before_fits, fresh_port_core, lawful_along, port_fits_behind, spoken_behind}
+use Rattle.port_laws.proofs.PortRuns.{before_core, before_fits, fresh_port_core, lawful_on_lane, port_fits_behind, spoken_behind}
 use Rattle.port_laws.proofs.PortTwoEnds.{answers_of, asks_of, open_turns}
 use Rattle.port_laws.proofs.Refusing.{Expects, ack_comes, info_comes, ring_done, taken_in_session}
 use Rattle.port_laws.proofs.RingActs.{Finds, core_open, open_both, ring_of_end}
 use Rattle.port_laws.proofs.RingRuns.{finds_before}
 use Rattle.port_laws.proofs.RuleFrames.{end_acts, end_counted}
-use Rattle.port_laws.proofs.RuleRest.{up_state}
 use Rattle.port_laws.proofs.RuleSlots.{slot_reset}
 use Rattle.port_laws.proofs.PutCounts.{some_of}
-use Rattle.port_laws.proofs.StepCounts.{Acting}
 use Rattle.port_laws.proofs.TakesIn.{InSession, in_own_session, next_read}
 use Rattle.port_laws.proofs.GroupsExchanged.{ExchangeIn, is_telling}
 use Rattle.port_laws.proofs.ExchangeGuest.{ExchangeStands, guest_sid, hub_agreed}
@@ -75,6 +71,7 @@ use Rattle.port_laws.proofs.ExchangeSteps.{outbox_heard}
 use Rattle.port_laws.proofs.TookCounts.{free_empty, session_up}
 use Rattle.port_laws.proofs.WayMoves.{first_came, span, swap_ways}
 use Rattle.port_laws.proofs.WayRuns.{guest_open_up, new_taken, turn_at, ways_before}
+use Rattle.channel_laws.proofs.NextHeard.{own_gap}
 
 -- BOTH DIRECTIONS, as an end has them
 abbrev WaysAt : End → NetLaneState → PortLog → Type 0
@@ -98,214 +95,141 @@ expects_at : (shape : NetShape) (e : End) (u : PortState) (l : PortLog) (k : Lin
     → state_of (peer_of e) u.lane.wire.wire ≡ Up → (net_end e u.lane).session ≡ Some p → WaysAt e u.lane l → (net_end e u.lane).link.to_send ≡ []
     → IsFront (heard (transcript_of e l.transcript) ++ bytes ∷ []) (said (transcript_of (peer_of e) l.transcript)) → MessageFits (other (role_at e)) sid bytes → AllAgreed (net_end e u.lane).handshake sid
     → (envelope_at bytes ≡ 0x0101 → role_at e ≡ Initiator → p.telling ≡ true) → Expects (role_at e) (record (net_end e u.lane) { link = k }) p (memory_of e u.lane) sid bytes
-expects_at shape e u l k bytes p sid finds up other_up session ways empty front fits agreed telling = record {
-  fits = fits;
-  own = agreed.own;
-  peer = agreed.peer;
-  info = λ range info.
-      let comes = info_comes slots w v bytes (infos_in rest) (acks_in ways.going) (first_info (spoken_info bytes range info)) in (
-        here.counts.peer.seq ∙ ap (λ (x : SessionLog). wrapped (x.asked + 1)) (sym mine) ∙ sym comes.seq,
-        here.counts.peer.place ∙ ap (λ (n : ℕ). here.of_log.taken % n) (sym slots_is)
-            ∙ ap (λ (x : SessionLog). x.taken % slots) (sym mine) ∙ sym comes.start,
-        comes.end,
-      );
-  ack = λ range ack.
-      let comes = ack_comes slots v w bytes (infos_in ways.going) (acks_in rest) (first_ack (spoken_ack bytes range ack)) in
-      let some = finds.ready.sound.some_slots in
-      let spans : v.seen + range_of slots bytes ≡ w.taken = span slots v.seen w.taken bytes (omega (arith, some, slots_is)) comes.some turn comes.start comes.end in
-      let seen : p.seen ≡ v.seen = sym here.counts.ring.seen ∙ ap (λ (x : SessionLog). x.seen) (sym mine) in
-      let own_slots : s.slots ≡ slots = counted.slots_is ∙ sym slots_is in
-      let first = ring.taken_first in
-      let same : range_of s.slots bytes ≡ range_of slots bytes = ap (λ (n : ℕ). range_of n bytes) own_slots in
-      let below = mod_below (w.taken - 1) slots (omega (arith, some, slots_is)) in (
-        ap (λ (n : ℕ). n % s.slots) seen ∙ ap (λ (n : ℕ). v.seen % n) own_slots ∙ sym comes.start,
-        omega (arith, comes.end, below, own_slots),
-        omega (arith, same, spans, seen, first, taken_is),
-        ap (λ (n : ℕ). first_undone n (memory_of e u.lane) p.seen (range_of n bytes)) own_slots
-            ∙ ring_done slots p.seen taken p.published s.frames (memory_of e u.lane) (range_of slots bytes) ring (omega (arith, spans, seen, taken_is)),
-      );
-  telling = telling;
-}
-  where
-    s : NetEndState
-    s = net_end e u.lane
-
-    slots : ℕ
-    slots = l.shape.slots
-
-    slots_is : l.shape.slots ≡ shape.slots
-    slots_is = ap (λ (z : NetShape). z.slots) finds.ready.shape_is
-
-    counted : EndCounts (role_at e) shape.slots (queue_of e u) s (log_of_end e l)
-    counted = end_counted shape e u l finds.ready
-
-    here : OpenCounts (role_at e) shape.slots s.groups (log_of_end e l).published (log_of_end e l).gone None s.link.begun p (log_of_end e l).session
-    here =
-        open_empty (role_at e) shape.slots (queue_of e u) s (log_of_end e l) p counted session empty
-
-    v : SessionLog
-    v = or_new (log_of_end e l).session
-
-    w : SessionLog
-    w = or_new (log_of_end (peer_of e) l).session
-
-    mine : v ≡ here.of_log
-    mine = ap or_new here.is
-
-    rest : List (List ℕ)
-    rest = front.0
-
-    came : ways.coming ≡ bytes ∷ rest
-    came = first_came slots (heard (transcript_of e l.transcript)) (heard (transcript_of e l.transcript) ++ bytes ∷ []) (said (transcript_of (peer_of e) l.transcript)) ways.coming rest bytes ways.comes refl front.1
-
-    first_info : spoken bytes ≡ RangeInfo → Way slots w v (bytes ∷ infos_in rest) (acks_in ways.going)
-    first_info is =
-        subst (λ (x : Spoken). Way slots w v (info_first x bytes (infos_in rest)) (acks_in ways.going)) is
-        (subst (λ (xs : List (List ℕ)). Way slots w v (infos_in xs) (acks_in ways.going)) came ways.theirs)
-
-    first_ack : spoken bytes ≡ RangeAck → Way slots v w (infos_in ways.going) (bytes ∷ acks_in rest)
-    first_ack is =
-        subst (λ (x : Spoken). Way slots v w (infos_in ways.going) (ack_first x bytes (acks_in rest))) is
-        (subst (λ (xs : List (List ℕ)). Way slots v w (infos_in ways.going) (acks_in xs)) came ways.mine)
-
-    turn : w.taken ≤ v.seen + slots
-    turn = subst (λ (x : SessionLog). w.taken ≤ x.seen + slots) (sym mine) (turn_at shape e u l here.of_log finds up other_up here.is)
-
-    taken : ℕ
-    taken = taken_by (state_of (peer_of e) u.lane.wire.wire) (log_of_end (peer_of e) l).session
-
-    taken_is : taken ≡ w.taken
-    taken_is = ap (λ (x : ChannelState). taken_by x (log_of_end (peer_of e) l).session) other_up ∙ sym (new_taken (log_of_end (peer_of e) l).session)
-
-    ring : RingHolds slots p.seen taken p.published s.frames (memory_of e u.lane)
-    ring = subst (λ (o : Option NetSession). RingIn slots taken o s.frames (memory_of e u.lane)) session (ring_of_end e u.lane l finds.rings up)
+expects_at shape e u l k bytes p sid finds up other_up session ways empty front fits agreed telling =
+    let s : NetEndState = net_end e u.lane in
+    let slots : ℕ = l.shape.slots in
+    let slots_is : l.shape.slots ≡ shape.slots = ap (λ (z : NetShape). z.slots) finds.ready.shape_is in
+    let counted = end_counted shape e u l finds.ready in
+    let here = open_empty (role_at e) shape.slots (queue_of e u) s (log_of_end e l) p counted session empty in
+    let v : SessionLog = or_new (log_of_end e l).session in
+    let w : SessionLog = or_new (log_of_end (peer_of e) l).session in
+    let mine : v ≡ here.of_log = ap or_new here.is in
+    let rest : List (List ℕ) = front.0 in
+    let came : ways.coming ≡ bytes ∷ rest =
+    first_came slots (heard (transcript_of e l.transcript)) (heard (transcript_of e l.transcript) ++ bytes ∷ []) (said (transcript_of (peer_of e) l.transcript)) ways.coming rest bytes ways.comes refl front.1 in
+    let first_info : spoken bytes ≡ RangeInfo → Way slots w v (bytes ∷ infos_in rest) (acks_in ways.going) = λ is.
+    rw is at (rw came at ways.theirs) in
+    let first_ack : spoken bytes ≡ RangeAck → Way slots v w (infos_in ways.going) (bytes ∷ acks_in rest) = λ is.
+    rw is at (rw came at ways.mine) in
+    let turn : w.taken ≤ v.seen + slots =
+    subst (λ (x : SessionLog). w.taken ≤ x.seen + slots) (sym mine) (turn_at shape e u l here.of_log finds up other_up here.is) in
+    let taken : ℕ = taken_by (state_of (peer_of e) u.lane.wire.wire) (log_of_end (peer_of e) l).session in
+    let taken_is : taken ≡ w.taken =
+    ap (λ (x : ChannelState). taken_by x (log_of_end (peer_of e) l).session) other_up ∙ sym (new_taken (log_of_end (peer_of e) l).session) in
+    let ring : RingHolds slots p.seen taken p.published s.frames (memory_of e u.lane) =
+    subst (λ (o : Option NetSession). RingIn slots taken o s.frames (memory_of e u.lane)) session (ring_of_end e u.lane l finds.rings up) in
+    record {
+      fits = fits;
+      own = agreed.own;
+      peer = agreed.peer;
+      info = λ range info.
+          let comes = info_comes slots w v bytes (infos_in rest) (acks_in ways.going) (first_info (spoken_info bytes range info)) in (
+            here.counts.peer.seq ∙ ap (λ (x : SessionLog). wrapped (x.asked + 1)) (sym mine) ∙ sym comes.seq,
+            here.counts.peer.place ∙ ap (λ (n : ℕ). here.of_log.taken % n) (sym slots_is)
+                ∙ ap (λ (x : SessionLog). x.taken % slots) (sym mine) ∙ sym comes.start,
+            comes.end,
+          );
+      ack = λ range ack.
+          let comes = ack_comes slots v w bytes (infos_in ways.going) (acks_in rest) (first_ack (spoken_ack bytes range ack)) in
+          let some = finds.ready.sound.some_slots in
+          let spans : v.seen + range_of slots bytes ≡ w.taken = span slots v.seen w.taken bytes (omega (arith, some, slots_is)) comes.some turn comes.start comes.end in
+          let seen : p.seen ≡ v.seen = sym here.counts.ring.seen ∙ ap (λ (x : SessionLog). x.seen) (sym mine) in
+          let own_slots : s.slots ≡ slots = counted.slots_is ∙ sym slots_is in
+          let same : range_of s.slots bytes ≡ range_of slots bytes = ap (λ (n : ℕ). range_of n bytes) own_slots in
+          let below = mod_below (w.taken - 1) slots (omega (arith, some, slots_is)) in (
+            ap (λ (n : ℕ). n % s.slots) seen ∙ ap (λ (n : ℕ). v.seen % n) own_slots ∙ sym comes.start,
+            omega (arith, comes.end, below, own_slots),
+            omega (arith, same, spans, seen, ring.taken_first, taken_is),
+            ap (λ (n : ℕ). first_undone n (memory_of e u.lane) p.seen (range_of n bytes)) own_slots
+                ∙ ring_done slots p.seen taken p.published s.frames (memory_of e u.lane) (range_of slots bytes) ring (omega (arith, spans, seen, taken_is)),
+          );
+      telling = telling;
+    }
 
 -- A PACKET that an end in session doesn't take is a gap behind a loss
 guest_resets : (shape : NetShape) (u : PortState) (l : PortLog) (cause : Cause) (packet : List ℕ) (p : NetSession) → Finds shape u l → WaysStand u.lane l → ExchangeStands u.lane l → PartsSaid l.transcript.server
     → u.lane.guest.session ≡ Some p → port_rule Initiator u.lane.guest (seen_at A u.lane) ≡ Takes packet → NetTakes Initiator u.lane.guest u.lane.guest_memory packet (Resets cause)
     → IsGapBehindLoss u.lane.wire.lossy cause
 guest_resets shape u l cause packet p finds ways exchange parts session rule takes =
-    by_hears (hears_in Initiator s l.transcript.client u.lane.guest_memory packet (Resets cause) acting.ends (session_up Initiator s l.transcript.client p acting.ends session) takes)
-  where
-    s : NetEndState
-    s = u.lane.guest
-
-    says : RuleSays Initiator s (seen_at A u.lane) (Takes packet)
-    says = says_of Initiator s (seen_at A u.lane) (Takes packet) rule
-
-    up : IsUp A u.lane.wire.wire
-    up = up_state u.lane.wire.wire.end_a says.0.up
-
-    acting : Acting Initiator shape.slots [] s l.guest l.transcript.client
-    acting = end_acts shape A u l finds.ready says.0.up
-
-    in_log : l.guest.session ≢ None
-    in_log =
-        let both = open_both Initiator shape.slots [] s l.guest finds.ready.guest in λ gone. true_false (sym (ap is_some session) ∙ both.shut gone)
-
-    other_up : IsUp B u.lane.wire.wire
-    other_up = guest_open_up shape u l finds up in_log
-
-    sides : Sides
-    sides = sides_of (lane_core u.lane) l.transcript
-
-    one_side : TwoEnds (asks_of shape) (answers_of shape) Initiator sides
-    one_side = finds.two_ends.two_ends A
-
-    opened : is_some s.session ≡ true
-    opened = ap is_some session
-
-    by_hears : Hears Initiator s u.lane.guest_memory l.transcript.client packet (Resets cause) → IsGapBehindLoss u.lane.wire.lossy cause
-    by_hears (inl none) = absurd (cc none.is)
-    by_hears (inr (inr refused)) =
-        let same : cause ≡ refused.cause = cc refused.is in
-        subst (IsGapBehindLoss u.lane.wire.lossy) (sym same)
-        (link_refuses Initiator sides packet refused.cause one_side.meets.converse one_side.meets.links one_side.mine.link.follows parts up says.1 refused.takes)
-    by_hears (inr (inl one)) =
-        let front : IsFront (heard (Heard packet ∷ l.transcript.client)) (said l.transcript.server) =
-        (hears_next Initiator sides packet one.from one_side.meets.converse up says.1 one_side.mine.link.follows one.takes).front in
-        let grown : IsFront (heard l.transcript.client ++ one.bytes ∷ []) (said l.transcript.server) = subst (λ (xs : List (List ℕ)). IsFront xs (said l.transcript.server)) one.messages front in
-        let first = outbox_heard u.lane.hub l.transcript.server l.transcript.client packet one.bytes one.messages grown in
-        let sid = s.handshake.draft.sid in
-        let before : ExchangeIn sid s.groups p (outbox s l.transcript.client l.transcript.server) (one.bytes ∷ outbox u.lane.hub l.transcript.server (Heard packet ∷ l.transcript.client))
-        u.lane.hub.session u.lane.hub.groups =
-        subst (λ (xs : List (List ℕ)). ExchangeIn sid s.groups p (outbox s l.transcript.client l.transcript.server) xs u.lane.hub.session u.lane.hub.groups) first (exchange p up other_up session) in
-        let own : OwnRead one.bytes one_side.meets.handshakes.sid =
-        next_read (asks_of shape) (answers_of shape) Initiator Responder sides one.bytes sid one_side up opened other_up grown before.answers_fit.0 in
-        let agreed = mine_agreed (asks_of shape) (answers_of shape) Initiator sides one_side up opened in
-        let in_it : InSession Initiator (record s { link = one.link }) p u.lane.guest_memory own.message (Resets cause) =
-        in_own_session Initiator s p u.lane.guest_memory packet l.transcript.client (Resets cause) one_side.meets.handshakes.sid one session agreed.knows own in
-        let expects = expects_at shape A u l one.link one.bytes p sid finds up other_up session (ways_at A u.lane l ways up other_up in_log)
-        (free_empty Initiator s l.transcript.client acting.ends says.0.quiet) grown before.answers_fit.0 (guest_sid shape u.lane l finds.two_ends up opened).agreed
-        (λ named role. is_telling sid s.groups p (outbox s l.transcript.client l.transcript.server) (outbox u.lane.hub l.transcript.server (Heard packet ∷ l.transcript.client)) u.lane.hub.session
-        u.lane.hub.groups one.bytes before named) in
-        absurd (taken_in_session Initiator (record s { link = one.link }) p u.lane.guest_memory sid one.bytes own.message own.message.subtype own.message.body cause expects own.of own.spells refl refl
-        (sym in_it.is))
+    let s : NetEndState = u.lane.guest in
+    let says = says_of Initiator s (seen_at A u.lane) (Takes packet) rule in
+    let up : IsUp A u.lane.wire.wire = up_of u.lane.wire.wire.end_a says.0.up in
+    let acting = end_acts shape A u l finds.ready says.0.up in
+    let in_log : l.guest.session ≢ None = grind (arith, open_both, true_false) in
+    let other_up : IsUp B u.lane.wire.wire = guest_open_up shape u l finds up in_log in
+    let sides : Sides = sides_of (lane_core u.lane) l.transcript in
+    let one_side : TwoEnds (asks_of shape) (answers_of shape) Initiator sides = finds.two_ends.two_ends A in
+    let opened : is_some s.session ≡ true = ap is_some session in
+    elim (hears_in Initiator s l.transcript.client u.lane.guest_memory packet (Resets cause) acting.ends (session_up Initiator s l.transcript.client p acting.ends session) takes) [
+      | inl none ↦ absurd (cc none.is)
+      | inr (inr refused) ↦
+          let same : cause ≡ refused.cause = cc refused.is in
+          subst (IsGapBehindLoss u.lane.wire.lossy) (sym same)
+          (link_refuses Initiator sides packet refused.cause one_side.meets.converse one_side.meets.links one_side.mine.link.follows parts up says.1 refused.takes)
+      | inr (inl one) ↦
+          let front : IsFront (heard (Heard packet ∷ l.transcript.client)) (said l.transcript.server) =
+          (hears_next Initiator sides packet one.from one_side.meets.converse up says.1 one_side.mine.link.follows one.takes).front in
+          let grown : IsFront (heard l.transcript.client ++ one.bytes ∷ []) (said l.transcript.server) = subst (λ (xs : List (List ℕ)). IsFront xs (said l.transcript.server)) one.messages front in
+          let first = outbox_heard u.lane.hub l.transcript.server l.transcript.client packet one.bytes one.messages grown in
+          let sid = s.handshake.draft.sid in
+          let before : ExchangeIn sid s.groups p (outbox s l.transcript.client l.transcript.server) (one.bytes ∷ outbox u.lane.hub l.transcript.server (Heard packet ∷ l.transcript.client))
+          u.lane.hub.session u.lane.hub.groups = rw first at (exchange p up other_up session) in
+          let own : OwnRead one.bytes one_side.meets.handshakes.sid =
+          next_read (asks_of shape) (answers_of shape) Initiator Responder sides one.bytes sid one_side up opened other_up grown before.answers_fit.0 in
+          let agreed = mine_agreed (asks_of shape) (answers_of shape) Initiator sides one_side up opened in
+          let in_it : InSession Initiator (record s { link = one.link }) p u.lane.guest_memory own.message (Resets cause) =
+          in_own_session Initiator s p u.lane.guest_memory packet l.transcript.client (Resets cause) one_side.meets.handshakes.sid one session agreed.knows own in
+          let expects = expects_at shape A u l one.link one.bytes p sid finds up other_up session (ways_at A u.lane l ways up other_up in_log)
+          (free_empty Initiator s l.transcript.client acting.ends says.0.quiet) grown before.answers_fit.0 (guest_sid shape u.lane l finds.two_ends up opened).agreed
+          (λ named role. is_telling sid s.groups p (outbox s l.transcript.client l.transcript.server) (outbox u.lane.hub l.transcript.server (Heard packet ∷ l.transcript.client)) u.lane.hub.session
+          u.lane.hub.groups one.bytes before named) in
+          absurd (taken_in_session Initiator (record s { link = one.link }) p u.lane.guest_memory sid one.bytes own.message own.message.subtype own.message.body cause expects own.of own.spells refl refl
+          (sym in_it.is))
+    ]
 
 hub_resets : (shape : NetShape) (u : PortState) (l : PortLog) (cause : Cause) (packet : List ℕ) (q : NetSession) → Finds shape u l → WaysStand u.lane l → ExchangeStands u.lane l → PartsSaid l.transcript.client
     → u.lane.hub.session ≡ Some q → port_rule Responder u.lane.hub (seen_at B u.lane) ≡ Takes packet → NetTakes Responder u.lane.hub u.lane.hub_memory packet (Resets cause)
     → IsGapBehindLoss u.lane.wire.lossy cause
 hub_resets shape u l cause packet q finds ways exchange parts session rule takes =
-    by_hears (hears_in Responder s l.transcript.server u.lane.hub_memory packet (Resets cause) acting.ends (session_up Responder s l.transcript.server q acting.ends session) takes)
-  where
-    s : NetEndState
-    s = u.lane.hub
-
-    says : RuleSays Responder s (seen_at B u.lane) (Takes packet)
-    says = says_of Responder s (seen_at B u.lane) (Takes packet) rule
-
-    up : IsUp B u.lane.wire.wire
-    up = up_state u.lane.wire.wire.end_b says.0.up
-
-    acting : Acting Responder shape.slots u.queue s l.hub l.transcript.server
-    acting = end_acts shape B u l finds.ready says.0.up
-
-    sides : Sides
-    sides = swapped (sides_of (lane_core u.lane) l.transcript)
-
-    one_side : TwoEnds (asks_of shape) (answers_of shape) Responder sides
-    one_side = finds.two_ends.two_ends B
-
-    opened : is_some s.session ≡ true
-    opened = ap is_some session
-
-    guest_in : PeerIn sides
-    guest_in =
-        let all = open_turns shape (lane_core u.lane) l B finds.two_ends up opened in
-        peer_open (asks_of shape) (answers_of shape) Responder sides one_side up (least_heard all.heard_long)
-
-    guest_session : (p : NetSession) × (u.lane.guest.session ≡ Some p)
-    guest_session = some_of u.lane.guest.session guest_in.opened
-
-    in_log : l.guest.session ≢ None
-    in_log =
-        let both = open_both Initiator shape.slots [] u.lane.guest l.guest finds.ready.guest in λ gone. true_false (sym guest_in.opened ∙ both.shut gone)
-
-    by_hears : Hears Responder s u.lane.hub_memory l.transcript.server packet (Resets cause) → IsGapBehindLoss u.lane.wire.lossy cause
-    by_hears (inl none) = absurd (cc none.is)
-    by_hears (inr (inr refused)) =
-        let same : cause ≡ refused.cause = cc refused.is in
-        subst (IsGapBehindLoss u.lane.wire.lossy) (sym same)
-        (link_refuses Responder sides packet refused.cause one_side.meets.converse one_side.meets.links one_side.mine.link.follows parts up says.1 refused.takes)
-    by_hears (inr (inl one)) =
-        let front : IsFront (heard (Heard packet ∷ l.transcript.server)) (said l.transcript.client) =
-        (hears_next Responder sides packet one.from one_side.meets.converse up says.1 one_side.mine.link.follows one.takes).front in
-        let grown : IsFront (heard l.transcript.server ++ one.bytes ∷ []) (said l.transcript.client) = subst (λ (xs : List (List ℕ)). IsFront xs (said l.transcript.client)) one.messages front in
-        let first = outbox_heard u.lane.guest l.transcript.client l.transcript.server packet one.bytes one.messages grown in
-        let sid = u.lane.guest.handshake.draft.sid in
-        let p = guest_session.0 in
-        let before : ExchangeIn sid u.lane.guest.groups p (one.bytes ∷ outbox u.lane.guest l.transcript.client (Heard packet ∷ l.transcript.server)) (outbox s l.transcript.server l.transcript.client) s.session s.groups =
-        subst (λ (xs : List (List ℕ)). ExchangeIn sid u.lane.guest.groups p xs (outbox s l.transcript.server l.transcript.client) s.session s.groups) first (exchange p guest_in.up up guest_session.1) in
-        let own : OwnRead one.bytes one_side.meets.handshakes.sid =
-        next_read (asks_of shape) (answers_of shape) Responder Initiator sides one.bytes sid one_side up opened guest_in.up grown before.asks_fit.0 in
-        let agreed = mine_agreed (asks_of shape) (answers_of shape) Responder sides one_side up opened in
-        let in_it : InSession Responder (record s { link = one.link }) q u.lane.hub_memory own.message (Resets cause) =
-        in_own_session Responder s q u.lane.hub_memory packet l.transcript.server (Resets cause) one_side.meets.handshakes.sid one session agreed.knows own in
-        let expects = expects_at shape B u l one.link one.bytes q sid finds up guest_in.up session (ways_at B u.lane l ways guest_in.up up in_log)
-        (free_empty Responder s l.transcript.server acting.ends says.0.quiet) grown before.asks_fit.0 (hub_agreed shape u.lane l finds.two_ends guest_in.up guest_in.opened up opened)
-        (λ named role. absurd (cc role)) in
-        absurd (taken_in_session Responder (record s { link = one.link }) q u.lane.hub_memory sid one.bytes own.message own.message.subtype own.message.body cause expects own.of own.spells refl refl
-        (sym in_it.is))
+    let s : NetEndState = u.lane.hub in
+    let says = says_of Responder s (seen_at B u.lane) (Takes packet) rule in
+    let up : IsUp B u.lane.wire.wire = up_of u.lane.wire.wire.end_b says.0.up in
+    let acting = end_acts shape B u l finds.ready says.0.up in
+    let sides : Sides = swapped (sides_of (lane_core u.lane) l.transcript) in
+    let one_side : TwoEnds (asks_of shape) (answers_of shape) Responder sides = finds.two_ends.two_ends B in
+    let opened : is_some s.session ≡ true = ap is_some session in
+    let guest_in : PeerIn sides =
+    let all = open_turns shape (lane_core u.lane) l B finds.two_ends up opened in
+    peer_open (asks_of shape) (answers_of shape) Responder sides one_side up (least_heard all.heard_long) in
+    let guest_session = some_of u.lane.guest.session guest_in.opened in
+    let in_log : l.guest.session ≢ None =
+    let both = open_both Initiator shape.slots [] u.lane.guest l.guest finds.ready.guest in λ gone. true_false (sym guest_in.opened ∙ both.shut gone) in
+    elim (hears_in Responder s l.transcript.server u.lane.hub_memory packet (Resets cause) acting.ends (session_up Responder s l.transcript.server q acting.ends session) takes) [
+      | inl none ↦ absurd (cc none.is)
+      | inr (inr refused) ↦
+          let same : cause ≡ refused.cause = cc refused.is in
+          subst (IsGapBehindLoss u.lane.wire.lossy) (sym same)
+          (link_refuses Responder sides packet refused.cause one_side.meets.converse one_side.meets.links one_side.mine.link.follows parts up says.1 refused.takes)
+      | inr (inl one) ↦
+          let front : IsFront (heard (Heard packet ∷ l.transcript.server)) (said l.transcript.client) =
+          (hears_next Responder sides packet one.from one_side.meets.converse up says.1 one_side.mine.link.follows one.takes).front in
+          let grown : IsFront (heard l.transcript.server ++ one.bytes ∷ []) (said l.transcript.client) = subst (λ (xs : List (List ℕ)). IsFront xs (said l.transcript.client)) one.messages front in
+          let first = outbox_heard u.lane.guest l.transcript.client l.transcript.server packet one.bytes one.messages grown in
+          let sid = u.lane.guest.handshake.draft.sid in
+          let p = guest_session.0 in
+          let before : ExchangeIn sid u.lane.guest.groups p (one.bytes ∷ outbox u.lane.guest l.transcript.client (Heard packet ∷ l.transcript.server)) (outbox s l.transcript.server l.transcript.client) s.session s.groups =
+          subst (λ (xs : List (List ℕ)). ExchangeIn sid u.lane.guest.groups p xs (outbox s l.transcript.server l.transcript.client) s.session s.groups) first (exchange p guest_in.up up guest_session.1) in
+          let own : OwnRead one.bytes one_side.meets.handshakes.sid =
+          next_read (asks_of shape) (answers_of shape) Responder Initiator sides one.bytes sid one_side up opened guest_in.up grown before.asks_fit.0 in
+          let agreed = mine_agreed (asks_of shape) (answers_of shape) Responder sides one_side up opened in
+          let in_it : InSession Responder (record s { link = one.link }) q u.lane.hub_memory own.message (Resets cause) =
+          in_own_session Responder s q u.lane.hub_memory packet l.transcript.server (Resets cause) one_side.meets.handshakes.sid one session agreed.knows own in
+          let expects = expects_at shape B u l one.link one.bytes q sid finds up guest_in.up session (ways_at B u.lane l ways guest_in.up up in_log)
+          (free_empty Responder s l.transcript.server acting.ends says.0.quiet) grown before.asks_fit.0 (hub_agreed shape u.lane l finds.two_ends guest_in.up guest_in.opened up opened)
+          (λ named role. absurd (cc role)) in
+          absurd (taken_in_session Responder (record s { link = one.link }) q u.lane.hub_memory sid one.bytes own.message own.message.subtype own.message.body cause expects own.of own.spells refl refl
+          (sym in_it.is))
+    ]
 
 -- A STEP'S RESET
 takes_it : (e : End) (u : NetLaneState) (cause : Cause) (packet : List ℕ) (rule : NetRule) → port_rule (role_at e) (net_end e u) (seen_at e u) ≡ rule
@@ -315,9 +239,6 @@ takes_it e u cause packet (Takes bytes) is fails =
     let same : bytes ≡ packet = cc fails.0 in (is ∙ ap (λ (xs : List ℕ). Takes xs) same, subst (λ (xs : List ℕ). NetTakes (role_at e) (net_end e u) (memory_of e u) xs (Resets cause)) same fails.1)
 takes_it e u cause packet (Fetches p activity) is fails = absurd (cc fails.0)
 takes_it e u cause packet _ is fails = absurd fails
-
-own_gap : (w : WireLog) (lossy : Bool) (cause : Cause) → w.lossy ≡ lossy → IsGapBehindLoss lossy cause → IsOwnReset w cause
-own_gap w lossy cause is gap = record { expected = gap.expected; found = gap.found; gap = gap.gap; lossy = is ∙ gap.lossy_is }
 
 pub parts_at : (shape : NetShape) (s : PortState) (l : PortLog) (e : End) → IsNetShape shape → PortCounts shape s l → PartsSaid (transcript_of e l.transcript)
 parts_at shape s l A is counts =
@@ -397,9 +318,6 @@ unforged_event shape s t l _ is had step = tt
 
 pub port_unforged_wire : (shape : NetShape) (events : List PortEvent) (s : PortState) → IsNetShape shape → Run PortStep (fresh_port shape) events s
     → Lawful (λ (l : PortLog) (event : PortEvent). OfWire (WireUnforgedAt l.wire) event) after (no_events shape) events
-port_unforged_wire shape events s is run = lawful_along shape (λ (l : PortLog) (event : PortEvent). OfWire (WireUnforgedAt l.wire) event) here events s run
-  where
-    here : (events : List PortEvent) (s : PortState) (event : PortEvent) (t : PortState) → Run PortStep (fresh_port shape) events s → PortStep s event t
-        → OfWire (WireUnforgedAt (log_of after (no_events shape) events).wire) event
-    here events s (OnLane event) t run step = unforged_event shape s t (log_of after (no_events shape) events) event is (port_exchange shape events s is run) step.1
-    here events s (Receives frame) t run step = tt
+port_unforged_wire shape events s is run =
+    lawful_on_lane shape (λ (l : PortLog) (event : PortEvent). OfWire (WireUnforgedAt l.wire) event) (λ l frame. tt)
+    (λ xs x event y ran step. unforged_event shape x y _ event is (port_exchange shape xs x is ran) step.1) events s run

@@ -1,6 +1,6 @@
 -- What an end of a port said and the other hasn't heard, with the message of its session that its link holds: each names the session's rings,
 -- or groups as its end may.
-use Rattle.std.proofs.Common.{Bool, List, None, Option, Some, [], ap, append_assoc, arith, drop, drop_at, length, length-append, refl, sym, true, ℕ, ◌++◌, ◌+◌, ◌<◌, ◌^◌, ◌∙◌, ◌∷◌, ◌≡◌, ◌≤◌, ◌⊎◌}
+use Rattle.std.proofs.Common.{Bool, List, None, Option, Some, [], arith, drop, length, length-append, refl, sym, true, ℕ, ◌++◌, ◌+◌, ◌<◌, ◌^◌, ◌∙◌, ◌∷◌, ◌≡◌, ◌≤◌, ◌⊎◌}
 use Rattle.std.specs.Prelude.{◌==◌, ⊤, take}
 use Rattle.std.proofs.lemmas.Bool.{eq-eqb, eqb-true}
 use Rattle.std.proofs.lemmas.List.{drop-append-le}
@@ -10,7 +10,7 @@ use Rattle.ldc_packet.specs.declared.packet.Subtype.{Subtype}
 use Rattle.ldc_packet.specs.declared.packet.Subtype.TheVariants.{Ack, Info}
 use Rattle.ldc_packet.specs.Spelling.{subtype_code}
 use Rattle.ldc_queue.specs.OneStream.{IsFront}
-use Rattle.ldc_queue.specs.Transcript.{Turn}
+use Rattle.ldc_queue.specs.Transcript.{Utterance}
 use Rattle.vio_bytes.specs.Place.{number_at}
 use Rattle.vio_tag.proofs.Canonical.{canonical_spells}
 use Rattle.vio_tag.specs.declared.message.Message.{Message}
@@ -31,7 +31,7 @@ listed (Some message) = message ∷ []
 abbrev pub unheard : List (List ℕ) → List (List ℕ) → List (List ℕ)
 unheard told taken = drop (length taken) told
 
-abbrev pub outbox : NetEndState → (mine theirs : List Turn) → List (List ℕ)
+abbrev pub outbox : NetEndState → (mine theirs : List Utterance) → List (List ℕ)
 outbox s mine theirs = unheard (said mine) (heard theirs) ++ listed (unsaid s)
 
 -- WHAT FITS: a range is an INFO or an ACK and names the session's ring, and groups are a guest's INFO or the switch's ACK
@@ -95,11 +95,7 @@ not_groups n low = grind (arith, eqb-true)
 
 pub low_fits : (role : Role) (sid : ℕ) (messages : List (List ℕ)) → EachLow messages → EachFits role sid messages
 low_fits role sid [] low = tt
-low_fits role sid (m ∷ messages) low =
-    let small = low.0 in (
-      record { range = λ is. absurd (omega (arith, is, small)); groups = λ is. absurd (omega (arith, is, small)) },
-      low_fits role sid messages low.1,
-    )
+low_fits role sid (m ∷ messages) low = grind (arith, low_fits role sid messages low.1, low.0)
 
 pub low_none : (messages : List (List ℕ)) → EachLow messages → count_groups messages ≡ 0
 low_none [] low = refl
@@ -112,13 +108,8 @@ low_tells groups known (m ∷ messages) low = let small = low.0 in (λ is. absur
 -- where none speaks of groups, none tells any
 pub none_tells : (groups : List (List ℕ)) (known : ℕ) (messages : List (List ℕ)) → count_groups messages ≡ 0 → EachTells groups known messages
 none_tells groups known [] none = tt
-none_tells groups known (m ∷ messages) none = (
-  λ is.
-      let one : is_groups m ≡ true = eq-eqb (envelope_at m) 0x0101 is in
-      let counted : one_if (is_groups m) ≡ 1 = ap one_if one in
-      absurd (omega (arith, none, counted)),
-  none_tells groups known messages (omega (arith, none)),
-)
+none_tells groups known (m ∷ messages) none =
+    grind (arith, none_tells groups known messages (omega (arith, none)), eq-eqb)
 
 -- THE BYTES of a range
 simple : Subtype → ℕ → ℕ → Message
@@ -148,16 +139,14 @@ range_long : (s : Subtype) (n seq ident start end state : ℕ) → length (range
 unfolding canonical
 range_long s n seq ident start end state = omega arith
 
-info_or_ack : (s : Subtype) → (s ≡ Info) ⊎ (s ≡ Ack) → (subtype_code s ≡ 1) ⊎ (subtype_code s ≡ 2)
-info_or_ack s given = grind arith
-
 pub record SaysRange (role : Role) (sid : ℕ) (m : List ℕ) : Type 0 where
   pub fits : MessageFits role sid m
   pub none : count_groups (m ∷ []) ≡ 0
 
 pub says_range : (role : Role) (sid : ℕ) (s : Subtype) (n seq ident start end state : ℕ) → (s ≡ Info) ⊎ (s ≡ Ack) → ident ≡ sid → sid < 2 ^ 32
     → SaysRange role sid (range_bytes s n seq ident start end state)
-says_range role sid s n seq ident start end state which is small = grind (arith, range_envelope, range_subtype, info_or_ack, ident_is, range_long)
+says_range role sid s n seq ident start end state which is small =
+    grind (arith, range_envelope, range_subtype, ident_is, range_long)
 
 -- and of groups
 groups_envelope : (s : Subtype) (n set count : ℕ) (addresses : List (List ℕ)) → envelope_at (groups_bytes s n set count addresses) ≡ 0x0101
@@ -179,6 +168,3 @@ says_groups role sid s n set count addresses code long = grind (arith, groups_en
 -- THE OUTBOX as its end says and the other hears
 pub unheard_more : (told taken : List (List ℕ)) (m : List ℕ) → IsFront taken told → unheard (told ++ m ∷ []) taken ≡ unheard told taken ++ m ∷ []
 unheard_more told taken m front = grind (arith, length-append, drop-append-le)
-
-pub first_unheard : (told taken : List (List ℕ)) (m : List ℕ) → IsFront (taken ++ m ∷ []) told → unheard told taken ≡ m ∷ unheard told (taken ++ m ∷ [])
-first_unheard told taken m front = grind (arith, append_assoc, drop_at)

@@ -7,7 +7,7 @@ use Rattle.ldc_link.specs.declared.phase.Role.TheVariants.{Initiator, Responder}
 use Rattle.ldc_link.specs.LinkState.{LinkState}
 use Rattle.ldc_packet.specs.declared.packet.Subtype.{Subtype}
 use Rattle.ldc_packet.specs.declared.packet.Subtype.TheVariants.{Ack, Info}
-use Rattle.ldc_queue.specs.Transcript.{Turn}
+use Rattle.ldc_queue.specs.Transcript.{Utterance}
 use Rattle.vio_handshake.specs.declared.handshake.Handshake.{Handshake}
 use Rattle.vio_handshake.specs.declared.handshake.Phase.{Phase}
 use Rattle.vio_handshake.specs.declared.session.Offer.{Offer}
@@ -21,7 +21,7 @@ use Rattle.vio_tag.specs.Spelling.{canonical}
 use Rattle.channel_laws.proofs.EndCases.{NoMessage, PutWhat, Rises, TookHandshake, TookOwn, TookWhat, end_put, end_took}
 use Rattle.channel_laws.proofs.EndResting.{held_handshake}
 use Rattle.channel_laws.proofs.EndStanding.{fresh_end_stands, held_stands, stands_step}
-use Rattle.channel_laws.proofs.HandshakeCases.{RowSent, RowTaken, row_sent}
+use Rattle.channel_laws.proofs.HandshakeCases.{RowTaken, row_sent}
 use Rattle.channel_laws.proofs.Lifting.{EndsAll, ends_run}
 use Rattle.channel_laws.specs.EndCore.{Begins, EndCore, EndMove, Fails, Hears, Renews, Says as SaysPacket, Stays, Waits}
 use Rattle.channel_laws.specs.EndStep.{EndSays, EndStep}
@@ -67,31 +67,28 @@ Owes h = OwesNoGroups h.owed
 row_owes : (h t : Handshake) (message : Message) (opens : Bool) → IsWellFormed message → Owes h → RowTaken h message t opens → Owes t
 row_owes h t message opens form owes given = grind (arith, declined_groups)
 
-sent_owes : (h t : Handshake) (opens : Bool) → RowSent h t opens → Owes t
-sent_owes h t opens given = grind arith
-
 begun_owes : (role : Role) (h : Handshake) → Owes (begun role (joined_handshake h))
 begun_owes role h = grind arith
 
-took_owes : (role : Role) (c t : EndCore) (turns : List Turn) (packet : List ℕ) (opens : Bool) (now : LinkState) → Owes c.handshake → TookWhat role c turns packet opens t now → Owes t.handshake
+took_owes : (role : Role) (c t : EndCore) (turns : List Utterance) (packet : List ℕ) (opens : Bool) (now : LinkState) → Owes c.handshake → TookWhat role c turns packet opens t now → Owes t.handshake
 took_owes role c t turns packet opens now owes (NoMessage up heard same shut is_open) = subst Owes (sym same) owes
 took_owes role c t turns packet opens now owes (Rises r down up heard same shut is_open) = subst Owes (sym same) (begun_owes c.handshake.role c.handshake)
 took_owes role c t turns packet opens now owes (TookOwn message took own same shut is_open) = subst Owes (sym same) owes
 took_owes role c t turns packet opens now owes (TookHandshake message took handshake is_open) = row_owes c.handshake t.handshake message opens took.form owes handshake.row
 
-put_owes : (role : Role) (held t : EndCore) (turns : List Turn) (packet : List ℕ) (opens : Bool) → Owes held.handshake → PutWhat role held turns packet opens t → Owes t.handshake
-put_owes role held t turns packet opens owes given = grind (arith, begun_owes, sent_owes, row_sent)
+put_owes : (role : Role) (held t : EndCore) (turns : List Utterance) (packet : List ℕ) (opens : Bool) → Owes held.handshake → PutWhat role held turns packet opens t → Owes t.handshake
+put_owes role held t turns packet opens owes given = grind (arith, begun_owes, row_sent)
 
-pub record EndOwes (role : Role) (c : EndCore) (turns : List Turn) : Type 0 where
+pub record EndOwes (role : Role) (c : EndCore) (turns : List Utterance) : Type 0 where
   pub stands : EndStands role c turns
   pub owes : OwesNoGroups c.handshake.owed
 
-says_owes : (role : Role) (c t : EndCore) (turns : List Turn) (packet : List ℕ) (opens : Bool) → EndOwes role c turns → EndSays role c packet opens t → Owes t.handshake
+says_owes : (role : Role) (c t : EndCore) (turns : List Utterance) (packet : List ℕ) (opens : Bool) → EndOwes role c turns → EndSays role c packet opens t → Owes t.handshake
 says_owes role c t turns packet opens end says =
     put_owes role says.held t turns packet opens (subst Owes (sym (held_handshake c says.held says.what says.holds)) end.owes)
     (end_put role c t turns packet opens says (held_stands role c says.held turns says.what end.stands says.holds))
 
-move_owes : (role : Role) (c : EndCore) (move : EndMove) (t : EndCore) (turns : List Turn) → EndOwes role c turns → EndStep role c move t → Owes t.handshake
+move_owes : (role : Role) (c : EndCore) (move : EndMove) (t : EndCore) (turns : List Utterance) → EndOwes role c turns → EndStep role c move t → Owes t.handshake
 move_owes role c Begins t turns end step = subst Owes (sym step.handshake) tt
 move_owes Initiator c Renews t turns end step = subst Owes (sym step.handshake) tt
 move_owes Responder c Renews t turns end step = subst Owes (sym step.handshake) tt

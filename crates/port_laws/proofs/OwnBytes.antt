@@ -99,10 +99,7 @@ reply_read n reply few long =
     let spells : SpellsMessage (groups_bytes Info 0 1 0 reply.addresses) (record { subtype = Info; sid = 0; body = Mcast 1 0 reply.addresses }) =
     canonical_spells (record { subtype = Info; sid = 0; body = Mcast 1 0 reply.addresses }) tt (omega arith, (omega arith, omega arith, few, long)) in
     let all : seven_of m ≡ reply.addresses = bare_seven reply.subtype n reply.set reply.count reply.addresses ∙ sym spells.body.2 in
-    ap (λ (x : ℕ). record { subtype = x; set = set_of m % 256; count = count_of m % 256; seven = seven_of m }) (subtype_reads reply.subtype n reply.set reply.count reply.addresses)
-    ∙ ap (λ (x : ℕ). record { subtype = subtype_code reply.subtype; set = x; count = count_of m % 256; seven = seven_of m }) (set_reads reply.subtype n reply.set reply.count reply.addresses)
-    ∙ ap (λ (x : ℕ). record { subtype = subtype_code reply.subtype; set = reply.set % 256; count = x; seven = seven_of m }) (count_reads reply.subtype n reply.set reply.count reply.addresses)
-    ∙ ap (λ (x : List (List ℕ)). record { subtype = subtype_code reply.subtype; set = reply.set % 256; count = reply.count % 256; seven = x }) all
+    grind (arith, subtype_reads, set_reads, count_reads)
 
 same_set : (n count : ℕ) (addresses : List (List ℕ)) → set_of (groups_bytes Info n 1 count addresses) ≡ set_of (groups_bytes Info 0 1 count addresses)
 unfolding canonical

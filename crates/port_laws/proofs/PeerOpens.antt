@@ -6,14 +6,14 @@ use Rattle.ldc_link.specs.declared.phase.Role.TheVariants.{Initiator, Responder}
 use Rattle.ldc_link.specs.LinkState.{is_up}
 use Rattle.ldc_queue.specs.declared.end.ChannelState.{ChannelState}
 use Rattle.ldc_queue.specs.declared.end.ChannelState.TheVariants.{Up}
-use Rattle.ldc_queue.specs.Transcript.{Turn}
+use Rattle.ldc_queue.specs.Transcript.{Utterance}
 use Rattle.vio_handshake.specs.declared.handshake.Handshake.{Handshake}
 use Rattle.vio_handshake.specs.declared.session.Offer.{Offer}
 use Rattle.vio_handshake.proofs.Places.{AllSaid, Deal, Place}
 use Rattle.channel_model.specs.Sayings.{heard, said}
 use Rattle.channel_laws.proofs.ConversingRuns.{HeardFrom, hears_now}
 use Rattle.channel_laws.proofs.EndStanding.{open_up}
-use Rattle.channel_laws.proofs.HandshakePlaces.{AtPlace, deal, open_place, place_open}
+use Rattle.channel_laws.proofs.HandshakePlaces.{AtPlace, deal, place_open}
 use Rattle.channel_laws.proofs.HandshakesPlaced.{Meets}
 use Rattle.channel_laws.proofs.Script.{last_or, said_at}
 use Rattle.channel_laws.specs.Sides.{Sides, other}
@@ -79,7 +79,7 @@ pub theirs_at : (asks answers : Offer) (role : Role) (s : Sides) → (two_ends :
 theirs_at asks answers role s two_ends up link = grind (arith, deal)
 
 -- THE ROW of what the initiator says, as an end of this role has it
-abbrev pub row : Role → List Turn → List (List ℕ)
+abbrev pub row : Role → List Utterance → List (List ℕ)
 row Initiator turns = said turns
 row Responder turns = heard turns
 
@@ -88,14 +88,11 @@ record RowAt (d : Deal) (n : Place) (messages : List (List ℕ)) : Type 0 where
   is : messages ≡ said_at true d Initiator n ++ more
   only : n ≢ AllSaid → more ≡ []
 
-row_at : (d : Deal) (r : Role) (h : Handshake) (turns : List Turn) (at : AtPlace true d r h turns) → RowAt d at.place (row r turns)
+row_at : (d : Deal) (r : Role) (h : Handshake) (turns : List Utterance) (at : AtPlace true d r h turns) → RowAt d at.place (row r turns)
 row_at d r h turns at = grind arith
 
-row_none : (r : Role) (turns : List Turn) → said turns ≡ [] → heard turns ≡ [] → length (row r turns) ≡ 0
-row_none r turns said_none heard_none = grind (arith, none_long)
-
 -- in session it has all six of the row, and heard all six of its peer
-pub record InAll (r : Role) (turns : List Turn) : Type 0 where
+pub record InAll (r : Role) (turns : List Utterance) : Type 0 where
   pub row_long : 6 ≤ length (row r turns)
   pub heard_long : 6 ≤ length (heard turns)
 
@@ -103,17 +100,13 @@ pub open_long : (asks answers : Offer) (role : Role) (s : Sides) → TwoEnds ask
 open_long asks answers role s two_ends up opened =
     let d = deal asks answers two_ends.meets.handshakes.sid in
     let at = mine_at asks answers role s two_ends up (open_up role s.mine.core s.mine.turns two_ends.mine opened) in
-    let last : at.place ≡ AllSaid = open_place true d role s.mine.core s.mine.turns two_ends.mine at opened in
-    let there = row_at d role s.mine.core.handshake s.mine.turns at in
-    record {
-      row_long = omega (arith, longer (said_at true d Initiator at.place) there.more (row role s.mine.turns) there.is, six_said d Initiator at.place last);
-      heard_long = omega (arith, longer (said_at true d (other role) at.place) at.theirs (heard s.mine.turns) at.heard_is, six_said d (other role) at.place last);
-    }
+    grind (arith, longer, said_at, six_said)
 
 -- before, at most five of the row
 pub closed_short : (asks answers : Offer) (role : Role) (s : Sides) → TwoEnds asks answers role s → s.mine.state ≡ Up → s.mine.core.is_open ≡ false → length (row role s.mine.turns) ≤ 5
 unfolding most
-closed_short asks answers role s two_ends up shut = grind (arith, row_none, deal, mine_at, row_at, last_or, true_false, place_open, said_at, few_said, whole)
+closed_short asks answers role s two_ends up shut =
+    grind (arith, none_long, deal, mine_at, row_at, last_or, true_false, place_open, said_at, few_said, whole)
 
 -- THE PEER'S SESSION is open where an end in session heard so many
 pub record PeerIn (s : Sides) : Type 0 where
@@ -136,21 +129,18 @@ peer_open asks answers role s two_ends up many = by_state s.theirs.state refl
         elim (last_or at.place) [
           | inl last ↦ record { up = peer_up; opened = place_open true d (other role) s.theirs.core s.theirs.turns two_ends.theirs at last }
           | inr far ↦ (
-              let none = (at.only far).0 in
               absurd (omega (
                 arith,
                 many,
                 more_than role,
                 longer (heard s.mine.turns) hears.front.0 (said s.theirs.turns) hears.front.1,
-                whole (said_at true d (other role) at.place) at.mine (said s.theirs.turns) at.said_is none,
+                whole (said_at true d (other role) at.place) at.mine (said s.theirs.turns) at.said_is ((at.only far).0),
                 few_said d (other role) at.place far,
               )))
         ]
 
     by_link : s.theirs.state ≡ Up → (b : Bool) → is_up s.theirs.core.link ≡ b → PeerIn s
-    by_link peer_up true link = all peer_up link
-    by_link peer_up false down =
-        let below = two_ends.theirs.below down in absurd (omega (arith, some, none_long (said s.theirs.turns) below.said_none))
+    by_link peer_up b link = grind (arith, some, all, none_long)
 
     never : (s.theirs.state ≡ Up → ⊥) → PeerIn s
     never not = absurd (omega (arith, many, least_six role, none_long (heard s.mine.turns) (hears.none not)))

@@ -1,5 +1,5 @@
 -- An end of a port in session resets itself for the first cause that a packet has, and takes the packet where it has none.
-use Rattle.std.proofs.Common.{◌≡◌, ℕ, Bool, true, false, Option, Some, None, List, refl, sym, subst, ap, ◌∙◌, arith}
+use Rattle.std.proofs.Common.{◌≡◌, ℕ, Bool, true, Option, Some, None, List, refl, sym, subst, ap, ◌∙◌, arith}
 use Rattle.std.specs.Prelude.{Result, Ok, Err, is_some, if◌then◌else◌}
 use Rattle.cookie_copy.specs.Reach.{Reach}
 use Rattle.runs.specs.Lawful.{log_of}
@@ -11,10 +11,10 @@ use Rattle.ldc_link.specs.Taking.{LinkTake}
 use Rattle.ldc_packet.specs.declared.packet.Subtype.{Subtype}
 use Rattle.ldc_queue.specs.declared.end.End.{End}
 use Rattle.ldc_queue.specs.declared.end.End.TheVariants.{A, B}
-use Rattle.ldc_queue.specs.Transcript.{Turn}
+use Rattle.ldc_queue.specs.Transcript.{Utterance}
 use Rattle.vio_handshake.specs.declared.handshake.Phase.TheVariants.{Open}
 use Rattle.vio_handshake.specs.declared.session.Offer.{Offer}
-use Rattle.vio_handshake.specs.Rules.{HandshakeTake, handshake_take, is_declined, sid_fault}
+use Rattle.vio_handshake.specs.Rules.{HandshakeTake, handshake_take, sid_fault}
 use Rattle.vio_tag.specs.declared.cause.Cause.{Cause}
 use Rattle.vio_tag.specs.declared.cause.Cause.TheVariants as the_cause
 use Rattle.vio_tag.specs.declared.message.Message.{Message}
@@ -31,16 +31,16 @@ use Rattle.channel_laws.specs.Standing.{EndStands}
 use Rattle.port_model.specs.NetEndRule.{Fetches, NetRule, Takes, port_rule}
 use Rattle.port_model.specs.NetEndState.{NetEndState, NetSession}
 use Rattle.port_model.specs.NetEndStep.{NetFails, Reset, Took}
-use Rattle.port_model.specs.NetEndTaking.{GoesOn, HearsLink, HearsWhole, NetTake, NetTakes, Resets, by_handshake, hears_message, in_session, opens_by_take, reads, sid_first, takes_ack, takes_done, takes_groups, takes_info}
+use Rattle.port_model.specs.NetEndTaking.{GoesOn, HearsLink, HearsWhole, NetTake, NetTakes, Resets, by_handshake, hears_message, in_session, reads, sid_first, takes_done}
 use Rattle.port_model.specs.NetEvent.{NetEvent, Steps}
 use Rattle.port_model.specs.NetLaneState.{IsNetShape, NetLaneState, NetShape, fresh_net, memory_of, net_end, reach_of, role_at, seen_at}
 use Rattle.port_model.specs.NetLaneStep.{NetLaneStep}
 use Rattle.port_model.specs.Offers.{port_offer}
 use Rattle.port_model.specs.PortLog.{after, no_events}
 use Rattle.port_model.specs.PortState.{OnLane, PortEvent, PortState, PortStep, before, fresh_port}
-use Rattle.port_laws.specs.NetCore.{core_events, fresh_net_core, is_begun, lane_core, net_core_at}
+use Rattle.port_laws.specs.NetCore.{core_events, fresh_net_core, lane_core, net_core_at}
 use Rattle.port_laws.specs.PortCore.{port_events}
-use Rattle.port_laws.specs.PortCauses.{ack_cause, info_cause, own_cause, port_cause, session_cause}
+use Rattle.port_laws.specs.PortCauses.{own_cause, port_cause}
 use Rattle.port_laws.proofs.CoreLaws.{sizes_fit}
 use Rattle.port_laws.proofs.EndMoves.{risen_same}
 use Rattle.port_laws.proofs.LaneMoves.{fresh_run_core}
@@ -54,42 +54,20 @@ cause_in (Resets cause) = Some cause
 cause_if : (b : Bool) (one other : NetTake) (x y : Option Cause) → cause_in one ≡ x → cause_in other ≡ y → cause_in (if b then one else other) ≡ (if b then x else y)
 cause_if b one other x y is rest = grind arith
 
-opens_none : (role : Role) (s : NetEndState) (memory : List ℕ) → cause_in (opens_by_take role s memory) ≡ None
-opens_none role s memory = grind arith
-
 handshake_cause : (role : Role) (s : NetEndState) (memory : List ℕ) (take : HandshakeTake) → cause_in (by_handshake role s memory take) ≡ refused_by take
-handshake_cause role s memory take = grind (arith, opens_none)
-
-info_judged : (s : NetEndState) (m : LinkState) (p : NetSession) (memory : List ℕ) (seq ident start end : ℕ)
-    → cause_in (takes_info (record s { link = m }) p memory seq ident start end) ≡ info_cause s p seq ident start end
-info_judged s m p memory seq ident start end = grind (arith, cause_if)
+handshake_cause role s memory take = grind arith
 
 done_cause : (s : NetEndState) (p : NetSession) (memory : List ℕ) (count : ℕ) (fault : Option Cause) → cause_in (takes_done s p memory count fault) ≡ fault
 done_cause s p memory count fault = grind arith
 
-ack_judged : (s : NetEndState) (m : LinkState) (p : NetSession) (memory : List ℕ) (ident start end : ℕ)
-    → cause_in (takes_ack (record s { link = m }) p memory ident start end) ≡ ack_cause s p memory ident start end
-ack_judged s m p memory ident start end = grind (arith, cause_if, done_cause)
-
-groups_none : (s : NetEndState) (p : NetSession) (memory : List ℕ) (set count : ℕ) (addresses : List (List ℕ)) (groups : Option (List (List ℕ)))
-    → cause_in (takes_groups s p memory set count addresses groups) ≡ None
-groups_none s p memory set count addresses groups = grind arith
-
 -- A MESSAGE: one of rings or groups, or another, which is the handshake's
 module _ (s : NetEndState) (m : LinkState) (p : NetSession) (memory : List ℕ) (message : Message) (open_now : s.handshake.phase ≡ Open) (sound : sid_fault s.handshake.sid message.sid ≡ None) where
-  own_is : (role : Role) (subtype : Subtype) (body : MsgBody) → message.subtype ≡ subtype → message.body ≡ body → own_cause role s p memory message ≡ session_cause role s p memory subtype body
-  own_is role subtype body subtype_is body_is = grind arith
-
   another : (role : Role) → cause_in (by_handshake role (record s { link = m }) memory (handshake_take s.handshake message)) ≡ refused_by (handshake_take s.handshake message)
   another role = handshake_cause role (record s { link = m }) memory (handshake_take s.handshake message)
 
-  out_of_order : (role : Role) (subtype : Subtype) (body : MsgBody) → message.subtype ≡ subtype → message.body ≡ body → is_declined subtype body ≡ false
-      → cause_in (by_handshake role (record s { link = m }) memory (handshake_take s.handshake message)) ≡ Some the_cause.Order
-  out_of_order role subtype body subtype_is body_is not = grind (arith, another, take_refused)
-
   session_judged : (role : Role) (subtype : Subtype) (body : MsgBody) → message.subtype ≡ subtype → message.body ≡ body
       → cause_in (in_session role (record s { link = m }) p memory message subtype body) ≡ judged_body (own_cause role s p memory) s.handshake message body
-  session_judged role subtype body one two = grind (arith, info_judged, own_is, ack_judged, groups_none, cause_if, out_of_order, another)
+  session_judged role subtype body one two = grind (arith, cause_if, done_cause, another, take_refused)
 
 sid_judged : (fault : Option Cause) (rest : NetTake) (answer : Option Cause) → (fault ≡ None → cause_in rest ≡ answer) → cause_in (sid_first fault rest) ≡ fault_first fault answer
 sid_judged fault rest answer same = grind arith
@@ -98,10 +76,9 @@ reads_judged : (role : Role) (s : NetEndState) (m : LinkState) (p : NetSession) 
     → cause_in (reads role (record s { link = m }) memory d) ≡ judged (own_cause role s p memory) s.handshake d
 reads_judged role s m p memory (Err fault) session open_now = refl
 reads_judged role s m p memory (Ok message) session open_now =
-    ap (λ (o : Option NetSession). cause_in (hears_message role (record s { link = m }) memory o message)) session
-    ∙ sid_judged (sid_fault s.handshake.sid message.sid) (in_session role (record s { link = m }) p memory message message.subtype message.body)
-    (judged_body (own_cause role s p memory) s.handshake message message.body)
-    (λ sound. session_judged s m p memory message open_now sound role message.subtype message.body refl refl)
+    ap (λ (o : Option NetSession). cause_in (hears_message role (record s { link = m }) memory o message)) session ∙
+    sid_judged _ _ _ (λ sound. session_judged s m p memory message open_now sound role message.subtype message.body refl
+    refl)
 
 -- WHAT AN END MAKES of a packet
 whole_judges : (role : Role) (s : NetEndState) (k : LinkState) (p : NetSession) (memory : List ℕ) (whole : Option (List ℕ)) (take : NetTake) → s.session ≡ Some p → s.handshake.phase ≡ Open
@@ -112,7 +89,7 @@ link_judges : (role : Role) (begun : Bool) (s : NetEndState) (p : NetSession) (m
     → HearsLink role s memory link take → LinkJudged (own_cause role s p memory) role (net_core_at role begun s) link (cause_in take)
 link_judges role begun s p memory link take session open_now up is = grind (arith, stays_risen, whole_judges, risen_same)
 
-end_judges : (role : Role) (begun : Bool) (s : NetEndState) (p : NetSession) (turns : List Turn) (memory packet : List ℕ) (take : NetTake) → EndStands role (net_core_at role begun s) turns
+end_judges : (role : Role) (begun : Bool) (s : NetEndState) (p : NetSession) (turns : List Utterance) (memory packet : List ℕ) (take : NetTake) → EndStands role (net_core_at role begun s) turns
     → s.session ≡ Some p → NetTakes role s memory packet take → Judges (own_cause role s p memory) role (net_core_at role begun s) packet (cause_in take)
 end_judges role begun s p turns memory packet take stands session takes =
     let opened : is_some s.session ≡ true = ap (λ (o : Option NetSession). is_some o) session in
@@ -142,22 +119,16 @@ module _ (shape : NetShape) (moves : List CoreEvent) (s : NetLaneState) (is : Is
   pub take_cause : (e : End) (session : NetSession) (packet : List ℕ) (take : NetTake) → (net_end e s).session ≡ Some session → NetTakes (role_at e) (net_end e s) (memory_of e s) packet take
       → cause_in take ≡ port_cause s e session (transcript_of e (transcript_behind moves)) packet
   take_cause A session packet take opened takes =
-      run_judges shape.entries asks answers moves (lane_core s) A (own_cause Initiator s.guest session s.guest_memory) packet (cause_in take) (sizes_fit shape is) run
-      (ap (λ (o : Option NetSession). is_some o) opened)
-      (end_judges Initiator (is_begun s.wire.wire.end_a) s.guest session (transcript_behind moves).client s.guest_memory packet take
-      (stands_a shape.entries asks answers moves (lane_core s) (sizes_fit shape is) run) opened takes)
+      run_judges _ _ _ _ _ A _ _ _ (sizes_fit _ is) run (ap (λ (o : Option NetSession). is_some o) opened) (end_judges _
+      _ _ _ _ _ _ _ (stands_a _ _ _ _ _ (sizes_fit _ is) run) opened takes)
   take_cause B session packet take opened takes =
-      run_judges shape.entries asks answers moves (lane_core s) B (own_cause Responder s.hub session s.hub_memory) packet (cause_in take) (sizes_fit shape is) run
-      (ap (λ (o : Option NetSession). is_some o) opened)
-      (end_judges Responder (is_begun s.wire.wire.end_b) s.hub session (transcript_behind moves).server s.hub_memory packet take
-      (stands_b shape.entries asks answers moves (lane_core s) (sizes_fit shape is) run) opened takes)
+      run_judges _ _ _ _ _ B _ _ _ (sizes_fit _ is) run (ap (λ (o : Option NetSession). is_some o) opened) (end_judges _
+      _ _ _ _ _ _ _ (stands_b _ _ _ _ _ (sizes_fit _ is) run) opened takes)
 
   pub fails_with : (e : End) (session : NetSession) (cause : Cause) (packet : List ℕ) → (net_end e s).session ≡ Some session
       → NetFails (role_at e) (port_rule (role_at e) (net_end e s) (seen_at e s)) (net_end e s) (memory_of e s) (reach_of e s) cause (Some packet)
       → port_cause s e session (transcript_of e (transcript_behind moves)) packet ≡ Some cause
-  fails_with e session cause packet opened fails =
-      sym (take_cause e session packet (Resets cause) opened
-      (fails_takes (role_at e) (port_rule (role_at e) (net_end e s) (seen_at e s)) (net_end e s) (memory_of e s) (reach_of e s) cause packet fails))
+  fails_with e session cause packet opened fails = sym (take_cause e _ _ _ opened (fails_takes _ _ _ _ _ _ _ fails))
 
 -- ALONG EVERY RUN
 pub takes_without : (shape : NetShape) (events : List NetEvent) (s : NetLaneState) (e : End) (session : NetSession) (packet : List ℕ) (opens : Bool) (t : NetLaneState) → IsNetShape shape

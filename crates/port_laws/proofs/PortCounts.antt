@@ -1,5 +1,5 @@
 -- Along every run of a port both ends are counted by its log as they count themselves.
-use Rattle.std.proofs.Common.{◌≡◌, ℕ, ◌+◌, ◌≤◌, Bool, true, false, Option, Some, None, List, [], ◌∷◌, ◌++◌, length, drop, refl, sym, subst, ap, ◌∙◌, arith, append_assoc, length-append}
+use Rattle.std.proofs.Common.{◌≡◌, ℕ, ◌+◌, ◌≤◌, Bool, true, false, Option, Some, List, [], ◌∷◌, ◌++◌, length, drop, refl, sym, subst, ap, ◌∙◌, arith, append_assoc, length-append}
 use Rattle.std.specs.Prelude.{is_some, nat_lt, ⊤}
 use Rattle.std.proofs.lemmas.Bool.{and_parts, ltb-true}
 use Rattle.std.proofs.lemmas.List.{append-nil, drop-append-le}
@@ -9,7 +9,7 @@ use Rattle.ldc_link.specs.declared.phase.Role.TheVariants.{Initiator, Responder}
 use Rattle.ldc_queue.specs.declared.end.ChannelState.{ChannelState}
 use Rattle.ldc_queue.specs.declared.end.End.{End}
 use Rattle.ldc_queue.specs.declared.end.End.TheVariants.{A, B}
-use Rattle.ldc_queue.specs.Transcript.{Turn}
+use Rattle.ldc_queue.specs.Transcript.{Utterance}
 use Rattle.runs.specs.Lawful.{log_append, log_of, run_lawful}
 use Rattle.runs.specs.Run.{Run, run_push}
 use Rattle.channel_model.specs.WireLog.{WireLog}
@@ -123,7 +123,7 @@ pub record Ready (shape : NetShape) (u : PortState) (l : PortLog) : Type 0 where
   pub keeps : EndsAll EndFits (lane_core u.lane) l.transcript
   pub owes : EndsAll EndOwes (lane_core u.lane) l.transcript
 
-acts_of : (role : Role) (slots : ℕ) (queue : List (List ℕ)) (s : NetEndState) (l : EndLog) (turns : List Turn) (begun : Bool) → EndCounts role slots queue s l → FramesStand s → NetFits role s
+acts_of : (role : Role) (slots : ℕ) (queue : List (List ℕ)) (s : NetEndState) (l : EndLog) (turns : List Utterance) (begun : Bool) → EndCounts role slots queue s l → FramesStand s → NetFits role s
     → EndFits role (net_core_at role begun s) turns → EndOwes role (net_core_at role begun s) turns → SlotsFit slots → begun ≡ true → Acting role slots queue s l turns
 acts_of role slots queue s l turns begun counts stands given keeps owes fit is = grind (arith, slots_fit)
 
@@ -137,8 +137,7 @@ hub_acts shape u l ready up = grind (arith, acts_of, slots_fit, up_begun)
 
 pub ready_before : (shape : NetShape) (s : PortState) (l : PortLog) (event : NetEvent) → IsNetShape shape → PortCounts shape s l → Ready shape (before event s) l
 ready_before shape s l event is counts =
-    let transcript : transcript_behind (port_events counts.events) ≡ l.transcript =
-    spoken_behind shape counts.events ∙ sym (ap (λ (x : PortLog). x.transcript) counts.log) in
+    let transcript = spoken_behind shape counts.events ∙ sym (ap (λ (x : PortLog). x.transcript) counts.log) in
     let all : EndsAll EndFits (port_core s) (transcript_behind (port_events counts.events)) =
     fits_run shape.entries (port_offer Initiator shape.address shape.slots) (port_offer Responder shape.address shape.slots) (port_events counts.events) (port_core s)
     (sizes_fit shape is) (fresh_port_core shape counts.events s counts.run) in
@@ -172,11 +171,8 @@ one_more (group ∷ groups) address are six = (are.0, one_more groups address ar
 behind_more : (told : Option (List (List ℕ))) (groups : List (List ℕ)) (address : List ℕ) → IsBehind told groups → IsBehind told (groups ++ address ∷ [])
 behind_more told groups address is = grind (arith, length-append)
 
-named_behind : (told : Option (List (List ℕ))) (groups : List (List ℕ)) (address : List ℕ) → told ≡ Some groups → IsBehind told (groups ++ address ∷ [])
-named_behind told groups address is = subst (λ (x : Option (List (List ℕ))). IsBehind x (groups ++ address ∷ [])) (sym is) (omega (arith, length-append groups (address ∷ [])))
-
 behind_either : (b : Bool) (p : NetSession) (groups : List (List ℕ)) (address : List ℕ) (v : SessionLog) → p.untold ≡ b → GroupCounts p groups v → IsBehind v.membership (groups ++ address ∷ [])
-behind_either b p groups address v is counts = grind (arith, behind_more, named_behind)
+behind_either b p groups address v is counts = grind (arith, behind_more, length-append)
 
 right_more : (slots : ℕ) (groups : List (List ℕ)) (address : List ℕ) (v : SessionLog) (message : List ℕ) (k : Spoken) → SaysRightly slots groups v message k
     → SaysRightly slots (groups ++ address ∷ []) v message k
@@ -188,17 +184,9 @@ unsaid_more slots groups address begun v left right = grind (arith, right_more)
 
 member_counts : (slots : ℕ) (groups : List (List ℕ)) (address : List ℕ) (published gone : ℕ) (left : Option (List ℕ)) (begun : Bool) (session : Option NetSession) (log : Option SessionLog)
     → Counts Initiator slots groups published gone left begun session log → Counts Initiator slots (groups ++ address ∷ []) published gone left begun (untold session) log
-member_counts slots groups address published gone left begun None None counts = counts
 member_counts slots groups address published gone left begun (Some p) (Some v) counts = record {
   right = unsaid_more slots groups address begun v left counts.right;
-  ring = record {
-    all = counts.ring.all;
-    left = counts.ring.left;
-    here = counts.ring.here;
-    seen = counts.ring.seen;
-    infos = counts.ring.infos;
-    asking = counts.ring.asking;
-  };
+  ring = grind arith;
   peer = record { seq = counts.peer.seq; place = counts.peer.place; active = counts.peer.active };
   guest = record {
     named = λ is. true_false is;
@@ -208,7 +196,7 @@ member_counts slots groups address published gone left begun (Some p) (Some v) c
   };
   reply = counts.reply;
 }
-member_counts slots groups address published gone left begun _ _ counts = absurd counts
+member_counts slots groups address published gone left begun session log counts = grind arith
 
 joins_counts : (slots : ℕ) (s : NetEndState) (joining : Joining) (t : NetEndState) (l : EndLog) → EndCounts Initiator slots [] s l → NetJoins s joining t → EndCounts Initiator slots [] t l
 joins_counts slots s joining t l counts joins = grind (arith, length-append, one_more, member_counts)
@@ -220,7 +208,7 @@ GuestIs shape l t = EndCounts Initiator shape.slots [] t.guest l
 abbrev HubIs : NetShape → List (List ℕ) → EndLog → NetLaneState → Type 0
 HubIs shape queue l t = EndCounts Responder shape.slots queue t.hub l
 
-by_slots : (n m : ℕ) (turns : List Turn) (answer : NetAnswer) (P : EndLog → Type 0) (l : EndLog) → n ≡ m → P (after_answer m turns answer l) → P (after_answer n turns answer l)
+by_slots : (n m : ℕ) (turns : List Utterance) (answer : NetAnswer) (P : EndLog → Type 0) (l : EndLog) → n ≡ m → P (after_answer m turns answer l) → P (after_answer n turns answer l)
 by_slots n m turns answer P l is holds = subst (λ (x : ℕ). P (after_answer x turns answer l)) (sym is) holds
 
 guest_event : (shape : NetShape) (u : PortState) (l : PortLog) (event : NetEvent) (t : NetLaneState) → Ready shape u l → NetLaneStep u.lane event t → GuestIs shape (end_after A l event) t

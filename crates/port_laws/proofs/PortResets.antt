@@ -1,6 +1,6 @@
 -- The causes that a session of a port gives are as its messages say; so each reset of an end says why.
 use Rattle.std.proofs.Common.{◌≡◌, ℕ, zero, suc, Bool, true, Option, Some, None, List, refl, sym, subst, arith}
-use Rattle.std.specs.Prelude.{◌+◌, ◌%◌, ◌&&◌, ◌==◌, is_some, nat_le, nat_lt, if◌then◌else◌}
+use Rattle.std.specs.Prelude.{◌+◌, ◌%◌, ◌&&◌, is_some, nat_le, nat_lt, if◌then◌else◌}
 use Rattle.cookie_copy.specs.Reach.{Reach}
 use Rattle.runs.specs.Lawful.{Lawful, log_of}
 use Rattle.runs.specs.Run.{Run}
@@ -9,7 +9,7 @@ use Rattle.ldc_link.specs.declared.phase.Role.TheVariants.{Initiator, Responder}
 use Rattle.ldc_packet.specs.declared.packet.Subtype.{Subtype}
 use Rattle.ldc_packet.specs.declared.packet.Subtype.TheVariants.{Ack, Info, Nack}
 use Rattle.ldc_queue.specs.declared.end.End.{End}
-use Rattle.ldc_queue.specs.Transcript.{Turn}
+use Rattle.ldc_queue.specs.Transcript.{Utterance}
 use Rattle.vio_bytes.specs.Place.{number_at}
 use Rattle.vio_tag.specs.declared.cause.Cause.{Cause}
 use Rattle.vio_tag.specs.declared.cause.Cause.TheVariants as the_cause
@@ -33,16 +33,16 @@ use Rattle.port_model.proofs.OwnResets.{net_resets_own}
 use Rattle.port_model.specs.FrameLaws.{SlotCause}
 use Rattle.port_model.specs.EndLog.{SessionLog, opened_log}
 use Rattle.port_model.specs.Fetching.{Fetched, IsFrame as IsFetched, NotReady, Refuses, fetched}
-use Rattle.port_model.specs.NetEndRule.{Fetches, NetRule, Takes, port_rule}
+use Rattle.port_model.specs.NetEndRule.{Fetches, NetRule, port_rule}
 use Rattle.port_model.specs.NetEndState.{Activity, NetEndState, NetSession}
 use Rattle.port_model.specs.NetEndStep.{FetchFails, Frame, NetFails, Published, Reset}
-use Rattle.port_model.specs.NetEndTaking.{ends_outside, first_undone, slot_state}
+use Rattle.port_model.specs.NetEndTaking.{ends_outside, first_undone}
 use Rattle.port_model.specs.NetEvent.{CalmTick, Gives, Joins, NetEvent, Steps}
 use Rattle.port_model.specs.NetLaneState.{IsNetShape, NetLaneState, NetShape, memory_of, net_end, reach_of, role_at, seen_at}
 use Rattle.port_model.specs.NetLaneStep.{NetLaneStep}
 use Rattle.port_model.specs.Offers.{port_offer}
 use Rattle.port_model.specs.PortLog.{PortLog, after, no_events}
-use Rattle.port_model.specs.PortMay.{IfOnWire, OfWire}
+use Rattle.port_model.specs.PortMay.{OfWire}
 use Rattle.port_model.specs.PortState.{OnLane, PortEvent, PortState, PortStep, before, fresh_port}
 use Rattle.port_laws.specs.NetCore.{fresh_net_core, lane_core}
 use Rattle.port_laws.specs.PortCore.{port_events}
@@ -76,8 +76,7 @@ else_says m b rest one others says = grind arith
 undone_says : (m : List ℕ) (slots : ℕ) (memory : List ℕ) (number count : ℕ) → first_fault m ≡ None → envelope_at m ≡ 0x0042 → SomeSays m (first_undone slots memory number count)
 undone_says m slots memory number zero fine envelope = tt
 undone_says m slots memory number (suc count) fine envelope =
-    else_says m (slot_state (number % slots) memory == 4) (first_undone slots memory (number + 1) count) (the_cause.NotDone (number % slots) (slot_state (number % slots) memory))
-    (undone_says m slots memory (number + 1) count fine envelope) (fine, envelope)
+    else_says m _ _ _ (undone_says m slots memory (number + 1) count fine envelope) (fine, envelope)
 
 ack_says : (m : List ℕ) (s : NetEndState) (p : NetSession) (memory : List ℕ) (seq ident start end state : ℕ) → first_fault m ≡ None → envelope_at m ≡ 0x0042
     → SpellsBody m (DringData seq ident start end state) → SomeSays m (ack_cause s p memory ident start end)
@@ -112,30 +111,28 @@ own_rightly : (role : Role) (s : NetEndState) (p : NetSession) (memory : List �
 own_rightly role s p memory = grind (arith, session_says)
 
 -- A RESET without a packet is for a slot
-abbrev SaysSo : List Turn → Cause → Option (List ℕ) → Type 0
+abbrev SaysSo : List Utterance → Cause → Option (List ℕ) → Type 0
 SaysSo turns cause packet = ResetSays turns packet cause × GapOf turns cause packet
 
-slot_says : (turns : List Turn) (cause : Cause) (slots : ℕ) (v : SessionLog) → SlotCause slots cause v → SaysSo turns cause None
+slot_says : (turns : List Utterance) (cause : Cause) (slots : ℕ) (v : SessionLog) → SlotCause slots cause v → SaysSo turns cause None
 slot_says turns cause slots v is = grind arith
 
-found_says : (turns : List Turn) (found : Fetched) (activity : Activity) (slot : ℕ) (cause : Cause) → Fits found → FetchFails found activity slot cause → SaysSo turns cause None
+found_says : (turns : List Utterance) (found : Fetched) (activity : Activity) (slot : ℕ) (cause : Cause) → Fits found → FetchFails found activity slot cause → SaysSo turns cause None
 found_says turns (IsFetched frame new) activity slot cause fits fails = absurd fails
 found_says turns (NotReady state) activity slot cause fits fails = subst (λ (c : Cause). SaysSo turns c None) (sym fails.1) (tt, tt)
-found_says turns (Refuses why) activity slot cause fits fails =
-    subst (λ (c : Cause). SaysSo turns c None) (sym fails) (slot_says turns why 0 (opened_log 0) (fits 0 (opened_log 0)))
+found_says turns (Refuses why) activity slot cause fits fails = rw fails (slot_says _ _ 0 _ (fits 0 (opened_log 0)))
 
-fails_says : (turns : List Turn) (role : Role) (rule : NetRule) (s : NetEndState) (memory : List ℕ) (reach : Reach) (cause : Cause) → NetFails role rule s memory reach cause None → SaysSo turns cause None
+fails_says : (turns : List Utterance) (role : Role) (rule : NetRule) (s : NetEndState) (memory : List ℕ) (reach : Reach) (cause : Cause) → NetFails role rule s memory reach cause None → SaysSo turns cause None
 fails_says turns role (Fetches p activity) s memory reach cause fails =
     found_says turns (fetched s reach p.place) activity p.place cause (fetched_fits s reach p.place) fails.1
-fails_says turns role (Takes bytes) s memory reach cause fails = absurd (cc fails.0)
-fails_says turns role _ s memory reach cause fails = absurd fails
+fails_says turns role rule s memory reach cause fails = grind arith
 
 -- A RESET with one is for what the packet says
 pub opened_is : (e : End) (u : NetLaneState) → (end_of e (lane_core u)).is_open ≡ is_some (net_end e u).session
 opened_is e u = grind arith
 
 module _ (shape : NetShape) (is : IsNetShape shape) (moves : List CoreEvent) (u t : NetLaneState) (run : Run CoreStep (fresh_net_core shape) moves (lane_core u)) (fits : BothFit u) (e : End) where
-  abbrev turns : List Turn
+  abbrev turns : List Utterance
   turns = transcript_of e (transcript_behind moves)
 
   shut_says : (cause : Cause) (packet : List ℕ) → (net_end e u).session ≡ None → ResetsFor (end_of e (lane_core u)) turns cause (Some packet) → SaysSo turns cause (Some packet)
@@ -179,18 +176,12 @@ says_at : (shape : NetShape) (is : IsNetShape shape) (events : List PortEvent) (
     → OfWire (BothSay (log_of after (no_events shape) events).transcript) event
 says_at shape is events s event t run step = grind (arith, spoken_behind, event_says)
 
-if_first : (P Q : WireEvent → Type 0) (event : Option WireEvent) → IfOnWire (λ (x : WireEvent). P x × Q x) event → IfOnWire P event
-if_first P Q event both = grind arith
-
-if_second : (P Q : WireEvent → Type 0) (event : Option WireEvent) → IfOnWire (λ (x : WireEvent). P x × Q x) event → IfOnWire Q event
-if_second P Q event both = grind arith
-
 -- ALONG EVERY RUN
 resets_if : (l : TranscriptLog) (event : PortEvent) → OfWire (BothSay l) event → OfWire (WireResetAt l) event
-resets_if l event both = grind (arith, if_first)
+resets_if l event both = grind arith
 
 gaps_if : (l : TranscriptLog) (event : PortEvent) → OfWire (BothSay l) event → OfWire (WireGapAt l) event
-gaps_if l event both = grind (arith, if_second)
+gaps_if l event both = grind arith
 
 pub port_resets_say : (shape : NetShape) (events : List PortEvent) (s : PortState) → IsNetShape shape → Run PortStep (fresh_port shape) events s
     → Lawful (λ (l : PortLog) (event : PortEvent). OfWire (WireResetAt l.transcript) event) after (no_events shape) events

@@ -1,18 +1,17 @@
 -- Each run of a port with its out queue is one of two ends on a channel, in the same log.
-use Rattle.std.proofs.Common.{◌≡◌, Option, List, [], ◌∷◌, ◌++◌, refl, sym, subst, ap, ◌∙◌, arith}
-use Rattle.ldc_link.specs.declared.phase.Role.TheVariants.{Initiator, Responder}
+use Rattle.std.proofs.Common.{◌≡◌, ℕ, Option, Some, None, List, [], ◌∷◌, ◌++◌, refl, sym, subst, ap, ◌∙◌, arith}
 use Rattle.runs.specs.Lawful.{Lawful, log_append, log_of, run_lawful}
 use Rattle.runs.specs.Run.{Run, run_keeps, run_push}
 use Rattle.channel_model.specs.TranscriptLog.{TranscriptLog}
 use Rattle.channel_model.specs.WireEvent.{WireEvent}
 use Rattle.channel_laws.specs.CoreLog as core
-use Rattle.channel_laws.specs.LaneCore.{Beside, CoreEvent, CoreStep, transcript_after, transcript_behind}
+use Rattle.channel_laws.specs.LaneCore.{CoreEvent, CoreStep, transcript_after, transcript_behind}
 use Rattle.port_model.proofs.Moving.{before_keeps}
 use Rattle.port_model.specs.NetEvent.{NetEvent}
 use Rattle.port_model.specs.NetLaneState.{NetShape}
 use Rattle.port_model.specs.PortLog.{PortLog, after, no_events, spoken_on}
 use Rattle.port_model.specs.PortState.{OnLane, PortEvent, PortState, PortStep, Receives, before, fresh_port}
-use Rattle.port_laws.specs.NetCore.{core_event, event_core, fresh_net_core, is_begun, lane_core}
+use Rattle.port_laws.specs.NetCore.{core_event, event_core, fresh_net_core, lane_core}
 use Rattle.port_laws.specs.PortCore.{port_core, port_event, port_events}
 use Rattle.port_laws.proofs.Fitting.{BothFit, event_fits}
 use Rattle.port_laws.proofs.LaneMoves.{event_core_step, fresh_fits, still, wire_same}
@@ -33,9 +32,7 @@ port_fits s event t step given = grind (arith, event_fits, before_fits)
 pub port_step_core : (s : PortState) (event : PortEvent) (t : PortState) → PortFits s → PortStep s event t → CoreStep (port_core s) (port_event event) (port_core t)
 port_step_core s (OnLane event) t fits step =
     subst (λ x. CoreStep x (core_event event) (port_core t)) (before_core event s) (event_core_step (before event s).lane event t.lane (before_fits event s fits) step.1)
-port_step_core s (Receives frame) t fits step =
-    subst (λ (x : PortState). CoreStep (port_core s) Beside (port_core x)) (sym step.2)
-    (record { entries = refl; stands = tt; wire = refl; a = still Initiator (is_begun s.lane.wire.wire.end_a) s.lane.guest; b = still Responder (is_begun s.lane.wire.wire.end_b) s.lane.hub })
+port_step_core s (Receives frame) t fits step = grind (arith, still)
 
 -- A RUN
 pub port_run_core : (s t : PortState) (events : List PortEvent) → PortFits s → Run PortStep s events t → Run CoreStep (port_core s) (port_events events) (port_core t)
@@ -97,14 +94,32 @@ pub lawful_along : (shape : NetShape) (May : PortLog → PortEvent → Type 0)
     → May (log_of after (no_events shape) events) event)
     → (events : List PortEvent) (s : PortState) → Run PortStep (fresh_port shape) events s → Lawful May after (no_events shape) events
 lawful_along shape May law events s run =
-    (run_lawful PortStep May after (Behind shape) one_more (fresh_port shape) s (no_events shape) events (record { events = []; run = refl; log = refl }) run).0
-  where
-    one_more : (s : PortState) (l : PortLog) (event : PortEvent) (t : PortState) → Behind shape s l → PortStep s event t → May l event × Behind shape t (after l event)
-    one_more s l event t behind step = (
+    let one_more : (s : PortState) (l : PortLog) (event : PortEvent) (t : PortState) → Behind shape s l → PortStep s event t → May l event × Behind shape t (after l event) = λ s l event t behind step. (
       subst (λ (x : PortLog). May x event) (sym behind.log) (law behind.events s event t behind.run step),
       record {
         events = behind.events ++ event ∷ [];
         run = run_push PortStep (fresh_port shape) s t behind.events event behind.run step;
         log = ap (λ (x : PortLog). after x event) behind.log ∙ sym (log_append after (no_events shape) behind.events (event ∷ []));
       },
-    )
+    ) in
+    (run_lawful PortStep May after (Behind shape) one_more (fresh_port shape) s (no_events shape) events (record { events = []; run = refl; log = refl }) run).0
+
+-- the same where each event on the lane has it, and each frame that the queue receives
+pub lawful_on_lane : (shape : NetShape) (May : PortLog → PortEvent → Type 0)
+    → ((l : PortLog) (frame : List ℕ) → May l (Receives frame))
+    → ((events : List PortEvent) (s : PortState) (event : NetEvent) (t : PortState)
+    → Run PortStep (fresh_port shape) events s → PortStep s (OnLane event) t
+    → May (log_of after (no_events shape) events) (OnLane event))
+    → (events : List PortEvent) (s : PortState) → Run PortStep (fresh_port shape) events s
+    → Lawful May after (no_events shape) events
+lawful_on_lane shape May received law events s run = lawful_along shape May at_event events s run
+  where
+    at_event : (events : List PortEvent) (s : PortState) (event : PortEvent) (t : PortState)
+        → Run PortStep (fresh_port shape) events s → PortStep s event t → May (log_of after (no_events shape) events) event
+    at_event events s (OnLane event) t run step = law events s event t run step
+    at_event events s (Receives frame) t run step = received (log_of after (no_events shape) events) frame
+
+-- what holds with a value and without
+pub by_option : {X P : Type 0} (option : Option X) → ((x : X) → option ≡ Some x → P) → (option ≡ None → P) → P
+by_option {X} {P} (Some x) some none = some x refl
+by_option {X} {P} None some none = none refl

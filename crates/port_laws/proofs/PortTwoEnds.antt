@@ -66,8 +66,7 @@ port_two_ends shape s l is counts clean =
     by_end : (e : End) (transcript : TranscriptLog) → transcript ≡ l.transcript → TwoEnds (asks_of shape) (answers_of shape) Initiator (sides_of (port_core s) transcript)
         → TwoEnds (asks_of shape) (answers_of shape) Responder (swapped (sides_of (port_core s) transcript))
         → TwoEnds (asks_of shape) (answers_of shape) (role_at e) (sides_from e (port_core s) l.transcript)
-    by_end A transcript same one other = subst (λ (x : TranscriptLog). TwoEnds (asks_of shape) (answers_of shape) Initiator (sides_of (port_core s) x)) same one
-    by_end B transcript same one other = subst (λ (x : TranscriptLog). TwoEnds (asks_of shape) (answers_of shape) Responder (swapped (sides_of (port_core s) x))) same other
+    by_end e transcript same one other = grind arith
 
 -- THE SAME of an end of the port
 pub open_turns : (shape : NetShape) (c : LaneCore) (l : PortLog) (e : End) → PortTwoEnds shape c l → IsUp e c.wire.wire → (end_of e c).is_open ≡ true → InAll (role_at e) (transcript_of e l.transcript)
@@ -102,6 +101,5 @@ six_open shape c l two_ends up opened =
 
 pub up_open : (shape : NetShape) (c : LaneCore) (l : PortLog) → PortTwoEnds shape c l → IsUp A c.wire.wire → c.a.is_open ≡ true → IsUp B c.wire.wire
 up_open shape c l two_ends up opened =
-    let all = open_turns shape c l A two_ends up opened in
-    let six = all.heard_long in
+    let six = (open_turns shape c l A two_ends up opened).heard_long in
     peer_is_up (asks_of shape) (answers_of shape) Initiator (sides_of c l.transcript) (two_ends.two_ends A) up (omega (arith, six))

@@ -61,8 +61,5 @@ calm_up s answer t step calm = grind (arith, acts_up)
 session_more : (memory : List ℕ) (s : NetEndState) (more : ℕ) (session : Option NetSession) → s.session ≡ session → end_left Up Responder (more + 1) memory s ≤ end_left Up Responder more memory s + 8
 session_more memory s more session is = grind arith
 
-end_more : (x : ChannelState) (memory : List ℕ) (s : NetEndState) (more : ℕ) → end_left x Responder (more + 1) memory s ≤ end_left x Responder more memory s + 8
-end_more x memory s more = grind (arith, session_more)
-
 pub port_received : (s : PortState) (frame : List ℕ) (t : PortState) → PortStep s (Receives frame) t → remaining t ≤ remaining s + 8
-port_received s frame t step = grind (arith, length-append, end_more)
+port_received s frame t step = grind (arith, length-append, session_more)

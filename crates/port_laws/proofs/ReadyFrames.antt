@@ -44,8 +44,7 @@ one_less k (suc n) f =
     ]
   where
     not_both : n ≡ k → (n < k) ⊎ (k < n) → ⊥
-    not_both same (inl less) = absurd (omega (arith, same, less))
-    not_both same (inr past) = absurd (omega (arith, same, past))
+    not_both same given = grind arith
 
 -- where each that is marked is one of so many numbers in turn
 abbrev Named : (n from count : ℕ) → (ℕ → Bool) → Type 0
@@ -56,7 +55,7 @@ unfolding marked
 none_marked zero f none = refl
 none_marked (suc n) f none = omega (arith, none_marked n f (λ i below. none i (omega (arith, below))), ap one_if (none n (omega arith)))
 
-by_value : (b : Bool) → (b ≡ true → ⊥) → b ≡ false
+pub by_value : (b : Bool) → (b ≡ true → ⊥) → b ≡ false
 by_value b never = grind arith
 
 was_marked : (k i : ℕ) (f : ℕ → Bool) (b : Bool) → (i == k) ≡ b → (if b then false else f i) ≡ true → (f i ≡ true) × (i ≢ k)
@@ -71,12 +70,7 @@ few_marked n from (suc count) f named =
     omega (arith, one_less (from % n) n f, few_marked n (from + 1) count (without (from % n) f) (λ i below now. rest i below (was_marked (from % n) i f (i == from % n) refl now)))
   where
     rest : (i : ℕ) → i < n → (f i ≡ true) × (i ≢ from % n) → (j : ℕ) × (from + 1 ≤ j) × (j < from + 1 + count) × (j % n ≡ i)
-    rest i below was =
-        let j = named i below was.0 in
-        elim (cases_order j.0 from) [
-          | inl same ↦ absurd (was.1 (sym j.3 ∙ ap (λ (m : ℕ). m % n) same))
-          | inr other ↦ (j.0, past j.0 from j.1 other, omega (arith, j.2), j.3)
-        ]
+    rest i below was = grind (arith, cases_order, past)
 
 -- ONE TURN names each slot
 turn_names : (n seen i : ℕ) → i < n → (j : ℕ) × (seen ≤ j) × (j < seen + n) × (j % n ≡ i)
@@ -109,9 +103,7 @@ ready_most slots seen taken published frames memory ring = omega (arith, ready_m
         by_order : (j < taken) ⊎ (taken ≤ j) → (j < published) ⊎ (published ≤ j) → (taken ≤ j) × (j < published)
         by_order (inr from) (inl under) = (from, under)
         by_order (inl less) order =
-            let first = ring.taken_first in
-            let held = ring.held in
-            let there = some_frame frames (j - seen) (omega (arith, less, first, held, since)) in
+            let there = some_frame frames (j - seen) (omega (arith, less, ring.taken_first, ring.held, since)) in
             let done = held_state memory (j % slots) 4 there.0 ((ring.each j since before).done less there.0 there.1) in
             absurd (omega (arith, done, state))
         by_order (inr from) (inr behind) = let free = (ring.each j since before).free behind in absurd (omega (arith, free, state))
@@ -119,5 +111,4 @@ ready_most slots seen taken published frames memory ring = omega (arith, ready_m
     named : (i : ℕ) → i < slots → is_ready memory i ≡ true → (j : ℕ) × (taken ≤ j) × (j < taken + (published - taken)) × (j % slots ≡ i)
     named i below now =
         let j = turn_names slots seen i below in
-        let both = one i j.0 j.1 j.2 j.3 now in
-        (j.0, both.0, omega (arith, both.0, both.1), j.3)
+        let both = one i j.0 j.1 j.2 j.3 now in (j.0, both.0, omega (arith, both.0, both.1), j.3)

@@ -1,5 +1,5 @@
 -- A message of a session is refused in no field that the end at the other side filled so.
-use Rattle.std.proofs.Common.{◌≡◌, ℕ, zero, suc, ◌+◌, ◌-◌, ◌%◌, ◌<◌, ◌≤◌, Bool, true, false, Option, Some, None, List, ◌∷◌, refl, sym, subst, ap, ◌∙◌, arith, nat_le}
+use Rattle.std.proofs.Common.{◌≡◌, ℕ, zero, suc, ◌+◌, ◌-◌, ◌%◌, ◌<◌, ◌≤◌, Bool, true, false, Option, Some, None, List, ◌∷◌, refl, sym, ap, ◌∙◌, arith, nat_le}
 use Rattle.std.specs.Prelude.{◌==◌, ◌&&◌, not, if◌then◌else◌}
 use Rattle.std.proofs.lemmas.Bool.{and_from, eq-eqb, le-leb, lt-ltb}
 use Rattle.ldc_link.specs.declared.phase.Role.{Role}
@@ -15,13 +15,12 @@ use Rattle.vio_tag.specs.declared.message.MsgBody.TheVariants.{DringData, Mcast}
 use Rattle.vio_tag.specs.Spelling.{SpellsMessage, envelope_at, subtype_at}
 use Rattle.channel_model.specs.Messages.{end_of, seq_of, start_of}
 use Rattle.channel_model.specs.Ranges.{is_other, wrapped}
-use Rattle.dring.specs.Slots.{range_length}
 use Rattle.channel_laws.specs.EndStep.{IsOfSession}
 use Rattle.channel_laws.specs.Sides.{other}
 use Rattle.port_model.specs.EndLog.{SessionLog, range_of}
 use Rattle.port_model.specs.Groups.{groups_after}
 use Rattle.port_model.specs.NetEndState.{NetEndState, NetSession, with_session}
-use Rattle.port_model.specs.NetEndTaking.{GoesOn, NetTake, Resets, acknowledged, active, first_undone, freed, in_session, slot_state, takes_ack, takes_groups, takes_info}
+use Rattle.port_model.specs.NetEndTaking.{GoesOn, NetTake, Resets, first_undone, in_session, slot_state, takes_ack, takes_groups, takes_info}
 use Rattle.port_laws.specs.RingHolds.{RingHolds}
 use Rattle.port_laws.specs.WaysStand.{Way}
 use Rattle.port_laws.proofs.Outbox.{MessageFits}
@@ -54,16 +53,14 @@ all_done slots memory number (suc count) done =
 
 pub ring_done : (slots seen taken published : ℕ) (frames : List (List ℕ)) (memory : List ℕ) (count : ℕ) → RingHolds slots seen taken published frames memory → seen + count ≡ taken
     → first_undone slots memory seen count ≡ None
-ring_done slots seen taken published frames memory count ring is = all_done slots memory seen count each
-  where
-    each : (j : ℕ) → seen ≤ j → j < seen + count → slot_state (j % slots) memory ≡ 4
-    each j from below =
-        let less : j < taken = omega (arith, below, is) in
-        let first = ring.taken_first in
-        let held = ring.held in
-        let turn = ring.turn in
-        let there = some_frame frames (j - seen) (omega (arith, from, less, first, held)) in
-        held_state memory (j % slots) 4 there.0 ((ring.each j from (omega (arith, less, first, turn))).done less there.0 there.1)
+ring_done slots seen taken published frames memory count ring is =
+    let each : (j : ℕ) → seen ≤ j → j < seen + count → slot_state (j % slots) memory ≡ 4 = λ j from below.
+    let less : j < taken = omega (arith, below, is) in
+    let first = ring.taken_first in
+    let turn = ring.turn in
+    let there = some_frame frames (j - seen) (omega (arith, from, less, first, ring.held)) in
+    held_state memory (j % slots) 4 there.0 ((ring.each j from (omega (arith, less, first, turn))).done less there.0 there.1) in
+    all_done slots memory seen count each
 
 -- TESTS that pass
 past : (b : Bool) (x y : NetTake) → b ≡ false → (if b then x else y) ≡ y
@@ -94,25 +91,17 @@ pub record Expects (role : Role) (s : NetEndState) (p : NetSession) (memory : Li
       × (first_undone s.slots memory p.seen (range_of s.slots m) ≡ None)
   pub telling : envelope_at m ≡ 0x0101 → role ≡ Initiator → p.telling ≡ true
 
-info_goes : (s : NetEndState) (p : NetSession) (memory : List ℕ) (seq ident start end : ℕ) → s.handshake.draft.ident_peer ≡ ident → p.seq ≡ seq → p.place ≡ start → end ≡ 0xffffffff
-    → takes_info s p memory seq ident start end ≡ GoesOn (with_session (active p seq start) s) false memory
-info_goes s p memory seq ident start end named number begins ends = grind (arith, past, same_is, no_end)
-
-ack_goes : (s : NetEndState) (p : NetSession) (memory : List ℕ) (ident start end : ℕ) → s.handshake.draft.ident_own ≡ ident → p.seen % s.slots ≡ start → end < s.slots
-    → p.seen + range_length s.slots start end ≤ p.published → first_undone s.slots memory p.seen (range_length s.slots start end) ≡ None
-    → takes_ack s p memory ident start end
-    ≡ GoesOn (acknowledged p (range_length s.slots start end) s) false (freed s.slots p.seen (range_length s.slots start end) memory)
-ack_goes s p memory ident start end named begins ends within done = grind (arith, past, same_is, at_once, nat_le, and_from, lt-ltb, le-leb)
-
 -- A MESSAGE, by its bytes
 module _ (role : Role) (s : NetEndState) (p : NetSession) (memory : List ℕ) (sid : ℕ) (m : List ℕ) (expects : Expects role s p memory sid m) where
   info_taken : (seq ident start end state : ℕ) (cause : Cause) → envelope_at m ≡ 0x0042 → subtype_at m ≡ 1 → (seq ≡ seq_of m) × (start ≡ start_of m) × (end ≡ end_of m)
       → takes_info s p memory seq ident start end ≡ Resets cause → ident ≡ sid → ⊥
-  info_taken seq ident start end state cause range info reads_ resets named = grind (arith, never, info_goes, goes)
+  info_taken seq ident start end state cause range info reads_ resets named =
+      grind (arith, never, past, same_is, no_end, goes)
 
   ack_taken : (ident start end : ℕ) (cause : Cause) → envelope_at m ≡ 0x0042 → subtype_at m ≡ 2 → (start ≡ start_of m) × (end ≡ end_of m) → takes_ack s p memory ident start end ≡ Resets cause
       → ident ≡ sid → ⊥
-  ack_taken ident start end cause range ack reads_ resets named = grind (arith, never, ack_goes, goes)
+  ack_taken ident start end cause range ack reads_ resets named =
+      grind (arith, never, past, same_is, at_once, nat_le, and_from, lt-ltb, le-leb, goes)
 
   not_nack : envelope_at m ≡ 0x0042 → subtype_at m ≡ 4 → ⊥
   not_nack range nack = grind arith
@@ -136,9 +125,7 @@ pub taken_in_session : (role : Role) (s : NetEndState) (p : NetSession) (memory 
 taken_in_session role s p memory sid m message subtype b cause expects of spells subtype_is body_is = by_kind role subtype b expects of (spells_as subtype b subtype_is body_is)
   where
     spells_as : (x : Subtype) (y : MsgBody) → message.subtype ≡ x → message.body ≡ y → SpellsMessage m (record { subtype = x; sid = message.sid; body = y })
-    spells_as x y one two =
-        subst (λ (z : MsgBody). SpellsMessage m (record { subtype = x; sid = message.sid; body = z })) two
-        (subst (λ (z : Subtype). SpellsMessage m (record { subtype = z; sid = message.sid; body = message.body })) one spells)
+    spells_as x y one two = grind arith
 
     by_kind : (r : Role) (x : Subtype) (y : MsgBody) → Expects r s p memory sid m → IsOfSession y → SpellsMessage m (record { subtype = x; sid = message.sid; body = y })
         → in_session r s p memory message x y ≡ Resets cause → ⊥

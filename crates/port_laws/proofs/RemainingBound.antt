@@ -12,9 +12,9 @@ use Rattle.port_model.specs.NetEndState.{Activity, NetEndState, NetSession, unse
 use Rattle.port_model.specs.NetLaneState.{IsNetShape, NetShape}
 use Rattle.port_model.specs.PortLog.{PortLog, after, no_events}
 use Rattle.port_model.specs.PortState.{PortEvent, PortState, PortStep, fresh_port}
-use Rattle.port_laws.specs.NetCore.{is_begun, more_of, net_core_at, one_if}
+use Rattle.port_laws.specs.NetCore.{is_begun, net_core_at, one_if}
 use Rattle.port_laws.specs.PortCore.{port_core}
-use Rattle.port_laws.specs.Remaining.{absent, end_left, frames_held, life, put_weight, ready_slots, remaining, second_life, session_left, took_some}
+use Rattle.port_laws.specs.Remaining.{absent, end_left, frames_held, life, ready_slots, remaining, second_life, took_some}
 use Rattle.port_laws.specs.RingStands.{RingIn, taken_by}
 use Rattle.port_laws.proofs.FlightRuns.{port_few}
 use Rattle.port_laws.proofs.FlightSums.{first_of, live_count, spent}
@@ -36,22 +36,16 @@ ring_ready : (slots own taken more : ℕ) (session : Option NetSession) (frames 
 ring_ready slots own taken more None frames memory same ring = tt
 ring_ready slots own taken more (Some p) frames memory same ring =
     let most : ready_slots slots memory ≤ p.published - taken = ready_most slots p.seen taken p.published frames memory ring in
-    let first = ring.seen_first in
-    let held = ring.held in
-    (omega (arith, most, first, ap (λ (n : ℕ). ready_slots n memory) same), omega (arith, held))
+    (omega (arith, most, ring.seen_first, ap (λ (n : ℕ). ready_slots n memory) same), omega (arith, ring.held))
 
 -- what of an end isn't a packet's or a frame's: its groups, and that it isn't up
 abbrev spare : Role → ℕ
 spare Initiator = 5
 spare Responder = 0
 
-session_most : (role : Role) (slots held packets : ℕ) (memory : List ℕ) (session : Option NetSession) → FewReady slots held memory session
-    → put_weight role * packets + session_left role slots held memory session ≤ 4 * (packets + more_of session) + spare role + 8 * held
-session_most role slots held packets memory session few = grind (arith, took_one, one_most)
-
 end_most : (x : ChannelState) (role : Role) (more : ℕ) (memory : List ℕ) (s : NetEndState) → (x ≡ Up → FewReady s.slots (length s.frames + more) memory s.session)
     → end_left x role more memory s + absent x ≤ 4 * live_count x (first_of role) (spent (net_core_at role (is_begun x) s)) + spare role + 8 * (length s.frames + more)
-end_most x role more memory s few = grind (arith, session_most)
+end_most x role more memory s few = grind (arith, took_one, one_most)
 
 -- BOTH ENDS
 live_one : (x : ChannelState) (b : Bool) → live_count x 0 (one_if b) ≤ 1

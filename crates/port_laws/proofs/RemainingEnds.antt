@@ -7,7 +7,7 @@ use Rattle.ldc_link.specs.declared.phase.Role.{Role}
 use Rattle.ldc_link.specs.declared.phase.Role.TheVariants.{Initiator}
 use Rattle.ldc_link.specs.Putting.{behind_put}
 use Rattle.ldc_queue.specs.declared.end.ChannelState.TheVariants.{Up}
-use Rattle.ldc_queue.specs.Transcript.{Turn}
+use Rattle.ldc_queue.specs.Transcript.{Utterance}
 use Rattle.vio_handshake.specs.declared.handshake.Handshake.{Handshake}
 use Rattle.vio_handshake.specs.declared.handshake.Phase.{Phase}
 use Rattle.vio_handshake.specs.Rules.{opens_by_put}
@@ -18,17 +18,17 @@ use Rattle.cookie_copy.specs.Reach.{Reach}
 use Rattle.channel_laws.proofs.EndStanding.{held_stands}
 use Rattle.channel_laws.proofs.PacketsLeft.{held_packets, loud_none, owing_none, own_most, says_packets}
 use Rattle.channel_laws.specs.EndStep.{EndSays, Holding, Holds}
-use Rattle.channel_laws.specs.PacketsLeft.{own_in, packets_left}
+use Rattle.channel_laws.specs.PacketsLeft.{own_in}
 use Rattle.channel_laws.specs.Standing.{EndStands, is_open_in}
 use Rattle.port_model.proofs.Refuting.{false_true, none_some, of_some}
 use Rattle.port_model.proofs.Ruling.{says_of}
 use Rattle.port_model.specs.EndLog.{EndLog}
-use Rattle.port_model.specs.Fetching.{Fetched, NotReady, fetched}
-use Rattle.port_model.specs.NetEndPutting.{announcement, answer, answers, cleared_by_put, groups_answer, holding, holding_own, net_holds, net_kind, net_opens, net_put, opened_by_put}
+use Rattle.port_model.specs.Fetching.{Fetched, fetched}
+use Rattle.port_model.specs.NetEndPutting.{announcement, answers, cleared_by_put, groups_answer, holding, holding_own, net_holds, net_kind, net_opens, net_put, opened_by_put}
 use Rattle.port_model.specs.Groups.{membership}
 use Rattle.port_model.specs.NetEndRule.{Announces, Fetches, NetRule, Publishes, Puts, Replies, Says, Tells, port_rule}
 use Rattle.port_model.specs.NetEndState.{Activity, GroupsReply, NetEndState, NetSession, unseen_in}
-use Rattle.port_model.specs.NetEndStep.{NetLeft, NetPublishes, NetSends, leaves, published, published_memory}
+use Rattle.port_model.specs.NetEndStep.{NetLeft, NetPublishes, NetSends, leaves, published}
 use Rattle.port_laws.specs.NetCore.{net_core}
 use Rattle.port_laws.specs.Remaining.{end_left, groups_left, put_weight, ready_slots, ready_weight, session_left}
 use Rattle.port_laws.proofs.EndMoves.{HeldCore, held_core, puts_behind, says_core}
@@ -53,10 +53,6 @@ no_less role n own none = grind arith
 pub answers_less : (role : Role) (frames few many groups own : ℕ) → few + own ≤ many → frames + put_weight role * few + groups + put_weight role * own ≤ frames + put_weight role * many + groups
 answers_less role frames few many groups own less = grind arith
 
-asks_less : (role : Role) (fresh few many ready rest own : ℕ) → few + own ≤ many
-    → fresh + put_weight role * few + ready + rest + put_weight role * own ≤ fresh + put_weight role * many + ready + rest
-asks_less role fresh few many ready rest own less = grind arith
-
 -- with the session as it was
 in_session_less : (role : Role) (more : ℕ) (memory : List ℕ) (s : NetEndState) (message : Message) (p q : NetSession) (what : Holding) → s.session ≡ Some p
     → session_left role s.slots (length s.frames + more) memory (Some q) + put_weight role * own_in what ≤ session_left role s.slots (length s.frames + more) memory (Some p)
@@ -71,12 +67,6 @@ replies_less : (role : Role) (more : ℕ) (memory : List ℕ) (s : NetEndState) 
     ≤ session_left role s.slots (length s.frames + more) memory (Some p)
 replies_less role more memory s p reply what is = grind (arith, answers_less, own_most, groups_same)
 
-answer_less : (role : Role) (more : ℕ) (memory : List ℕ) (s : NetEndState) (p : NetSession) (activity : Activity) (last : ℕ) (what : Holding)
-    → p.active ≡ Some activity → activity.last ≡ Some last
-    → session_left role s.slots (length s.frames + more) memory (Some (record p { active = None })) + put_weight role * own_in what
-    ≤ session_left role s.slots (length s.frames + more) memory (Some p)
-answer_less role more memory s p activity last what is some = grind (arith, answers_less, own_most, groups_same)
-
 tells_less : (role : Role) (more : ℕ) (memory : List ℕ) (s : NetEndState) (p : NetSession) (what : Holding) → role ≡ Initiator → p.untold ≡ true
     → session_left role s.slots (length s.frames + more) memory (Some (record p { untold = false; telling = true })) + put_weight role * own_in what
     ≤ session_left role s.slots (length s.frames + more) memory (Some p)
@@ -85,11 +75,12 @@ tells_less role more memory s p what is untold = grind (arith, own_most)
 announces_less : (role : Role) (more : ℕ) (memory : List ℕ) (s : NetEndState) (p : NetSession) (what : Holding) → p.seen < p.published → p.asking ≡ false
     → session_left role s.slots (length s.frames + more) memory (Some (record p { infos = p.infos + 1; asking = true })) + put_weight role * own_in what
     ≤ session_left role s.slots (length s.frames + more) memory (Some p)
-announces_less role more memory s p what some quiet = grind (arith, asks_less, own_most, groups_same)
+announces_less role more memory s p what some quiet = grind (arith, own_most, groups_same)
 
 slot_less : (role : Role) (more : ℕ) (memory : List ℕ) (s : NetEndState) (p : NetSession) (activity : Activity) (last : Option ℕ) (found : Fetched) (held : NetEndState) (what : Holding)
     → s.session ≡ Some p → p.active ≡ Some activity → activity.last ≡ last → answers s p activity last found ≡ Some held → OwnLess role more memory s what held
-slot_less role more memory s p activity last found held what is active some same = grind (arith, of_some, in_session_less, answer_less, none_some)
+slot_less role more memory s p activity last found held what is active some same =
+    grind (arith, of_some, in_session_less, answers_less, own_most, groups_same, none_some)
 
 own_less : (role : Role) (more : ℕ) (memory : List ℕ) (s : NetEndState) (at : Seen) (reach : Reach) (rule : NetRule) (held : NetEndState) (what : Holding)
     → port_rule role s at ≡ rule → net_holds rule s reach ≡ Some held → Holds (net_core role s) what (net_core role held) → OwnLess role more memory s what held
@@ -100,32 +91,23 @@ own_less role more memory s at reach (Says message) held what is same holds =
     let none = owing_none (net_core role s) (net_core role held) message what (says_of role s at (Says message) is).2 holds in
     of_some (OwnLess role more memory s what) (holding message s) held same (no_less role (own_left role more memory s) (own_in what) none)
 own_less role more memory s at reach (Replies p reply) held what is same holds =
-    let says = says_of role s at (Replies p reply) is in
-    of_some (OwnLess role more memory s what) (holding_own (groups_answer s reply) (record p { reply = None }) s) held same
-    (in_session_less role more memory s (groups_answer s reply) p (record p { reply = None }) what says.0.session (replies_less role more memory s p reply what says.1))
+    grind (arith, says_of role s at (Replies p reply) is, of_some, in_session_less, replies_less)
 own_less role more memory s at reach (Fetches p activity) held what is same holds =
     let says = says_of role s at (Fetches p activity) is in
     slot_less role more memory s p activity activity.last (fetched s reach p.place) held what says.0.session says.1 refl same
 own_less role more memory s at reach (Tells p) held what is same holds =
-    let says = says_of role s at (Tells p) is in
-    let q : NetSession = record p { untold = false; telling = true } in
-    of_some (OwnLess role more memory s what) (holding_own (membership s.handshake.draft.sid s.groups) q s) held same
-    (in_session_less role more memory s (membership s.handshake.draft.sid s.groups) p q what says.0.in_session.session (tells_less role more memory s p what says.1 says.2))
+    grind (arith, says_of role s at (Tells p) is, of_some, in_session_less, tells_less)
 own_less role more memory s at reach (Announces p) held what is same holds =
-    let says = says_of role s at (Announces p) is in
-    let q : NetSession = record p { infos = p.infos + 1; asking = true } in
-    of_some (OwnLess role more memory s what) (holding_own (announcement s p) q s) held same
-    (in_session_less role more memory s (announcement s p) p q what says.0.in_session.session (announces_less role more memory s p what says.1 says.2))
+    grind (arith, says_of role s at (Announces p) is, of_some, in_session_less, announces_less)
 own_less role more memory s at reach _ held what is same holds = none_some held same
 
 sum_less : (role : Role) (few many own left less : ℕ) → few ≤ many + own → left + put_weight role * own ≤ less → put_weight role * few + left ≤ put_weight role * many + less
 sum_less role few many own left less packets rest = grind arith
 
-pub blocked_left : (role : Role) (more : ℕ) (memory : List ℕ) (s : NetEndState) (at : Seen) (reach : Reach) (held : NetEndState) (turns : List Turn) → EndStands role (net_core role s) turns
+pub blocked_left : (role : Role) (more : ℕ) (memory : List ℕ) (s : NetEndState) (at : Seen) (reach : Reach) (held : NetEndState) (turns : List Utterance) → EndStands role (net_core role s) turns
     → HeldCore role s held → net_holds (port_rule role s at) s reach ≡ Some held → up_left role more memory held ≤ up_left role more memory s
 blocked_left role more memory s at reach held turns ends core same =
-    sum_less role (packets_left (net_core role held)) (packets_left (net_core role s)) (own_in core.what) (own_left role more memory held) (own_left role more memory s)
-    (held_packets role (net_core role s) (net_core role held) turns core.what ends core.holds)
+    sum_less _ _ _ _ _ _ (held_packets role (net_core role s) (net_core role held) turns core.what ends core.holds)
     (own_less role more memory s at reach (port_rule role s at) held core.what refl same core.holds)
 
 -- what its link holds doesn't change its ring
@@ -136,8 +118,7 @@ pub held_slots : (s : NetEndState) (reach : Reach) (rule : NetRule) (held : NetE
 held_slots s reach (Fetches p activity) held same = slot_slots activity.last (fetched s reach p.place) same
   where
     slot_slots : (last : Option ℕ) (found : Fetched) → answers s p activity last found ≡ Some held → held.slots ≡ s.slots
-    slot_slots (Some last) (NotReady state) is = slots_some s held (holding_own (answer s activity last) (record p { active = None }) s) is refl
-    slot_slots _ _ is = none_some held is
+    slot_slots last found is = grind (arith, slots_some, none_some)
 held_slots s reach Puts held same = slots_some s held s same refl
 held_slots s reach (Says message) held same = slots_some s held (holding message s) same refl
 held_slots s reach (Replies p reply) held same = slots_some s held (holding_own (groups_answer s reply) (record p { reply = None }) s) same refl
@@ -160,7 +141,7 @@ sum_puts : (role : Role) (few many own left less : ℕ) → few + 1 ≤ many + o
     → put_weight role * few + left + put_weight role ≤ put_weight role * many + less
 sum_puts role few many own left less packets rest = grind arith
 
-put_left : (role : Role) (more : ℕ) (memory : List ℕ) (s : NetEndState) (at : Seen) (reach : Reach) (held : NetEndState) (packet : List ℕ) (turns : List Turn)
+put_left : (role : Role) (more : ℕ) (memory : List ℕ) (s : NetEndState) (at : Seen) (reach : Reach) (held : NetEndState) (packet : List ℕ) (turns : List Utterance)
     → EndStands role (net_core role s) turns → HeldCore role s held → net_holds (port_rule role s at) s reach ≡ Some held → PutsPacket held.link packet (behind_put held.link)
     → up_left role more (cleared_by_put role (net_opens held) s.slots memory) (net_put role held) + put_weight role ≤ up_left role more memory s
 put_left role more memory s at reach held packet turns ends core same puts =
@@ -174,15 +155,14 @@ put_left role more memory s at reach held packet turns ends core same puts =
     let cleared : own_left role more (cleared_by_put role (net_opens held) s.slots memory) (net_put role held) ≤ own_left role more memory held =
     subst (λ (n : ℕ). own_left role more (cleared_by_put role (net_opens held) n memory) (net_put role held) ≤ own_left role more memory held) slots opened in
     let own = own_less role more memory s at reach (port_rule role s at) held core.what refl same core.holds in
-    sum_puts role (packets_left (net_core role (net_put role held))) (packets_left (net_core role s)) (own_in core.what)
-    (own_left role more (cleared_by_put role (net_opens held) s.slots memory) (net_put role held)) (own_left role more memory s)
-    (says_packets role (net_core role s) (net_core role (net_put role held)) turns packet (net_opens held) ends says) (omega (arith, cleared, own))
+    sum_puts _ _ _ _ _ _ (says_packets role (net_core role s) (net_core role (net_put role held)) turns packet
+    (net_opens held) ends says) (omega (arith, cleared, own))
 
 -- WHAT A STEP LEAVES at an end that acts
 abbrev pub Lowers : Role → ℕ → List ℕ → NetEndState → NetLeft → Type 0
 Lowers role by memory s left = (more : ℕ) → up_left role more left.own left.end + by ≤ up_left role more memory s
 
-pub sends_lower : (role : Role) (slots : ℕ) (queue : List (List ℕ)) (s : NetEndState) (l : EndLog) (turns : List Turn) (at : Seen) (memory : List ℕ) (reach : Reach) (packet : List ℕ) (opens : Bool)
+pub sends_lower : (role : Role) (slots : ℕ) (queue : List (List ℕ)) (s : NetEndState) (l : EndLog) (turns : List Utterance) (at : Seen) (memory : List ℕ) (reach : Reach) (packet : List ℕ) (opens : Bool)
     (t : NetLeft) → Acting role slots queue s l turns → NetSends role s at memory reach packet opens t → Lowers role (put_weight role) memory s t
 sends_lower role slots queue s l turns at memory reach packet opens t acting step =
     let held : NetEndState = step.held in
@@ -191,7 +171,7 @@ sends_lower role slots queue s l turns at memory reach packet opens t acting ste
     subst (PutsPacket held.link packet) (puts_behind held.link packet t.end.link step.packet) step.packet in
     subst (Lowers role (put_weight role) memory s) (sym step.is) (λ more. put_left role more memory s at reach held packet turns acting.ends core step.holds puts)
 
-pub blocks_lower : (role : Role) (slots : ℕ) (queue : List (List ℕ)) (s : NetEndState) (l : EndLog) (turns : List Turn) (at : Seen) (memory : List ℕ) (reach : Reach) (t : NetLeft)
+pub blocks_lower : (role : Role) (slots : ℕ) (queue : List (List ℕ)) (s : NetEndState) (l : EndLog) (turns : List Utterance) (at : Seen) (memory : List ℕ) (reach : Reach) (t : NetLeft)
     → Acting role slots queue s l turns → net_holds (port_rule role s at) s reach ≡ Some t.end → t ≡ leaves t.end memory reach → Lowers role 0 memory s t
 blocks_lower role slots queue s l turns at memory reach t acting same is =
     let core : HeldCore role s t.end = held_core role s at reach (port_rule role s at) t.end acting.fits refl same in
@@ -207,21 +187,13 @@ published_left : (role : Role) (more : ℕ) (memory new : List ℕ) (s : NetEndS
     → session_left role s.slots (length s.frames + more) new (Some (published p)) + 1 ≤ session_left role s.slots (length s.frames + more) memory (Some p)
 published_left role more memory new s p seen within ready = grind (arith, ready_less, groups_same)
 
-pub publishes_lower : (role : Role) (slots : ℕ) (queue : List (List ℕ)) (s : NetEndState) (l : EndLog) (turns : List Turn) (at : Seen) (memory : List ℕ) (reach : Reach) (id : ℕ)
+pub publishes_lower : (role : Role) (slots : ℕ) (queue : List (List ℕ)) (s : NetEndState) (l : EndLog) (turns : List Utterance) (at : Seen) (memory : List ℕ) (reach : Reach) (id : ℕ)
     (t : NetLeft) → Acting role slots queue s l turns → 8192 + 2048 * slots ≤ length memory → NetPublishes role s at memory reach id t → Lowers role 1 memory s t
 publishes_lower role slots queue s l turns at memory reach id t acting room step =
     let p : NetSession = step.session in
     let says = says_of role s at (Publishes p step.frame) step.rule in
-    let is : s.session ≡ Some p = says.0.in_session.session in
     let within : unseen_in p < length s.frames = slice_get_within s.frames (unseen_in p) step.frame says.1 in
-    let new : List ℕ = published_memory (p.published % s.slots) step.frame memory in
     let slots_is : s.slots ≡ slots = acting.counts.slots_is in
     let some : 1 ≤ s.slots = omega (arith, slots_is, acting.slots_fit.some) in
     let ready = published_more s.slots (p.published % s.slots) step.frame memory (mod_below p.published s.slots some) (omega (arith, slots_is, acting.slots_fit.most)) (omega (arith, slots_is, room)) in
-    subst (Lowers role 1 memory s) (sym step.is)
-    (λ more.
-    let less = published_left role more memory new s p (counts_stand s p acting.stands is).seen within ready in
-    let here : session_left role s.slots (length s.frames + more) new (Some (published p)) + 1 ≤ own_left role more memory s =
-    subst (λ (x : Option NetSession). session_left role s.slots (length s.frames + more) new (Some (published p)) + 1 ≤ session_left role s.slots (length s.frames + more) memory x)
-    (sym is) less in
-    omega (arith, here))
+    grind (arith, published_left, counts_stand)

@@ -1,9 +1,9 @@
 -- What remains on a port that nobody forged falls by each frame that an end takes.
-use Rattle.std.proofs.Common.{◌≡◌, ◌≢◌, ℕ, zero, suc, ◌+◌, ◌*◌, ◌%◌, ◌<◌, ◌≤◌, ◌⊎◌, inl, inr, Bool, false, Some, List, length, refl, sym, subst, ap, ◌∙◌, arith}
+use Rattle.std.proofs.Common.{◌≡◌, ℕ, zero, suc, ◌+◌, ◌*◌, ◌%◌, ◌<◌, ◌≤◌, ◌⊎◌, inl, inr, Bool, false, Some, List, length, refl, sym, subst, ap, ◌∙◌, arith}
 use Rattle.std.specs.Prelude.{◌==◌, is_none, slice_index}
 use Rattle.std.proofs.lemmas.Bool.{cases_order}
 use Rattle.std.proofs.lemmas.Nat.{mod_below}
-use Rattle.dring.proofs.Turning.{one_slot_front, slot_front}
+use Rattle.dring.proofs.Laps.{one_slot_front, slot_front}
 use Rattle.dring.specs.Slots.{OneSlot, ready_state, slot_bytes}
 use Rattle.ldc_link.specs.declared.phase.Role.{Role}
 use Rattle.ldc_queue.specs.declared.end.ChannelState.{ChannelState}
@@ -16,7 +16,6 @@ use Rattle.vio_bytes.specs.Place.{put_at}
 use Rattle.vnet_msg.specs.Frames.{header}
 use Rattle.channel_model.specs.WireLog.{WireLog}
 use Rattle.channel_laws.specs.EndCore.{EndCore}
-use Rattle.channel_laws.specs.PacketsLeft.{packets_left}
 use Rattle.port_model.proofs.Ruling.{says_of}
 use Rattle.port_model.specs.NetEndRule.{Fetches}
 use Rattle.port_model.specs.NetEndState.{Activity, NetEndState, NetSession}
@@ -28,7 +27,7 @@ use Rattle.port_model.specs.NetLaneStep.{EndSteps}
 use Rattle.port_model.specs.Offers.{port_offer}
 use Rattle.port_model.specs.PortLog.{PortLog, after, no_events}
 use Rattle.port_model.specs.PortState.{OnLane, PortEvent, PortState, PortStep, before, fresh_port}
-use Rattle.port_laws.specs.NetCore.{net_core, one_if}
+use Rattle.port_laws.specs.NetCore.{one_if}
 use Rattle.port_laws.specs.Remaining.{end_left, put_weight, ready_slots, ready_weight, remaining, remaining_of}
 use Rattle.port_laws.proofs.MemoryRoom.{MemoryHasRoom}
 use Rattle.port_laws.proofs.RemainingEnds.{groups_same}
@@ -59,11 +58,7 @@ one_taken slots k (suc n) memory new one ready done within below =
     ]
   where
     goes_on : (n < k) ⊎ (k < n) → (k < n → ready_slots n new + 1 ≡ ready_slots n memory) → ready_slots (suc n) new + 1 ≡ ready_slots (suc n) memory
-    goes_on (inl less) before = absurd (omega (arith, less, below))
-    goes_on (inr past) before =
-        let other : n ≢ k = λ same. absurd (omega (arith, same, past)) in
-        let state : slot_state n new ≡ slot_state n memory = ap (λ (bytes : List ℕ). slice_index bytes 0) (one.others n (omega (arith, within)) other) in
-        omega (arith, before past, ap (λ (x : ℕ). one_if (x == ready_state)) state)
+    goes_on given before = grind arith
 
 done_byte : (bytes : List ℕ) → slice_index (put_at 0 (header 4 0) bytes) 0 ≡ 4
 done_byte bytes = refl
@@ -92,16 +87,9 @@ peer_falls x role more memory new s p up is ready = grind (arith, left_falls)
 abbrev with_opened : NetEndState → Role → Bool → ℕ → EndCore
 with_opened s role open_ more = record { link = s.link; handshake = s.handshake; offer = port_offer role s.address s.slots; is_open = open_; own = is_none s.handshake.owed; more = more }
 
-frame_packets : (role : Role) (s : NetEndState) (p : NetSession) (activity : Activity) (frame : List ℕ) → s.session ≡ Some p → p.active ≡ Some activity
-    → packets_left (net_core role (record s { session = Some (taken s p activity); last = frame })) ≡ packets_left (net_core role s)
-frame_packets role s p activity frame is active = grind arith
-
-answers_more : (role : Role) (frames few many groups : ℕ) → few ≤ many + 1 → frames + put_weight role * few + groups ≤ frames + put_weight role * many + groups + put_weight role
-answers_more role frames few many groups less = grind arith
-
 own_more : (x : ChannelState) (role : Role) (more : ℕ) (memory : List ℕ) (s : NetEndState) (p : NetSession) (activity : Activity) (frame : List ℕ) → x ≡ Up → s.session ≡ Some p → p.active ≡ Some activity
     → end_left x role more memory (record s { session = Some (taken s p activity); last = frame }) ≤ end_left x role more memory s + put_weight role
-own_more x role more memory s p activity frame up is active = grind (arith, answers_more, groups_same, frame_packets)
+own_more x role more memory s p activity frame up is active = grind (arith, groups_same)
 
 -- A STEP
 pub peer_room : (e : End) (slots : ℕ) (u : NetLaneState) → MemoryHasRoom slots u → 8192 + 2048 * slots ≤ length (memory_of (peer_of e) u)
@@ -126,11 +114,9 @@ lane_frame shape u l e frame t finds step =
     let some = finds.ready.sound.some_slots in
     let ready = ready_falls shape.slots (takes.v.taken % shape.slots) memory step.step.new (record { few = finds.ready.sound.most_slots; room = peer_room e shape.slots u.lane finds.room })
     (mod_below takes.v.taken shape.slots (omega (arith, some))) takes.found.ready takes.found.new_is in
-    let peer = peer_falls (state_of (peer_of e) u.lane.wire.wire) (role_at (peer_of e)) (more_at (peer_of e) queued) memory step.step.new f takes.p takes.peer_up takes.theirs
-    (subst (λ (n : ℕ). ready_slots n step.step.new + 1 ≡ ready_slots n memory) (sym slots_is) ready) in
+    let peer = peer_falls _ _ _ _ _ f _ takes.peer_up takes.theirs (rw slots_is ready) in
     let own = own_more (state_of e u.lane.wire.wire) (role_at e) (more_at e queued) (memory_of e u.lane) s step.step.session step.step.activity frame takes.up says.0.session says.1 in
-    subst (λ (x : NetLaneState). remaining_of x queued + 1 ≤ remaining_of u.lane queued) (sym step.is)
-    (subst (λ (x : NetLeft). remaining_of (record (with_left e x u.lane) { wire = u.lane.wire }) queued + 1 ≤ remaining_of u.lane queued) (sym step.step.is) (both_left e u.lane queued _ own peer))
+    rw (step.is, step.step.is) (both_left e u.lane queued _ own peer)
 
 -- ALONG EVERY RUN
 pub port_frame : (shape : NetShape) (events : List PortEvent) (s : PortState) (e : End) (frame : List ℕ) (t : PortState) → IsNetShape shape → Run PortStep (fresh_port shape) events s

@@ -1,5 +1,5 @@
 -- What remains on a port behind a reset: as much as on one that begins with all its frames, but that one end is up.
-use Rattle.std.proofs.Common.{◌≡◌, ◌≢◌, ℕ, ◌+◌, ◌-◌, ◌*◌, ◌<◌, ◌≤◌, ◌⊎◌, inl, inr, Bool, true, false, Option, List, length, refl, sym, ap, ◌∙◌, arith, length-drop}
+use Rattle.std.proofs.Common.{◌≡◌, ◌≢◌, ℕ, ◌+◌, ◌-◌, ◌*◌, ◌<◌, ◌≤◌, ◌⊎◌, inl, inr, true, false, Option, List, length, refl, sym, ap, ◌∙◌, arith, length-drop}
 use Rattle.ldc_link.specs.declared.phase.Role.{Role}
 use Rattle.ldc_link.specs.declared.phase.Role.TheVariants.{Initiator, Responder}
 use Rattle.ldc_queue.specs.declared.end.ChannelState.{ChannelState}
@@ -19,7 +19,7 @@ use Rattle.port_model.specs.NetEvent.{NetEvent, Steps}
 use Rattle.port_model.specs.NetLaneState.{IsNetShape, NetLaneState, NetShape}
 use Rattle.port_model.specs.PortLog.{PortLog, after, no_events}
 use Rattle.port_model.specs.PortState.{OnLane, PortEvent, PortState, PortStep, before, fresh_port}
-use Rattle.port_laws.specs.Remaining.{absent, end_left, first_left, frames_kept, kept_in, remaining, remaining_of, second_life, session_left}
+use Rattle.port_laws.specs.Remaining.{absent, end_left, first_left, frames_kept, kept_in, remaining, remaining_of, session_left}
 use Rattle.port_laws.specs.RemainingSteps.{IsCalm, IsReset}
 use Rattle.port_laws.proofs.NoRefusal.{step_resets}
 use Rattle.port_laws.proofs.PortCounts.{Ready, before_wire}
@@ -66,11 +66,8 @@ session_least role slots held memory session = grind arith
 end_least : (x : ChannelState) (role : Role) (more : ℕ) (memory : List ℕ) (s : NetEndState) → 8 * (length s.frames + more - unseen s.session) ≤ end_left x role more memory s
 end_least x role more memory s = grind (arith, session_least)
 
-second_is : (lossy : Bool) → lossy ≡ true → second_life lossy ≡ 76
-second_is lossy lossy_2 = grind arith
-
 lossy_least : (u : PortState) → u.lane.wire.lossy ≡ true → 76 + 8 * frames_kept u ≤ remaining u
-lossy_least u lossy = grind (arith, second_is, end_least)
+lossy_least u lossy = grind (arith, end_least)
 
 -- ALONG EVERY RUN
 left_behind : (t : PortState) (u : NetLaneState) (queue : List (List ℕ)) → t.lane ≡ u → t.queue ≡ queue → remaining t ≡ remaining_of u (length queue)

@@ -8,7 +8,7 @@ use Rattle.ldc_queue.specs.declared.end.ChannelState.{ChannelState}
 use Rattle.ldc_queue.specs.declared.end.ChannelState.TheVariants.{Up}
 use Rattle.ldc_queue.specs.declared.end.End.{End}
 use Rattle.ldc_queue.specs.declared.end.End.TheVariants.{A, B}
-use Rattle.ldc_queue.specs.Transcript.{Turn}
+use Rattle.ldc_queue.specs.Transcript.{Utterance}
 use Rattle.ldc_queue.specs.Wire.{peer_behind, peer_of, queue_behind, state_of}
 use Rattle.runs.specs.Lawful.{log_of}
 use Rattle.runs.specs.Run.{Run}
@@ -21,12 +21,11 @@ use Rattle.channel_model.specs.WireLog.{lossy_behind, wire_moved}
 use Rattle.channel_laws.specs.PacketsLeft.{all_of, left_in}
 use Rattle.channel_laws.specs.Standing.{EndStands}
 use Rattle.port_model.proofs.FramesKept.{held_in}
-use Rattle.port_model.proofs.Refuting.{false_true, true_false}
 use Rattle.port_model.proofs.Ruling.{says_of}
 use Rattle.port_model.specs.FramesStand.{FramesStand}
 use Rattle.port_model.specs.NetEndRule.{Joins, Publishes, port_rule}
 use Rattle.port_model.specs.NetEndState.{NetEndState, joined_net_end, unseen, with_frame}
-use Rattle.port_model.specs.NetEndStep.{Blocked, Idle, Joined, NetAnswer, NetLeft, Published, Sent, leaves}
+use Rattle.port_model.specs.NetEndStep.{Blocked, Joined, NetAnswer, NetLeft, Published, Sent, leaves}
 use Rattle.port_model.specs.NetEvent.{NetEvent, Steps}
 use Rattle.port_model.specs.NetLaneState.{IsNetShape, NetLaneState, NetShape, memory_of, net_end, reach_of, role_at, seen_at, with_left}
 use Rattle.port_model.specs.NetLaneStep.{EndSteps, net_wire}
@@ -40,8 +39,7 @@ use Rattle.port_laws.proofs.MemoryRoom.{MemoryHasRoom, before_room}
 use Rattle.port_laws.proofs.PortCounts.{Ready, port_counts, queue_of, ready_before}
 use Rattle.port_laws.proofs.RemainingEnds.{Lowers, blocks_lower, publishes_lower, sends_lower, up_left}
 use Rattle.port_laws.proofs.RuleFrames.{end_acts}
-use Rattle.port_laws.proofs.LaneMoves.{holds_up}
-use Rattle.port_laws.proofs.RingEvents.{up_is}
+use Rattle.port_laws.proofs.LaneMoves.{holds_up, up_of, not_up}
 use Rattle.port_laws.proofs.RuleUnforged.{reach_memory}
 
 -- THE FRAME THAT MOVES from the queue counts as before
@@ -86,13 +84,9 @@ first_sum : (role : Role) (slots n held packets : ℕ) (memory : List ℕ) → p
     → put_weight role * packets + session_left role slots held memory None ≡ first_left role held
 first_sum role slots n held packets memory is = grind arith
 
-pub joined_same : (role : Role) (begun : Bool) (s : NetEndState) (turns : List Turn) (memory : List ℕ) (more : ℕ) → EndStands role (net_core_at role begun s) turns
-    → up_left role more memory (joined_net_end role s) ≡ first_left role (length (joined_net_end role s).frames + more)
-joined_same role begun s turns memory more stands = grind (arith, first_sum)
-
-pub joined_left : (role : Role) (begun : Bool) (s : NetEndState) (turns : List Turn) (memory : List ℕ) (more : ℕ) → EndStands role (net_core_at role begun s) turns → FramesStand s
+pub joined_left : (role : Role) (begun : Bool) (s : NetEndState) (turns : List Utterance) (memory : List ℕ) (more : ℕ) → EndStands role (net_core_at role begun s) turns → FramesStand s
     → up_left role more memory (joined_net_end role s) ≡ first_left role (length s.frames + more - unseen s.session)
-joined_left role begun s turns memory more stands frames = grind (arith, held_in, joined_same, length-drop)
+joined_left role begun s turns memory more stands frames = grind (arith, held_in, first_sum, length-drop)
 
 abbrev pub joined_a : ChannelState → NetEndState → NetLaneState → NetLaneState
 joined_a x g u = record u {
@@ -147,14 +141,11 @@ away_falls A shape u l ready away = joins_a u.lane.wire.wire.end_a (joined_net_e
 away_falls B shape u l ready away = joins_b u.lane.wire.wire.end_b (joined_net_end Responder u.lane.hub) u.lane (length u.queue) away (begun_left B shape u l ready)
 
 -- A STEP, by its answer
-not_up : (x : ChannelState) → is_up x ≡ false → x ≢ Up
-not_up x is = grind (arith, true_false, false_true)
-
 pub room_at : (e : End) (slots : ℕ) (u : NetLaneState) → MemoryHasRoom slots u → 8192 + 2048 * slots ≤ length (memory_of e u)
 room_at e slots u room = grind arith
 
 pub seen_up : (e : End) (u : NetLaneState) → is_up (seen_at e u).state ≡ true → IsUp e u.wire.wire
-seen_up e u up = grind (arith, up_is)
+seen_up e u up = grind (arith, up_of)
 
 not_seen : (e : End) (u : NetLaneState) → is_up (seen_at e u).state ≡ false → state_of e u.wire.wire ≢ Up
 not_seen e u away = grind (arith, not_up)
@@ -177,8 +168,7 @@ lane_falls shape u l e (Sent packet opens) t ready room step takes =
     let lower = sends_lower (role_at e) shape.slots (queue_of e u) s (log_of_end e l) (transcript_of e l.transcript) at (memory_of e u.lane) (reach_of e u.lane) packet opens step.left
     (end_acts shape e u l ready up) step.step in
     let less = goes e u.lane (length u.queue) (put_weight (role_at e)) step.left (seen_up e u.lane up) (ap (λ (x : NetLeft). x.peer) step.step.is ∙ reach_memory e u.lane) lower in
-    subst (λ (x : NetLaneState). remaining_of x (length u.queue) + 1 ≤ remaining_of u.lane (length u.queue)) (sym step.is)
-    (with_put e u.lane step.left packet opens (length u.queue) less)
+    rw step.is (with_put e u.lane step.left packet opens (length u.queue) less)
 lane_falls shape u l e (Published id) t ready room step takes =
     let s : NetEndState = net_end e u.lane in
     let at : Seen = seen_at e u.lane in
@@ -186,8 +176,7 @@ lane_falls shape u l e (Published id) t ready room step takes =
     let lower = publishes_lower (role_at e) shape.slots (queue_of e u) s (log_of_end e l) (transcript_of e l.transcript) at (memory_of e u.lane) (reach_of e u.lane) id step.left
     (end_acts shape e u l ready up) (room_at e shape.slots u.lane room) step.step in
     let less = goes e u.lane (length u.queue) 1 step.left (seen_up e u.lane up) (ap (λ (x : NetLeft). x.peer) step.step.is ∙ reach_memory e u.lane) lower in
-    subst (λ (x : NetLaneState). remaining_of x (length u.queue) + 1 ≤ remaining_of u.lane (length u.queue)) (sym step.is)
-    (omega (arith, less, on_wire e step.left u.lane (length u.queue)))
+    rw step.is (omega (arith, less, on_wire e step.left u.lane (length u.queue)))
 lane_falls shape u l e _ t ready room step takes = absurd takes
 
 -- A CALM STEP
@@ -201,12 +190,7 @@ lane_calm shape u l e Blocked t ready step calm =
     (end_acts shape e u l ready up) step.step.0 step.step.2 in
     let less = goes e u.lane (length u.queue) 0 step.left (seen_up e u.lane up) (ap (λ (x : NetLeft). x.peer) step.step.2 ∙ reach_memory e u.lane) lower in
     subst (λ (x : NetLaneState). remaining_of x (length u.queue) ≤ remaining_of u.lane (length u.queue)) (sym step.is) (omega (arith, less, on_wire e step.left u.lane (length u.queue)))
-lane_calm shape u l e Idle t ready step calm = omega (arith, ap (λ (x : NetLaneState). remaining_of x (length u.queue)) (idle_same e u.lane t step))
-  where
-    idle_same : (x : End) (v w : NetLaneState) → EndSteps x v Idle w → w ≡ v
-    idle_same A v w idle = idle.is ∙ ap (λ (y : NetLeft). record (with_left A y v) { wire = v.wire }) idle.step.1
-    idle_same B v w idle = idle.is ∙ ap (λ (y : NetLeft). record (with_left B y v) { wire = v.wire }) idle.step.1
-lane_calm shape u l e _ t ready step calm = absurd calm
+lane_calm shape u l e answer t ready step calm = grind arith
 
 -- ALONG EVERY RUN
 abbrev pub ready_here : (shape : NetShape) (events : List PortEvent) (s : PortState) (event : NetEvent) → IsNetShape shape → Run PortStep (fresh_port shape) events s

@@ -1,5 +1,5 @@
 -- What remains on a port that nobody forged falls by each packet that an end takes.
-use Rattle.std.proofs.Common.{◌≡◌, ℕ, ◌+◌, ◌-◌, ◌*◌, ◌<◌, ◌≤◌, Bool, false, Option, Some, None, List, length, drop, refl, sym, subst, ap, ◌∙◌, arith, length-drop}
+use Rattle.std.proofs.Common.{◌≡◌, ℕ, ◌+◌, ◌-◌, ◌*◌, ◌<◌, ◌≤◌, Bool, false, Some, None, List, length, drop, sym, subst, ap, ◌∙◌, arith, length-drop}
 use Rattle.std.specs.Prelude.{⊤}
 use Rattle.ldc_link.specs.declared.phase.Role.{Role}
 use Rattle.ldc_link.specs.declared.phase.Role.TheVariants.{Initiator, Responder}
@@ -8,13 +8,12 @@ use Rattle.ldc_packet.specs.declared.packet.Subtype.{Subtype}
 use Rattle.ldc_queue.specs.declared.end.ChannelState.{ChannelState}
 use Rattle.ldc_queue.specs.declared.end.ChannelState.TheVariants.{Up}
 use Rattle.ldc_queue.specs.declared.end.End.{End}
-use Rattle.ldc_queue.specs.Transcript.{Turn}
+use Rattle.ldc_queue.specs.Transcript.{Utterance}
 use Rattle.ldc_queue.specs.Wire.{peer_of, state_of}
 use Rattle.runs.specs.Lawful.{log_of}
 use Rattle.runs.specs.Run.{Run}
 use Rattle.vio_handshake.specs.declared.handshake.Handshake.{Handshake}
 use Rattle.vio_tag.specs.declared.message.MsgBody.{MsgBody}
-use Rattle.dring.specs.Slots.{range_length}
 use Rattle.channel_model.specs.TranscriptLog.{transcript_of}
 use Rattle.channel_model.specs.WireAt.{IsFirstOn, IsUp}
 use Rattle.channel_laws.proofs.PacketsTaken.{unforged_took}
@@ -25,9 +24,9 @@ use Rattle.port_model.proofs.Ruling.{says_of}
 use Rattle.port_model.specs.FramesStand.{CountsStand, FramesStand}
 use Rattle.port_model.specs.NetEndPutting.{cleared_ring}
 use Rattle.port_model.specs.NetEndRule.{Takes}
-use Rattle.port_model.specs.NetEndState.{GroupsReply, NetEndState, NetSession, opened_net_end, unseen_in}
+use Rattle.port_model.specs.NetEndState.{NetEndState, NetSession, opened_net_end}
 use Rattle.port_model.specs.NetEndStep.{NetLeft, Took}
-use Rattle.port_model.specs.NetEndTaking.{GoesOn, NetTake, NetTakes, Resets, active, replying}
+use Rattle.port_model.specs.NetEndTaking.{GoesOn, NetTake, NetTakes, Resets}
 use Rattle.port_model.specs.NetEvent.{NetEvent, Steps}
 use Rattle.port_model.specs.NetLaneState.{IsNetShape, NetLaneState, NetShape, memory_of, net_end, role_at, seen_at, with_left}
 use Rattle.port_model.specs.NetLaneStep.{EndSteps, net_wire}
@@ -36,7 +35,7 @@ use Rattle.port_model.specs.PortLog.{PortLog, after, no_events}
 use Rattle.port_model.specs.PortState.{OnLane, PortEvent, PortState, PortStep, before, fresh_port}
 use Rattle.port_laws.specs.NetCore.{is_begun, lane_core, net_core, net_core_at}
 use Rattle.port_laws.specs.PortCore.{port_core, port_events}
-use Rattle.port_laws.specs.Remaining.{end_left, put_weight, ready_slots, ready_weight, remaining, remaining_of, session_left}
+use Rattle.port_laws.specs.Remaining.{end_left, put_weight, ready_weight, remaining, remaining_of, session_left}
 use Rattle.port_laws.proofs.CoreLaws.{offers_match, sizes_fit}
 use Rattle.port_laws.proofs.FlightSums.{first_gone}
 use Rattle.port_laws.proofs.MemoryLong.{room_behind}
@@ -72,31 +71,9 @@ same_gained role more memory s = omega arith
 abbrev Sum : Role → ℕ → ℕ → List ℕ → NetSession → ℕ
 Sum role slots held memory p = session_left role slots held memory (Some p)
 
-with_gained : (role : Role) (more : ℕ) (memory new : List ℕ) (s t : NetEndState) (p q : NetSession) → s.session ≡ Some p → t.session ≡ Some q
-    → Sum role t.slots (length t.frames + more) new q ≤ Sum role s.slots (length s.frames + more) memory p + slack role → Gained role more memory s new t
-with_gained role more memory new s t p q is after less = grind arith
-
-asks_sum : (role : Role) (slots held : ℕ) (memory : List ℕ) (p : NetSession) (seq start : ℕ) → Sum role slots held memory (active p seq start) ≤ Sum role slots held memory p
-asks_sum role slots held memory p seq start = grind (arith, answers_less, groups_same)
-
 ack_falls : (role : Role) (fresh few many ready more rest : ℕ) → few ≤ many → ready ≤ more
     → 8 * fresh + put_weight role * few + ready_weight role * ready + rest ≤ 8 * fresh + put_weight role * many + ready_weight role * more + rest
 ack_falls role fresh few many ready more rest one two = grind arith
-
-acks_sum : (role : Role) (slots count more : ℕ) (memory new : List ℕ) (frames : List (List ℕ)) (p : NetSession) → 1 ≤ count → p.seen + count ≤ p.published → unseen_in p ≤ length frames
-    → ready_slots slots new ≤ ready_slots slots memory
-    → Sum role slots (length (drop count frames) + more) new (record p { seen = p.seen + count; asking = false }) ≤ Sum role slots (length frames + more) memory p
-acks_sum role slots count more memory new frames p some within held ready = grind (arith, length-drop, ack_falls, one_most, groups_same)
-
-names_sum : (role : Role) (slots held : ℕ) (memory : List ℕ) (p : NetSession) (reply : GroupsReply) → role ≡ Responder
-    → Sum role slots held memory (replying reply p) ≤ Sum role slots held memory p + slack role
-names_sum role slots held memory p reply is = grind arith
-
-told_sum : (role : Role) (slots held : ℕ) (memory : List ℕ) (p : NetSession) → Sum role slots held memory (record p { telling = false }) ≤ Sum role slots held memory p
-told_sum role slots held memory p = omega (arith, groups_same role p (record p { telling = false }) refl)
-
-range_some : (slots start end : ℕ) → 1 ≤ range_length slots start end
-range_some slots start end = omega arith
 
 abbrev GainedBy : Role → ℕ → List ℕ → NetEndState → NetEndState → List ℕ → Type 0
 GainedBy role more memory s t new = Gained role more memory s new t
@@ -104,7 +81,7 @@ GainedBy role more memory s t new = Gained role more memory s new t
 does_gain : (role : Role) (more : ℕ) (memory : List ℕ) (s : NetEndState) (p : NetSession) (subtype : Subtype) (b : MsgBody) (t : NetEndState) (new : List ℕ) → s.session ≡ Some p → CountsStand s p
     → 1 ≤ s.slots → 64 * s.slots ≤ length memory → MessageDoes role s p memory subtype b t new → Gained role more memory s new t
 does_gain role more memory s p subtype b t new session stands some room given =
-    grind (arith, with_gained, asks_sum, acks_sum, range_some, freed_less, names_sum, told_sum, same_gained)
+    grind (arith, answers_less, groups_same, length-drop, ack_falls, one_most, freed_less, same_gained)
 
 take_gains : (role : Role) (more : ℕ) (memory : List ℕ) (s : NetEndState) (p : NetSession) (subtype : Subtype) (b : MsgBody) (take : NetTake) → s.session ≡ Some p → CountsStand s p
     → 1 ≤ s.slots → 64 * s.slots ≤ length memory → TakeDoes role s p memory subtype b take → Gains role more memory s take
@@ -112,19 +89,15 @@ take_gains role more memory s p subtype b (GoesOn t opens new) session stands so
 take_gains role more memory s p subtype b (Resets cause) session stands some room does = tt
 
 -- THE PACKET: without a session one may open, whose ring is cleared
-pub took_gains : (role : Role) (more : ℕ) (memory packet : List ℕ) (s t : NetEndState) (turns : List Turn) (opens : Bool) (new : List ℕ) → EndStands role (net_core role s) turns → FramesStand s
+pub took_gains : (role : Role) (more : ℕ) (memory packet : List ℕ) (s t : NetEndState) (turns : List Utterance) (opens : Bool) (new : List ℕ) → EndStands role (net_core role s) turns → FramesStand s
     → 1 ≤ s.slots → 64 * s.slots ≤ length memory → NetTakes role s memory packet (GoesOn t opens new) → Gained role more memory s new t
 took_gains role more memory packet s t turns opens new ends stands some room takes = by_what (GoesOn t opens new) (took_what role s turns memory packet (GoesOn t opens new) ends takes)
   where
     gains_as : (k : LinkState) (h : Handshake) (take : NetTake) → Gains role more memory (record s { link = k; handshake = h }) take → Gains role more memory s take
-    gains_as k h (GoesOn u opened now) gains = gains
-    gains_as k h (Resets cause) gains = tt
+    gains_as k h take gains = grind arith
 
     cleared_gains : (r : Role) → r ≡ Responder → s.session ≡ None → Gained r more memory s (cleared_ring s.slots memory) (opened_net_end s)
-    cleared_gains Initiator role_is closed = absurd (cc role_is)
-    cleared_gains Responder role_is closed =
-        subst (λ (x : Option NetSession). own_left Responder more (cleared_ring s.slots memory) (opened_net_end s) ≤ session_left Responder s.slots (length s.frames + more) memory x + 2) (sym closed)
-        (omega (arith, cleared_none s.slots memory))
+    cleared_gains r role_is closed = grind (arith, cleared_none)
 
     by_what : (take : NetTake) → TookWhat role s memory take → Gains role more memory s take
     by_what take (Stays k h is) = subst (Gains role more memory s) (sym is) (same_gained role more memory s)

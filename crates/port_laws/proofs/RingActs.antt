@@ -4,7 +4,7 @@ use Rattle.std.specs.Prelude.{◌/◌, ◌%◌, is_some, if◌then◌else◌, sl
 use Rattle.std.proofs.lemmas.List.FromFn.{get_or-map-range_with_len, length-map-range_with_len}
 use Rattle.std.proofs.lemmas.List.{get_or_past}
 use Rattle.cookie_copy.specs.Faults.{is_up}
-use Rattle.cookie_copy.specs.Identity.{IsIdentity, own_entry}
+use Rattle.cookie_copy.specs.Identity.{own_entry}
 use Rattle.cookie_copy.specs.Reach.{Reach}
 use Rattle.ldc_link.specs.declared.phase.Role.{Role}
 use Rattle.ldc_link.specs.declared.phase.Role.TheVariants.{Initiator, Responder}
@@ -12,9 +12,8 @@ use Rattle.ldc_queue.specs.declared.end.ChannelState.{ChannelState}
 use Rattle.ldc_queue.specs.declared.end.ChannelState.TheVariants.{Up}
 use Rattle.ldc_queue.specs.declared.end.End.{End}
 use Rattle.ldc_queue.specs.declared.end.End.TheVariants.{A, B}
-use Rattle.ldc_queue.specs.Transcript.{Turn}
+use Rattle.ldc_queue.specs.Transcript.{Utterance}
 use Rattle.ldc_queue.specs.Wire.{peer_of, state_of}
-use Rattle.vio_handshake.specs.declared.handshake.Handshake.{Handshake}
 use Rattle.vio_handshake.specs.declared.session.Offer.{Offer}
 use Rattle.vio_handshake.specs.Pairing.{KnowsBoth, KnowsRing}
 use Rattle.vnet_msg.specs.Frames.{IsFrame, memory_pages}
@@ -25,7 +24,6 @@ use Rattle.channel_model.specs.WireAt.{IsUp}
 use Rattle.channel_model.specs.WireLog.{WireLog}
 use Rattle.channel_laws.proofs.EndResting.{held_handshake}
 use Rattle.channel_laws.specs.LaneCore.{end_of}
-use Rattle.channel_laws.specs.Standing.{is_open_in}
 use Rattle.port_model.proofs.Refuting.{false_true, none_some, true_false}
 use Rattle.port_model.proofs.Ruling.{says_of}
 use Rattle.port_model.specs.EndLog.{EndLog, SessionLog, said_in}
@@ -34,7 +32,7 @@ use Rattle.port_model.specs.FrameLaws.{InSession, IsActive}
 use Rattle.port_model.specs.NetEndPutting.{net_kind}
 use Rattle.port_model.specs.NetEndRule.{Fetches, port_rule}
 use Rattle.port_model.specs.NetEndState.{NetEndState, NetSession}
-use Rattle.port_model.specs.NetEndStep.{Frame, Joined, NetAnswer, NetEndStep, NetLeft, Reset, Sent, Took}
+use Rattle.port_model.specs.NetEndStep.{Frame, NetAnswer, NetEndStep, NetLeft, Sent, Took}
 use Rattle.port_model.specs.NetEvent.{Steps}
 use Rattle.port_model.specs.NetLaneState.{NetLaneState, NetShape, memory_of, net_end, reach_of, role_at, seen_at}
 use Rattle.port_model.specs.NetLaneStep.{EndSteps, net_wire}
@@ -42,17 +40,16 @@ use Rattle.port_model.specs.Offers.{port_offer, ring_cookie}
 use Rattle.port_model.specs.PortLog.{PortLog, after, after_answer, log_of_end}
 use Rattle.port_model.specs.PortState.{OnLane, PortState}
 use Rattle.port_laws.specs.Counted.{EndCounts}
-use Rattle.port_laws.specs.NetCore.{lane_core, net_core}
+use Rattle.port_laws.specs.NetCore.{lane_core}
 use Rattle.port_laws.specs.RingStands.{RingIn, RingStands, taken_by, taken_in, taken_of}
 use Rattle.port_laws.proofs.EndCounting.{open_counts, shut_counts}
-use Rattle.port_laws.proofs.EndMoves.{HeldCore, held_core}
+use Rattle.port_laws.proofs.EndMoves.{held_core}
 use Rattle.port_laws.proofs.LogsStand.{LogsStand, TablesStand, held_given}
 use Rattle.port_laws.proofs.MemoryRoom.{MemoryHasRoom}
-use Rattle.port_laws.proofs.PeerOpens.{row}
 use Rattle.port_laws.proofs.PortCounts.{PortCounts, Ready, queue_of}
 use Rattle.port_laws.proofs.PortTwoEnds.{PortTwoEnds, many_open, open_turns, shut_turns}
 use Rattle.port_laws.proofs.RemainingEnds.{kind_shut}
-use Rattle.port_laws.proofs.RingEvents.{Active, Frames, Goes, Turned, acts_up, mine_now, own_stands, peer_stands, saying_taken, some_not, spoke_after, theirs_now, turns_at, turns_now, wire_now}
+use Rattle.port_laws.proofs.RingEvents.{Active, Frames, Goes, SaysOfLog, acts_up, mine_now, own_stands, peer_stands, saying_taken, some_not, spoke_after, theirs_now, turns_at, utterances_now, wire_now}
 use Rattle.port_laws.proofs.RingFetches.{Reaches}
 use Rattle.port_laws.proofs.RingMoves.{Fits}
 use Rattle.port_laws.proofs.RingSteps.{Owns, TakesOf, opens_by}
@@ -120,7 +117,7 @@ some_session : (session : Option NetSession) → session ≡ None → is_some se
 some_session session is = ap is_some is
 
 -- NO SESSION OPENS where one is open
-step_shut : (role : Role) (slots : ℕ) (queue : List (List ℕ)) (s : NetEndState) (l : EndLog) (turns : List Turn) (at : Seen) (memory : List ℕ) (reach : Reach) (answer : NetAnswer) (left : NetLeft)
+step_shut : (role : Role) (slots : ℕ) (queue : List (List ℕ)) (s : NetEndState) (l : EndLog) (turns : List Utterance) (at : Seen) (memory : List ℕ) (reach : Reach) (answer : NetAnswer) (left : NetLeft)
     → Acting role slots queue s l turns → NetEndStep role s at memory reach answer left → opens_by answer ≡ true → s.session ≡ None
 step_shut role slots queue s l turns at memory reach (Took packet opens) left acting step opened = by_session s.session refl
   where
@@ -129,11 +126,9 @@ step_shut role slots queue s l turns at memory reach (Took packet opens) left ac
     by_session (Some p) is =
         true_false (sym opened ∙ (took_here role slots queue s l turns at memory reach packet opens left 0 acting step).shut p is)
 step_shut role slots queue s l turns at memory reach (Sent packet opens) left acting step opened =
-    let held : NetEndState = step.held in
-    let core : HeldCore role s held = held_core role s at reach (port_rule role s at) held acting.fits refl step.holds in
-    let shut : is_open_in held.handshake.phase ≡ false = kind_shut (net_kind held) held.handshake (sym step.opens_is ∙ opened) in
-    not_some s.session
-    (acting.ends.opened ∙ sym (ap (λ (h : Handshake). is_open_in h.phase) (held_handshake (net_core role s) (net_core role held) core.what core.holds)) ∙ shut)
+    let core = held_core role s at reach (port_rule role s at) step.held acting.fits refl step.holds in
+    let kind = kind_shut (net_kind step.held) step.held.handshake (sym step.opens_is ∙ opened) in
+    grind (arith, step.held, core, kind, not_some, held_handshake)
 step_shut role slots queue s l turns at memory reach _ left acting step opened = false_true opened
 
 -- A FRAME IS TAKEN in an open session, in which a message of it was heard
@@ -144,21 +139,18 @@ pub record Busy (answer : NetAnswer) (log : Option SessionLog) : Type 0 where
 frame_busy : (frame : List ℕ) (log : Option SessionLog) → InSession log IsActive → Busy (Frame frame) log
 frame_busy frame log is = grind (arith, some_not)
 
-pub step_busy : (role : Role) (slots : ℕ) (queue : List (List ℕ)) (s : NetEndState) (l : EndLog) (turns : List Turn) (at : Seen) (memory : List ℕ) (reach : Reach) (answer : NetAnswer) (left : NetLeft)
+pub step_busy : (role : Role) (slots : ℕ) (queue : List (List ℕ)) (s : NetEndState) (l : EndLog) (turns : List Utterance) (at : Seen) (memory : List ℕ) (reach : Reach) (answer : NetAnswer) (left : NetLeft)
     → (is_up at.state ≡ true → Acting role slots queue s l turns) → NetEndStep role s at memory reach answer left → Busy answer l.session
 step_busy role slots queue s l turns at memory reach (Frame frame) left acts step =
     let says = says_of role s at (Fetches step.session step.activity) step.rule in
-    let acting = acts says.0.free.up in
-    frame_busy frame l.session
-    (active_here role slots queue s l step.session step.activity acting.counts says.0.session says.1 (free_empty role s turns acting.ends says.0.free.quiet) IsActive
-    (λ v peer busy. busy.0))
+    grind (arith, frame_busy, active_here, free_empty)
 step_busy role slots queue s l turns at memory reach _ left acts step = record { busy = tt; active = tt }
 
 -- AN END THAT ISN'T IN SESSION has a peer that took nothing
-none_asked : (role : Role) (turns : List Turn) (v : SessionLog) (n : ℕ) → v.taken ≡ n → Spoke role turns v → (1 ≤ v.asked → ⊥) → n ≡ 0
+none_asked : (role : Role) (turns : List Utterance) (v : SessionLog) (n : ℕ) → v.taken ≡ n → Spoke role turns v → (1 ≤ v.asked → ⊥) → n ≡ 0
 none_asked role turns v n is spoke never = grind arith
 
-none_taken : (role : Role) (turns : List Turn) (x : ChannelState) (log : Option SessionLog) → SpokeIn role turns log → (x ≡ Up → (v : SessionLog) → log ≡ Some v → 1 ≤ v.asked → ⊥) → taken_by x log ≡ 0
+none_taken : (role : Role) (turns : List Utterance) (x : ChannelState) (log : Option SessionLog) → SpokeIn role turns log → (x ≡ Up → (v : SessionLog) → log ≡ Some v → 1 ≤ v.asked → ⊥) → taken_by x log ≡ 0
 none_taken role turns x log spoke never = grind (arith, none_asked)
 
 pub shut_peer : (shape : NetShape) (e : End) (u : NetLaneState) (l : PortLog) → PortTwoEnds shape (lane_core u) l → Rings u l → (net_end e u).session ≡ None
@@ -184,9 +176,6 @@ table_past pages index past = grind (arith, get_or_past, length-map-range_with_l
 few_buffers : (b : Bool) (slots : ℕ) → slots ≤ 64 → 1 + (if b then slots / 4 else 1) ≤ 1028
 few_buffers b slots few = grind arith
 
-pub own_identity : (slots : ℕ) → slots ≤ 64 → IsIdentity (own_table (memory_pages slots)) (memory_pages slots)
-own_identity slots few = grind (arith, few_buffers, table_within, table_past)
-
 known_cookies : (f : NetEndState) (offer : Offer) (role : Role) (address : List ℕ) (slots : ℕ) → f.handshake.draft.peer_count ≡ offer.count → f.handshake.draft.peer_cookies ≡ offer.cookies
     → offer ≡ port_offer role address slots → slots_cookies f ≡ ring_cookie slots ∷ []
 known_cookies f offer role address slots count cookies is = grind arith
@@ -202,14 +191,13 @@ in_one shape u l queue two_ends guest hub guest_open hub_open =
     let one = two_ends.one guest_open hub_open in
     let guest_two_ends = two_ends.two_ends A in
     let guest_offer = guest_two_ends.mine.handshake.offer_is in
-    let hub_offer = guest_two_ends.theirs.handshake.offer_is in
     let both : u.guest.handshake.offer.both_rings ≡ true = ap (λ (o : Offer). o.both_rings) guest_offer in
     let ring : KnowsRing u.hub.handshake.draft u.guest.handshake.draft u.guest.handshake.offer = one.ring in
     let peer_ring : KnowsRing u.guest.handshake.draft u.hub.handshake.draft u.hub.handshake.offer =
     subst (λ (b : Bool). KnowsBoth b u.guest.handshake.draft u.hub.handshake.draft u.hub.handshake.offer) both one.peer_ring in
     record {
       guest_cookies = known_cookies u.guest u.hub.handshake.offer Responder u.hub.address shape.slots peer_ring.count peer_ring.cookies
-          (hub_offer ∙ ap (port_offer Responder u.hub.address) hub.slots_is);
+          (guest_two_ends.theirs.handshake.offer_is ∙ ap (port_offer Responder u.hub.address) hub.slots_is);
       hub_cookies = known_cookies u.hub u.guest.handshake.offer Initiator u.guest.address shape.slots ring.count ring.cookies
           (guest_offer ∙ ap (port_offer Initiator u.guest.address) guest.slots_is);
     }
@@ -235,7 +223,7 @@ end_room shape e u l finds = grind arith
 
 pub end_reaches : (shape : NetShape) (e : End) (u : PortState) (l : PortLog) → Finds shape u l → is_some (net_end e u.lane).session ≡ true → is_some (net_end (peer_of e) u.lane).session ≡ true
     → Reaches (net_end e u.lane) (reach_of e u.lane) shape.slots (memory_pages shape.slots)
-end_reaches shape e u l finds mine theirs = grind (arith, own_identity, in_one, end_room)
+end_reaches shape e u l finds mine theirs = grind (arith, few_buffers, table_within, table_past, in_one, end_room)
 
 takes_of : (shape : NetShape) (e : End) (u : PortState) (l : PortLog) (answer : NetAnswer) (left : NetLeft) (session : Option NetSession) → Finds shape u l → (net_end (peer_of e) u.lane).session ≡ session
     → NetEndStep (role_at e) (net_end e u.lane) (seen_at e u.lane) (memory_of e u.lane) (reach_of e u.lane) answer left
@@ -268,39 +256,25 @@ pub record Acts (shape : NetShape) (e : End) (u t : PortState) (l : PortLog) (an
   pub counts : PortCounts shape t (after l (OnLane (Steps e answer)))
   pub two_ends : PortTwoEnds shape (lane_core t.lane) (after l (OnLane (Steps e answer)))
 
-pub counted_now : (shape : NetShape) (e : End) (s : PortState) (l : PortLog) → PortCounts shape s l → EndCounts (role_at e) shape.slots (queue_of e s) (net_end e s.lane) (log_of_end e l)
-counted_now shape e s l counts = grind arith
-
 pub acting_at : (shape : NetShape) (e : End) (u : PortState) (l : PortLog) → Finds shape u l → state_of e u.lane.wire.wire ≡ Up
     → Acting (role_at e) shape.slots (queue_of e u) (net_end e u.lane) (log_of_end e l) (transcript_of e l.transcript)
 acting_at shape e u l finds up = end_acts shape e u l finds.ready (ap is_up (seen_state e u.lane ∙ up))
 
 owns_at : (shape : NetShape) (e : End) (u : PortState) (l : PortLog) → Finds shape u l → state_of e u.lane.wire.wire ≡ Up
     → Owns (role_at e) (net_end e u.lane) (transcript_of e l.transcript) (memory_of e u.lane)
-owns_at shape e u l finds up =
-    let acting = acting_at shape e u l finds up in
-    let slots = acting.counts.slots_is in
-    record {
-      ends = acting.ends;
-      stands = acting.stands;
-      fits = subst (λ (n : ℕ). Fits n (memory_of e u.lane)) (sym slots) (end_room shape e u l finds);
-      frames = end_frames shape e u l finds;
-    }
+owns_at shape e u l finds up = grind (arith, acting_at shape e u l finds up, end_room, end_frames)
 
 -- no session of it opens where one is open
 pub acts_shut : (shape : NetShape) (e : End) (u t : PortState) (l : PortLog) (answer : NetAnswer) (left : NetLeft) → Acts shape e u t l answer left → opens_by answer ≡ true
     → (net_end e u.lane).session ≡ None
 acts_shut shape e u t l answer left acts opened =
+    let opening_same : (answer : NetAnswer) (x : ChannelState) → opens_by answer ≡ true → mine_now answer x ≡ x = λ answer x opened.
+    grind (arith, false_true) in
     step_shut (role_at e) shape.slots (queue_of e u) (net_end e u.lane) (log_of_end e l) (transcript_of e l.transcript) (seen_at e u.lane) (memory_of e u.lane) (reach_of e u.lane) answer left
     (acting_at shape e u l acts.finds
     (acts_up (role_at e) (net_end e u.lane) (seen_at e u.lane) (memory_of e u.lane) (reach_of e u.lane) answer left acts.step (state_of e u.lane.wire.wire) (seen_state e u.lane)
     (opening_same answer (state_of e u.lane.wire.wire) opened)))
     acts.step opened
-  where
-    opening_same : (answer : NetAnswer) (x : ChannelState) → opens_by answer ≡ true → mine_now answer x ≡ x
-    opening_same (Joined lost) x opened = false_true opened
-    opening_same (Reset cause packet lost) x opened = false_true opened
-    opening_same _ x opened = refl
 
 pub goes_same : (answer : NetAnswer) (x : ChannelState) → Goes answer → mine_now answer x ≡ x
 goes_same answer x goes = grind arith
@@ -312,27 +286,22 @@ acts_up_at shape e u t l answer left acts goes =
 
 -- WHAT ITS LOG SAYS
 pub turned_at : (shape : NetShape) (e : End) (u t : PortState) (l : PortLog) (answer : NetAnswer) (left : NetLeft) → Acts shape e u t l answer left → Goes answer
-    → Turned (role_at e) (transcript_of e l.transcript) (turns_now answer (transcript_of e l.transcript)) (log_of_end e l).session
+    → SaysOfLog (role_at e) (transcript_of e l.transcript) (utterances_now answer (transcript_of e l.transcript)) (log_of_end e l).session
     (after_answer l.shape.slots (transcript_of e l.transcript) answer (log_of_end e l)).session
 turned_at shape e u t l answer left acts goes =
+    let core_up : (e : End) (s : NetLaneState) → state_of e s.wire.wire ≡ Up → IsUp e (lane_core s).wire.wire = λ e s up.
+    grind arith in
     let up : state_of e u.lane.wire.wire ≡ Up = acts_up_at shape e u t l answer left acts goes in
     let before = open_both (role_at e) shape.slots (queue_of e u) (net_end e u.lane) (log_of_end e l) (end_counted shape e u l acts.finds.ready) in
     let then_ = after l (OnLane (Steps e answer)) in
-    let behind = open_both (role_at e) shape.slots (queue_of e t) (net_end e t.lane) (log_of_end e then_) (counted_now shape e t then_ acts.counts) in
     let up_now : state_of e t.lane.wire.wire ≡ Up =
     ap (λ (w : WireLog). state_of e w.wire) acts.now.wire ∙ (wire_now e u.lane answer).mine ∙ goes_same answer (state_of e u.lane.wire.wire) goes ∙ up in
-    let turns : transcript_of e then_.transcript ≡ turns_now answer (transcript_of e l.transcript) = (turns_at e l.transcript answer).mine in
+    let turns : transcript_of e then_.transcript ≡ utterances_now answer (transcript_of e l.transcript) = (turns_at e l.transcript answer).mine in
     record {
       few = λ none. shut_turns shape (lane_core u.lane) l e acts.finds.two_ends (core_up e u.lane up) (core_open e u.lane false (before.shut none));
       six = λ some. (open_turns shape (lane_core u.lane) l e acts.finds.two_ends (core_up e u.lane up) (core_open e u.lane true (before.opened some))).heard_long;
-      many = λ some. subst (λ (x : List Turn). 6 ≤ length (row (role_at e) x)) turns
-          (open_turns shape (lane_core t.lane) then_ e acts.two_ends (core_up e t.lane up_now)
-          (core_open e t.lane true (behind.opened (λ none. some (ap (λ (x : EndLog). x.session) (sym (log_now e l answer).mine) ∙ none))))).row_long;
+      many = λ some. grind (arith, open_turns, core_open, log_now);
     }
-  where
-    core_up : (e : End) (s : NetLaneState) → state_of e s.wire.wire ≡ Up → IsUp e (lane_core s).wire.wire
-    core_up A s up = up
-    core_up B s up = up
 
 acts_spoke : (shape : NetShape) (e : End) (u t : PortState) (l : PortLog) (answer : NetAnswer) (left : NetLeft) → Acts shape e u t l answer left
     → SpokeIn (role_at e) (transcript_of e (after l (OnLane (Steps e answer))).transcript) (log_of_end e (after l (OnLane (Steps e answer)))).session
@@ -340,16 +309,14 @@ acts_spoke shape e u t l answer left acts =
     let before = open_both (role_at e) shape.slots (queue_of e u) (net_end e u.lane) (log_of_end e l) (end_counted shape e u l acts.finds.ready) in
     let busy = step_busy (role_at e) shape.slots (queue_of e u) (net_end e u.lane) (log_of_end e l) (transcript_of e l.transcript) (seen_at e u.lane) (memory_of e u.lane) (reach_of e u.lane) answer left
     (λ up. end_acts shape e u l acts.finds.ready up) acts.step in
-    subst (λ (turns : List Turn). SpokeIn (role_at e) turns (log_of_end e (after l (OnLane (Steps e answer)))).session) (sym (turns_at e l.transcript answer).mine)
-    (subst (λ (x : EndLog). SpokeIn (role_at e) (turns_now answer (transcript_of e l.transcript)) x.session) (sym (log_now e l answer).mine)
-    (spoke_after (role_at e) l.shape.slots (transcript_of e l.transcript) answer (log_of_end e l) (λ opened. before.none (acts_shut shape e u t l answer left acts opened)) busy.active
-    (turned_at shape e u t l answer left acts) (spoke_of e u.lane l acts.finds.rings)))
+    rw ((turns_at e _ _).mine, (log_now e l _).mine) (spoke_after _ _ _ _ _
+    (λ opened. before.none (acts_shut _ e u t l _ _ acts opened)) busy.active (turned_at shape e u t l answer left acts)
+    (spoke_of e _ l acts.finds.rings))
 
 peer_spoke : (shape : NetShape) (e : End) (u t : PortState) (l : PortLog) (answer : NetAnswer) (left : NetLeft) → Acts shape e u t l answer left
     → SpokeIn (role_at (peer_of e)) (transcript_of (peer_of e) (after l (OnLane (Steps e answer))).transcript) (log_of_end (peer_of e) (after l (OnLane (Steps e answer)))).session
 peer_spoke shape e u t l answer left acts =
-    subst (λ (turns : List Turn). SpokeIn (role_at (peer_of e)) turns (log_of_end (peer_of e) (after l (OnLane (Steps e answer)))).session) (sym (turns_at e l.transcript answer).theirs)
-    (subst (λ (x : EndLog). SpokeIn (role_at (peer_of e)) (transcript_of (peer_of e) l.transcript) x.session) (sym (log_now e l answer).theirs) (spoke_of (peer_of e) u.lane l acts.finds.rings))
+    rw ((turns_at e _ _).theirs, (log_now e l _).theirs) (spoke_of _ _ l acts.finds.rings)
 
 -- ITS RING, and its peer's
 acts_ring : (shape : NetShape) (e : End) (u t : PortState) (l : PortLog) (answer : NetAnswer) (left : NetLeft) → Acts shape e u t l answer left
@@ -360,18 +327,13 @@ acts_ring shape e u t l answer left acts up =
     let log : Option SessionLog = (log_of_end (peer_of e) l).session in
     let wire = wire_now e u.lane answer in
     let mine : mine_now answer x ≡ Up = sym (ap (λ (w : WireLog). state_of e w.wire) acts.now.wire ∙ wire.mine) ∙ up in
-    let theirs : state_of (peer_of e) t.lane.wire.wire ≡ theirs_now answer x y = ap (λ (w : WireLog). state_of (peer_of e) w.wire) acts.now.wire ∙ wire.theirs in
     let slots : (net_end e u.lane).slots ≡ l.shape.slots = (end_counted shape e u l acts.finds.ready).slots_is ∙ sym (ap (λ (z : NetShape). z.slots) acts.finds.ready.shape_is) in
     let there : RingIn l.shape.slots (taken_by (theirs_now answer x y) log) left.end.session left.end.frames left.own =
     own_stands (role_at e) l.shape.slots x y log (net_end e u.lane) (transcript_of e l.transcript) (seen_at e u.lane) (memory_of e u.lane) (reach_of e u.lane) answer left
     (owns_at shape e u l acts.finds) slots
     (λ opened here. shut_peer shape e u.lane l acts.finds.two_ends acts.finds.rings (acts_shut shape e u t l answer left acts opened)) acts.step
     (ring_of_end e u.lane l acts.finds.rings) mine in
-    subst (λ (n : ChannelState). RingIn l.shape.slots (taken_by n (log_of_end (peer_of e) (after l (OnLane (Steps e answer)))).session) (net_end e t.lane).session (net_end e t.lane).frames
-    (memory_of e t.lane)) (sym theirs)
-    (subst (λ (z : EndLog). RingIn l.shape.slots (taken_by (theirs_now answer x y) z.session) (net_end e t.lane).session (net_end e t.lane).frames (memory_of e t.lane)) (sym (log_now e l answer).theirs)
-    (subst (λ (z : NetEndState). RingIn l.shape.slots (taken_by (theirs_now answer x y) log) z.session z.frames (memory_of e t.lane)) (sym acts.now.end)
-    (subst (RingIn l.shape.slots (taken_by (theirs_now answer x y) log) left.end.session left.end.frames) (sym acts.now.own) there)))
+    grind (arith, log_now)
 
 acts_peer_ring : (shape : NetShape) (e : End) (u t : PortState) (l : PortLog) (answer : NetAnswer) (left : NetLeft) → Acts shape e u t l answer left
     → PeerRing e t.lane (after l (OnLane (Steps e answer)))
@@ -379,7 +341,7 @@ acts_peer_ring shape e u t l answer left acts up =
     let x : ChannelState = state_of e u.lane.wire.wire in
     let y : ChannelState = state_of (peer_of e) u.lane.wire.wire in
     let log : EndLog = log_of_end e l in
-    let turns : List Turn = transcript_of e l.transcript in
+    let turns : List Utterance = transcript_of e l.transcript in
     let wire = wire_now e u.lane answer in
     let mine : state_of e t.lane.wire.wire ≡ mine_now answer x = ap (λ (w : WireLog). state_of e w.wire) acts.now.wire ∙ wire.mine in
     let theirs : theirs_now answer x y ≡ Up = sym (ap (λ (w : WireLog). state_of (peer_of e) w.wire) acts.now.wire ∙ wire.theirs) ∙ up in
@@ -398,13 +360,9 @@ acts_peer_ring shape e u t l answer left acts up =
     (λ here other. subst (λ (n : ℕ). TakesOf answer (net_end e u.lane) (reach_of e u.lane) n (memory_pages shape.slots) (taken_in log.session) session) shape_slots
     (takes_of shape e u l answer left session acts.finds refl acts.step))
     acts.step held theirs in
-    subst (λ (n : ChannelState). RingIn l.shape.slots (taken_by n (log_of_end e (after l (OnLane (Steps e answer)))).session) (net_end (peer_of e) t.lane).session (net_end (peer_of e) t.lane).frames
-    (memory_of (peer_of e) t.lane)) (sym mine)
-    (subst (λ (z : EndLog). RingIn l.shape.slots (taken_by (mine_now answer x) z.session) (net_end (peer_of e) t.lane).session (net_end (peer_of e) t.lane).frames (memory_of (peer_of e) t.lane))
-    (sym (log_now e l answer).mine)
-    (subst (λ (z : NetEndState). RingIn l.shape.slots (taken_by (mine_now answer x) (after_answer l.shape.slots turns answer log).session) z.session z.frames (memory_of (peer_of e) t.lane))
-    (sym acts.now.peer_end)
-    (subst (RingIn l.shape.slots (taken_by (mine_now answer x) (after_answer l.shape.slots turns answer log).session) session frames) (sym acts.now.peer_memory) there)))
+    rw (mine, (log_now e l answer).mine, acts.now.peer_end) (subst
+    (RingIn l.shape.slots (taken_by (mine_now answer x) (after_answer l.shape.slots turns answer log).session) session frames)
+    (sym acts.now.peer_memory) there)
 
 pub steps_rings : (shape : NetShape) (e : End) (u t : PortState) (l : PortLog) (answer : NetAnswer) → Finds shape u l → EndSteps e u.lane answer t.lane
     → PortCounts shape t (after l (OnLane (Steps e answer))) → PortTwoEnds shape (lane_core t.lane) (after l (OnLane (Steps e answer))) → Rings t.lane (after l (OnLane (Steps e answer)))

@@ -1,19 +1,17 @@
 -- What each step of an end leaves of the rings and of what its log says, in plain fields: the end that acts, and its peer.
 use Rattle.std.proofs.Common.{◌≡◌, ◌≢◌, ℕ, ◌+◌, ◌≤◌, Bool, true, false, Option, Some, None, List, [], ◌∷◌, length, refl, sym, subst, arith}
 use Rattle.std.specs.Prelude.{⊤}
-use Rattle.cookie_copy.specs.Faults.{is_up}
 use Rattle.cookie_copy.specs.Reach.{Reach}
 use Rattle.ldc_link.specs.declared.phase.Role.{Role}
 use Rattle.ldc_queue.specs.declared.end.ChannelState.{ChannelState}
 use Rattle.ldc_queue.specs.declared.end.ChannelState.TheVariants.{Up}
 use Rattle.ldc_queue.specs.declared.end.End.{End}
-use Rattle.ldc_queue.specs.Transcript.{Heard, Said, Turn}
+use Rattle.ldc_queue.specs.Transcript.{Heard, Said, Utterance}
 use Rattle.ldc_queue.specs.Wire.{peer_behind, peer_of, state_of}
 use Rattle.channel_model.specs.Messages.{ended_by, opening_sid}
 use Rattle.channel_model.specs.Sayings.{half_heard, half_said, heard}
 use Rattle.channel_model.specs.Seeing.{Seen}
 use Rattle.channel_model.specs.TranscriptLog.{TranscriptLog, transcript_of}
-use Rattle.port_model.proofs.Refuting.{false_true}
 use Rattle.port_model.proofs.Ruling.{says_of}
 use Rattle.port_model.specs.EndLog.{EndLog, SessionLog, change, heard_in, heard_kind, hears_log, more_published, more_taken as one_taken, opens_log, said_in, said_kind, says_log}
 use Rattle.port_model.specs.NetEndState.{NetEndState, NetSession}
@@ -27,7 +25,7 @@ use Rattle.port_laws.specs.RingStands.{RingIn, taken_by, taken_in}
 use Rattle.port_laws.proofs.PeerOpens.{row}
 use Rattle.port_laws.proofs.RingSteps.{Owns, TakesOf, more_taken, opens_by, own_ring, peer_ring}
 use Rattle.port_laws.proofs.SessionsHeard.{Spoke, SpokeIn, frame_spoke, published_spoke, sent_opens, sent_spoke, took_opens, took_spoke}
-use Rattle.port_laws.proofs.LaneMoves.{holds_up}
+use Rattle.port_laws.proofs.LaneMoves.{holds_up, up_of}
 
 -- BOTH CHANNEL ENDS and what was said, after an answer
 abbrev pub mine_now : NetAnswer → ChannelState → ChannelState
@@ -47,27 +45,24 @@ pub record WireNow (e : End) (u : NetLaneState) (answer : NetAnswer) : Type 0 wh
 pub wire_now : (e : End) (u : NetLaneState) (answer : NetAnswer) → WireNow e u answer
 wire_now e u answer = grind arith
 
-abbrev pub turns_now : NetAnswer → List Turn → List Turn
-turns_now (Joined lost) turns = []
-turns_now (Reset cause packet lost) turns = []
-turns_now (Took packet opens) turns = Heard packet ∷ turns
-turns_now (Sent packet opens) turns = Said packet ∷ turns
-turns_now _ turns = turns
+abbrev pub utterances_now : NetAnswer → List Utterance → List Utterance
+utterances_now (Joined lost) turns = []
+utterances_now (Reset cause packet lost) turns = []
+utterances_now (Took packet opens) turns = Heard packet ∷ turns
+utterances_now (Sent packet opens) turns = Said packet ∷ turns
+utterances_now _ turns = turns
 
-pub record TurnsNow (e : End) (l : TranscriptLog) (answer : NetAnswer) : Type 0 where
-  pub mine : transcript_of e (spoken_on l (on_wire (Steps e answer))) ≡ turns_now answer (transcript_of e l)
+pub record UtterancesNow (e : End) (l : TranscriptLog) (answer : NetAnswer) : Type 0 where
+  pub mine : transcript_of e (spoken_on l (on_wire (Steps e answer))) ≡ utterances_now answer (transcript_of e l)
   pub theirs : transcript_of (peer_of e) (spoken_on l (on_wire (Steps e answer))) ≡ transcript_of (peer_of e) l
 
-pub turns_at : (e : End) (l : TranscriptLog) (answer : NetAnswer) → TurnsNow e l answer
+pub turns_at : (e : End) (l : TranscriptLog) (answer : NetAnswer) → UtterancesNow e l answer
 turns_at e l answer = grind arith
-
-pub up_is : (x : ChannelState) → is_up x ≡ true → x ≡ Up
-up_is x is = grind (arith, false_true)
 
 -- AN END THAT ACTS is up, but where it joins
 pub acts_up : (role : Role) (s : NetEndState) (at : Seen) (memory : List ℕ) (reach : Reach) (answer : NetAnswer) (left : NetLeft) → NetEndStep role s at memory reach answer left
     → (x : ChannelState) → at.state ≡ x → mine_now answer x ≡ x → x ≡ Up
-acts_up role s at memory reach answer left step x is now = grind (arith, up_is, says_of, holds_up)
+acts_up role s at memory reach answer left step x is now = grind (arith, up_of, says_of, holds_up)
 
 -- it doesn't begin anew
 abbrev pub Goes : NetAnswer → Type 0
@@ -101,7 +96,7 @@ frame_taken log some = grind arith
 published_taken : (log : Option SessionLog) → taken_in (change more_published log) ≡ taken_in log
 published_taken log = grind arith
 
-pub answer_taken : (slots : ℕ) (turns : List Turn) (answer : NetAnswer) (l : EndLog) → (x : ChannelState) → mine_now answer x ≡ x → x ≡ Up → (opens_by answer ≡ true → l.session ≡ None)
+pub answer_taken : (slots : ℕ) (turns : List Utterance) (answer : NetAnswer) (l : EndLog) → (x : ChannelState) → mine_now answer x ≡ x → x ≡ Up → (opens_by answer ≡ true → l.session ≡ None)
     → Frames answer l.session → Goes answer → taken_in (after_answer slots turns answer l).session ≡ more_taken answer (taken_in l.session)
 answer_taken slots turns (Took packet opens) l x now up shut some goes =
     opened_taken opens (opening_sid (half_heard turns) packet) l.session (hears_log slots (ended_by (half_heard turns) packet) l) shut (heard_taken slots (ended_by (half_heard turns) packet) l.session)
@@ -114,7 +109,7 @@ answer_taken slots turns (Reset cause packet lost) l x now up shut some goes = a
 answer_taken slots turns _ l x now up shut some goes = refl
 
 -- THE RING OF THE END THAT ACTS
-pub own_stands : (role : Role) (slots : ℕ) (x y : ChannelState) (log : Option SessionLog) (s : NetEndState) (turns : List Turn) (at : Seen) (memory : List ℕ) (reach : Reach) (answer : NetAnswer)
+pub own_stands : (role : Role) (slots : ℕ) (x y : ChannelState) (log : Option SessionLog) (s : NetEndState) (turns : List Utterance) (at : Seen) (memory : List ℕ) (reach : Reach) (answer : NetAnswer)
     (left : NetLeft) → (x ≡ Up → Owns role s turns memory) → s.slots ≡ slots → (opens_by answer ≡ true → x ≡ Up → taken_by y log ≡ 0) → NetEndStep role s at memory reach answer left
     → (x ≡ Up → RingIn slots (taken_by y log) s.session s.frames memory) → mine_now answer x ≡ Up
     → RingIn slots (taken_by (theirs_now answer x y) log) left.end.session left.end.frames left.own
@@ -122,10 +117,7 @@ own_stands role slots x y log s turns at memory reach answer left owns same none
   where
     goes : (given : NetAnswer) → (opens_by given ≡ true → x ≡ Up → taken_by y log ≡ 0) → NetEndStep role s at memory reach given left → x ≡ Up
         → RingIn slots (taken_by y log) left.end.session left.end.frames left.own
-    goes given nothing moves up =
-        subst (λ (n : ℕ). RingIn n (taken_by y log) left.end.session left.end.frames left.own) same
-        (own_ring role (taken_by y log) s turns at memory reach given left (owns up) (λ is. nothing is up) moves
-        (subst (λ (n : ℕ). RingIn n (taken_by y log) s.session s.frames memory) (sym same) (ring up)))
+    goes given nothing moves up = grind (arith, own_ring)
 
     by_answer : (given : NetAnswer) → (opens_by given ≡ true → x ≡ Up → taken_by y log ≡ 0) → NetEndStep role s at memory reach given left → mine_now given x ≡ Up
         → RingIn slots (taken_by (theirs_now given x y) log) left.end.session left.end.frames left.own
@@ -140,7 +132,7 @@ peer_up x y is = grind arith
 pub none_down : (x : ChannelState) (log : Option SessionLog) → x ≢ Up → taken_by x log ≡ 0
 none_down x log not = grind arith
 
-pub peer_stands : (role : Role) (slots pages : ℕ) (x y : ChannelState) (log : Option SessionLog) (turns : List Turn) (l : EndLog) (session : Option NetSession) (frames : List (List ℕ)) (f : NetEndState)
+pub peer_stands : (role : Role) (slots pages : ℕ) (x y : ChannelState) (log : Option SessionLog) (turns : List Utterance) (l : EndLog) (session : Option NetSession) (frames : List (List ℕ)) (f : NetEndState)
     (at : Seen) (memory : List ℕ) (reach : Reach) (answer : NetAnswer) (left : NetLeft) → at.state ≡ x → l.session ≡ log → 1 ≤ slots → (opens_by answer ≡ true → log ≡ None) → Frames answer log
     → (x ≡ Up → y ≡ Up → TakesOf answer f reach slots pages (taken_in log) session) → NetEndStep role f at memory reach answer left
     → (y ≡ Up → RingIn slots (taken_by x log) session frames reach.memory) → theirs_now answer x y ≡ Up
@@ -149,7 +141,7 @@ peer_stands role slots pages x y log turns l session frames f at memory reach an
     grind (arith, acts_up, answer_taken, peer_ring, peer_up, none_down)
 
 -- WHAT THE LOG SAYS of the end that acts
-pub record Turned (role : Role) (turns now : List Turn) (log behind : Option SessionLog) : Type 0 where
+pub record SaysOfLog (role : Role) (turns now : List Utterance) (log behind : Option SessionLog) : Type 0 where
   pub few : log ≡ None → length (row role turns) ≤ 5
   pub six : log ≢ None → 6 ≤ length (heard turns)
   pub many : behind ≢ None → 6 ≤ length (row role now)
@@ -161,34 +153,30 @@ Active _ log = ⊤
 pub some_not : {X : Type 0} (x : X) → Some x ≢ None
 some_not {X} x is = cc is
 
-took_case : (role : Role) (slots : ℕ) (turns : List Turn) (packet : List ℕ) (opens : Bool) (log : Option SessionLog) (l : EndLog) → l.session ≡ log → (opens ≡ true → log ≡ None)
-    → Turned role turns (Heard packet ∷ turns) log (after_answer slots turns (Took packet opens) l).session → SpokeIn role turns log
+took_case : (role : Role) (slots : ℕ) (turns : List Utterance) (packet : List ℕ) (opens : Bool) (log : Option SessionLog) (l : EndLog) → l.session ≡ log → (opens ≡ true → log ≡ None)
+    → SaysOfLog role turns (Heard packet ∷ turns) log (after_answer slots turns (Took packet opens) l).session → SpokeIn role turns log
     → SpokeIn role (Heard packet ∷ turns) (after_answer slots turns (Took packet opens) l).session
 took_case role slots turns packet true log l is shut turned spoke =
     took_opens role turns packet (turned.few (shut refl)) (turned.many (some_not _))
-took_case role slots turns packet false None l is shut turned spoke =
-    subst (λ (o : Option SessionLog). SpokeIn role (Heard packet ∷ turns) (change (heard_in slots (ended_by (half_heard turns) packet)) o)) (sym is) tt
+took_case role slots turns packet false None l is shut turned spoke = rw is tt
 took_case role slots turns packet false (Some v) l is shut turned spoke =
-    subst (λ (o : Option SessionLog). SpokeIn role (Heard packet ∷ turns) (change (heard_in slots (ended_by (half_heard turns) packet)) o)) (sym is)
-    (took_spoke role slots turns packet v spoke (turned.six (some_not v)))
+    rw is (took_spoke role slots turns packet v spoke (turned.six (some_not v)))
 
-sent_case : (role : Role) (slots : ℕ) (turns : List Turn) (packet : List ℕ) (opens : Bool) (log : Option SessionLog) (l : EndLog) → l.session ≡ log → (opens ≡ true → log ≡ None)
-    → Turned role turns (Said packet ∷ turns) log (after_answer slots turns (Sent packet opens) l).session → SpokeIn role turns log
+sent_case : (role : Role) (slots : ℕ) (turns : List Utterance) (packet : List ℕ) (opens : Bool) (log : Option SessionLog) (l : EndLog) → l.session ≡ log → (opens ≡ true → log ≡ None)
+    → SaysOfLog role turns (Said packet ∷ turns) log (after_answer slots turns (Sent packet opens) l).session → SpokeIn role turns log
     → SpokeIn role (Said packet ∷ turns) (after_answer slots turns (Sent packet opens) l).session
 sent_case role slots turns packet true log l is shut turned spoke =
     sent_opens role turns packet (turned.few (shut refl)) (turned.many (some_not _))
-sent_case role slots turns packet false None l is shut turned spoke =
-    subst (λ (o : Option SessionLog). SpokeIn role (Said packet ∷ turns) (change (said_in (ended_by (half_said turns) packet)) o)) (sym is) tt
-sent_case role slots turns packet false (Some v) l is shut turned spoke =
-    subst (λ (o : Option SessionLog). SpokeIn role (Said packet ∷ turns) (change (said_in (ended_by (half_said turns) packet)) o)) (sym is) (sent_spoke role turns packet v spoke)
+sent_case role slots turns packet false None l is shut turned spoke = rw is tt
+sent_case role slots turns packet false (Some v) l is shut turned spoke = rw is (sent_spoke role turns packet v spoke)
 
-work_case : (role : Role) (turns : List Turn) (f : SessionLog → SessionLog) (log : Option SessionLog) → ((v : SessionLog) → log ≡ Some v → Spoke role turns v → Spoke role turns (f v)) → SpokeIn role turns log
+work_case : (role : Role) (turns : List Utterance) (f : SessionLog → SessionLog) (log : Option SessionLog) → ((v : SessionLog) → log ≡ Some v → Spoke role turns v → Spoke role turns (f v)) → SpokeIn role turns log
     → SpokeIn role turns (change f log)
 work_case role turns f log means spoke = grind arith
 
-pub spoke_after : (role : Role) (slots : ℕ) (turns : List Turn) (answer : NetAnswer) (l : EndLog) → (opens_by answer ≡ true → l.session ≡ None) → Active answer l.session
-    → (Goes answer → Turned role turns (turns_now answer turns) l.session (after_answer slots turns answer l).session) → SpokeIn role turns l.session
-    → SpokeIn role (turns_now answer turns) (after_answer slots turns answer l).session
+pub spoke_after : (role : Role) (slots : ℕ) (turns : List Utterance) (answer : NetAnswer) (l : EndLog) → (opens_by answer ≡ true → l.session ≡ None) → Active answer l.session
+    → (Goes answer → SaysOfLog role turns (utterances_now answer turns) l.session (after_answer slots turns answer l).session) → SpokeIn role turns l.session
+    → SpokeIn role (utterances_now answer turns) (after_answer slots turns answer l).session
 spoke_after role slots turns (Took packet opens) l shut active turned spoke = took_case role slots turns packet opens l.session l refl shut (turned tt) spoke
 spoke_after role slots turns (Sent packet opens) l shut active turned spoke = sent_case role slots turns packet opens l.session l refl shut (turned tt) spoke
 spoke_after role slots turns Blocked l shut active turned spoke = spoke

@@ -15,7 +15,7 @@ use Rattle.cookie_copy.specs.Following.{FollowOn}
 use Rattle.cookie_copy.specs.Identity.{IsIdentity, copied_in, copied_out}
 use Rattle.cookie_copy.specs.Moved.{moved_in, moved_out, spots}
 use Rattle.cookie_copy.specs.Reach.{Reach}
-use Rattle.dring.proofs.Turning.{slot_front}
+use Rattle.dring.proofs.Laps.{slot_front}
 use Rattle.dring.specs.Slots.{ready_state, slot_bytes}
 use Rattle.map_table.specs.declared.cookie.Cookie.{Cookie}
 use Rattle.vio_bytes.specs.Place.{put_at}
@@ -125,11 +125,10 @@ buffer_fetched : (reach : Reach) (slots pages slot size : ℕ) → IsIdentity re
     → frame_fault reach (frame_desc slot size) ≡ None
     → moved_in reach.table reach.memory (data_cookies (frame_desc slot size)) 0 (moved_size size) ≡ range_at (buffer_place slot) (moved_size size) reach.memory
 buffer_fetched reach slots pages slot size identity fits below small fault =
-    let room = fits.room in
     let place : buffer_place slot + 0 ≡ buffer_place slot = omega arith in
     own_moved_in reach.both Read reach.table reach.memory pages (data_cookies (frame_desc slot size)) 0 (moved_size size) identity fault
     ∙ copied_in_range reach.memory (data_cookies (frame_desc slot size)) (buffer_place slot) (moved_size size) 0 (moved_size size) (one_spots (buffer_place slot) (moved_size size)) (omega arith)
-    (omega (arith, below, small, room))
+    (omega (arith, below, small, fits.room))
     ∙ ap (λ (p : ℕ). range_at p (moved_size size) reach.memory) place
 
 -- A READY SLOT of a frame gives it, and is DONE then
@@ -147,20 +146,14 @@ pub record Fetches (slots seen taken published : ℕ) (frames : List (List ℕ))
 -- the next slot isn't READY where all that is published was taken
 pub ready_next : (slots seen taken published : ℕ) (frames : List (List ℕ)) (memory : List ℕ) → 1 ≤ slots → RingHolds slots seen taken published frames memory → slot_state (taken % slots) memory ≡ 2
     → taken < published
-ready_next slots seen taken published frames memory some ring state =
-    elim (cases_lt taken published) [
-      | inl less ↦ less
-      | inr past ↦ never past (cases_lt taken (seen + slots))
-    ]
+ready_next slots seen taken published frames memory some ring state = grind (arith, never, cases_lt)
   where
     never : published ≤ taken → (taken < seen + slots) ⊎ (seen + slots ≤ taken) → taken < published
     never past (inl within) = absurd (omega (arith, state, (ring.each taken ring.seen_first within).free past))
     never past (inr whole) =
         let last = ring.taken_first in
-        let held = ring.held in
-        let turn = ring.turn in
-        let all : taken ≡ seen + slots = omega (arith, whole, last, turn) in
-        let there = some_frame frames (seen - seen) (omega (arith, whole, last, held, some)) in
+        let all : taken ≡ seen + slots = omega (arith, whole, last, ring.turn) in
+        let there = some_frame frames (seen - seen) (omega (arith, whole, last, ring.held, some)) in
         let done = held_state memory (seen % slots) 4 there.0 ((ring.each seen (omega arith) (omega (arith, some))).done (omega (arith, all, some)) there.0 there.1) in
         let same : slot_state (taken % slots) memory ≡ slot_state (seen % slots) memory = ap (λ (n : ℕ). slot_state n memory) (ap (λ (n : ℕ). n % slots) all ∙ add-mod_right seen slots) in
         absurd (omega (arith, state, same, done))
@@ -169,9 +162,8 @@ ready_next slots seen taken published frames memory some ring state =
 ring_done : (slots seen taken published : ℕ) (frames : List (List ℕ)) (frame memory : List ℕ) → Fits slots memory → RingHolds slots seen taken published frames memory → taken < published
     → slice_get frames (taken - seen) ≡ Some frame → RingHolds slots seen (taken + 1) published frames (put_at (64 * (taken % slots)) (header 4 0) memory)
 ring_done slots seen taken published frames frame memory fits ring less next =
-    let first = ring.seen_first in
     record {
-      seen_first = omega (arith, first);
+      seen_first = omega (arith, ring.seen_first);
       taken_first = omega (arith, less);
       held = ring.held;
       turn = ring.turn;
@@ -216,11 +208,7 @@ ring_done slots seen taken published frames frame memory fits ring less next =
         }
       where
         first : (j : ℕ) → j ≢ taken → j < taken + 1 → j < taken
-        first j other under =
-            elim (cases_lt j taken) [
-              | inl before ↦ before
-              | inr past ↦ absurd (other (omega (arith, past, under)))
-            ]
+        first j other under = grind (arith, cases_lt)
 
     at_slot : (j : ℕ) → seen ≤ j → j < seen + slots → (j ≡ taken) ⊎ ((j < taken) ⊎ (taken < j)) → SlotOf slots seen (taken + 1) published frames new j
     at_slot j since before (inl same) = record {
@@ -249,8 +237,7 @@ ring_fetched s reach slots pages seen taken published frames frame new reaches s
     let less : taken < published = ready_next slots seen taken published frames reach.memory some ring state in
     let first = ring.seen_first in
     let turn = ring.turn in
-    let held = ring.held in
-    let there = some_frame frames (taken - seen) (omega (arith, less, first, held)) in
+    let there = some_frame frames (taken - seen) (omega (arith, less, first, ring.held)) in
     let one : List ℕ = there.0 in
     let holds : SlotHolds reach.memory k 2 one = (ring.each taken first (omega (arith, turn, less))).ready (omega arith) less one there.1 in
     let most = holds.is_frame.most in

@@ -86,10 +86,8 @@ ring_finds s reach slots pages seen taken published frames reaches some both eno
     at_frame : (less : taken < published) → (one : List ℕ) × SlotHolds reach.memory k 2 one
     at_frame less =
         let before = ring.seen_first in
-        let turn = ring.turn in
-        let held = ring.held in
-        let there = some_frame frames (taken - seen) (omega (arith, less, before, held)) in
-        (there.0, (ring.each taken before (omega (arith, turn, less))).ready (omega arith) less there.0 there.1)
+        let there = some_frame frames (taken - seen) (omega (arith, less, before, ring.held)) in
+        (there.0, (ring.each taken before (omega (arith, ring.turn, less))).ready (omega arith) less there.0 there.1)
 
     gives : (one : List ℕ) → SlotHolds reach.memory k 2 one → (slice_index bytes 0 == ready_state) ≡ true → Finding taken published (fetched s reach k)
     gives one holds is_ready =
@@ -122,8 +120,7 @@ ring_finds s reach slots pages seen taken published frames reaches some both eno
               let there = at_frame less in
               let state : slot_state k reach.memory ≡ 2 = held_state reach.memory k 2 there.0 there.1 in
               let same : slice_index bytes 0 ≡ 2 = ap (λ (b : List ℕ). slice_index b 0) bytes_are ∙ state in
-              let wrong : true ≡ false = sym (ap (λ (n : ℕ). n == ready_state) same) ∙ is in
-              absurd (cc wrong))
+              let wrong : true ≡ false = sym (ap (λ (n : ℕ). n == ready_state) same) ∙ is in absurd (cc wrong))
           | inr past ↦ Waits (slice_index bytes 0)
               (starts ∙ ap (λ (b : Bool). if b then described s reach k (net_desc_of bytes) else NotReady (slice_index bytes 0)) is) past
         ]

@@ -1,12 +1,12 @@
 -- What an end does to its own ring keeps it: it clears it, is given a frame, publishes one, and lets those go that an ACK names.
-use Rattle.std.proofs.Common.{◌≡◌, ◌≢◌, ℕ, zero, suc, ◌+◌, ◌-◌, ◌*◌, ◌%◌, ◌<◌, ◌≤◌, ◌⊎◌, inl, inr, Bool, true, Option, Some, None, List, [], ◌∷◌, ◌++◌, length, drop, refl, sym, ap, ◌∙◌, subst, arith, length-drop, length-append}
+use Rattle.std.proofs.Common.{◌≡◌, ◌≢◌, ℕ, zero, suc, ◌+◌, ◌-◌, ◌*◌, ◌%◌, ◌<◌, ◌≤◌, ◌⊎◌, inl, inr, Bool, true, Option, Some, None, List, [], ◌∷◌, ◌++◌, length, drop, refl, sym, ap, ◌∙◌, arith, length-drop, length-append}
 use Rattle.std.specs.Prelude.{◌==◌, if◌then◌else◌, slice_get, slice_index}
 use Rattle.std.proofs.lemmas.Bool.{cases_lt, cases_order, eqb-true}
 use Rattle.std.proofs.lemmas.List.{drop-drop}
 use Rattle.std.proofs.lemmas.Nat.{mod_below}
 use Rattle.std.proofs.lemmas.Option.{slice_get_within}
 use Rattle.std.proofs.Math.Nat.{add-mod_right}
-use Rattle.dring.proofs.Turning.{one_slot_front, one_turn, slot_cleared, slot_front, slot_reads_back}
+use Rattle.dring.proofs.Laps.{one_slot_front, one_turn, slot_cleared, slot_front, slot_reads_back}
 use Rattle.dring.specs.Slots.{free_state, slot_bytes}
 use Rattle.map_table.proofs.Putting.{length-cookies_bytes}
 use Rattle.vio_bytes.proofs.Putting.{length-put_at}
@@ -45,13 +45,8 @@ state_stays memory new slot stays = ap (λ (bytes : List ℕ). slice_index bytes
 -- a write in one slot leaves the others, and every buffer
 pub slot_written : (slots k i : ℕ) (piece memory : List ℕ) → Fits slots memory → k < slots → i < slots → i ≢ k → length piece ≤ 64 → Stays memory (put_at (64 * k) piece memory) i
 slot_written slots k i piece memory fits below inside other small =
-    let few = fits.few in
-    let room = fits.room in
-    let one = one_slot_front 64 slots k piece memory below small (omega (arith, few, room)) in
-    record {
-      bytes = one.others i inside other;
-      buffer = λ n most. range_at-put_at_outside (buffer_place i) n (64 * k) piece memory (omega (arith, few, room, below, small)) (inr (omega (arith, few, below, small)));
-    }
+    let one = one_slot_front 64 slots k piece memory below small (omega (arith, fits.few, fits.room)) in
+    grind (arith, fits.few, fits.room, one, range_at-put_at_outside)
 
 pub buffers_stay : (slots k : ℕ) (piece memory : List ℕ) → Fits slots memory → k < slots → length piece ≤ 64 → (n : ℕ)
     → range_at (buffer_place k) n (put_at (64 * k) piece memory) ≡ range_at (buffer_place k) n memory
@@ -74,9 +69,7 @@ buffer_written slots k i piece memory fits below inside other small = record {
 }
   where
     apart : (n : ℕ) → n ≤ 2048 → (i ≡ k) ⊎ ((i < k) ⊎ (k < i)) → (buffer_place i + n ≤ buffer_place k) ⊎ (buffer_place k + length piece ≤ buffer_place i)
-    apart n most (inl same) = absurd (other same)
-    apart n most (inr (inl less)) = inl (omega (arith, less, most))
-    apart n most (inr (inr past)) = inr (omega (arith, past, small))
+    apart n most given = grind arith
 
 twice_stays : (memory middle new : List ℕ) (slot : ℕ) → Stays memory middle slot → Stays middle new slot → Stays memory new slot
 twice_stays memory middle new slot one two = record { bytes = two.bytes ∙ one.bytes; buffer = λ n most. two.buffer n most ∙ one.buffer n most }
@@ -137,11 +130,10 @@ pub ring_published : (slots seen taken published : ℕ) (frames : List (List ℕ
 ring_published slots seen taken published frames frame memory fits ring next is room =
     let first = ring.seen_first in
     let last = ring.taken_first in
-    let inside = slice_get_within frames (published - seen) frame next in
     record {
       seen_first = first;
       taken_first = omega (arith, last);
-      held = omega (arith, inside, first, last);
+      held = omega (arith, slice_get_within frames (published - seen) frame next, first, last);
       turn = omega (arith, room);
       each = λ j since before. at_slot j since before (cases_order j published);
     }
@@ -188,16 +180,7 @@ ring_published slots seen taken published frames frame memory fits ring next is 
         }
 
     this_slot : (j : ℕ) → j ≡ published → SlotOf slots seen taken (published + 1) frames new j
-    this_slot j same =
-        let last = ring.taken_first in
-        record {
-          done = λ less other get. absurd (omega (arith, less, same, last));
-          ready = λ from less other get.
-              let both : Some frame ≡ Some other = sym next ∙ ap (λ (n : ℕ). slice_get frames (n - seen)) (sym same) ∙ get in
-              let is_it : frame ≡ other = cc both in
-              subst (λ (n : ℕ). SlotHolds new (n % slots) 2 other) (sym same) (subst (SlotHolds new k 2) is_it written);
-          free = λ from. absurd (omega (arith, from, same));
-        }
+    this_slot j same = grind (arith, written)
 
     other_slots : (j : ℕ) → seen ≤ j → j < seen + slots → j ≢ published → SlotOf slots seen taken (published + 1) frames new j
     other_slots j since before other =
@@ -212,11 +195,7 @@ ring_published slots seen taken published frames frame memory fits ring next is 
         }
       where
         not_last : (j : ℕ) → j ≢ published → j < published + 1 → j < published
-        not_last j other less =
-            elim (cases_lt j published) [
-              | inl before ↦ before
-              | inr past ↦ absurd (other (omega (arith, past, less)))
-            ]
+        not_last j other less = grind (arith, cases_lt)
 
     at_slot : (j : ℕ) → seen ≤ j → j < seen + slots → (j ≡ published) ⊎ ((j < published) ⊎ (published < j)) → SlotOf slots seen taken (published + 1) frames new j
     at_slot j since before (inl same) = this_slot j same
@@ -278,15 +257,9 @@ one_freed slots seen taken published frames memory fits ring some =
           free = λ from. state_stays memory new (j % slots) stays ∙ here.free from;
         }
     at_slot j since before (inr past) =
-        let last = ring.taken_first in
-        let turn = ring.turn in
         let same : j ≡ seen + slots = omega (arith, before, past) in
         let place : j % slots ≡ seen % slots = ap (λ (n : ℕ). n % slots) same ∙ add-mod_right seen slots in
-        record {
-          done = λ under frame get. absurd (omega (arith, under, past, last, turn));
-          ready = λ from under frame get. absurd (omega (arith, under, past, turn));
-          free = λ from. ap (λ (n : ℕ). slot_state n new) place ∙ there;
-        }
+        grind (arith, there)
 
 freed_fits : (slots k : ℕ) (memory : List ℕ) → Fits slots memory → k < slots → Fits slots (put_at (64 * k) (free_state ∷ []) memory)
 freed_fits slots k memory fits below =
@@ -305,10 +278,8 @@ all_freed : (slots seen taken published count : ℕ) (frames : List (List ℕ)) 
     → RingHolds slots (seen + count) taken published (drop count frames) (freed slots seen count memory)
 all_freed slots seen taken published zero frames memory fits ring within = same_ring slots seen (seen + 0) taken published frames frames memory (omega arith) refl ring
 all_freed slots seen taken published (suc count) frames memory fits ring within =
-    let last = ring.taken_first in
-    let turn = ring.turn in
     let some : seen < taken = omega (arith, within) in
-    let below : seen % slots < slots = mod_below seen slots (omega (arith, some, last, turn)) in
+    let below : seen % slots < slots = mod_below seen slots (omega (arith, some, ring.taken_first, ring.turn)) in
     let new : List ℕ = put_at (64 * (seen % slots)) (free_state ∷ []) memory in
     same_ring slots (seen + 1 + count) (seen + suc count) taken published (drop count (drop 1 frames)) (drop (suc count) frames) (freed slots (seen + 1) count new) (omega arith)
     (drop-drop count 1 frames ∙ ap (λ (n : ℕ). drop n frames) (next count))
@@ -329,8 +300,7 @@ each_done slots memory number (suc count) is j since before =
     ]
   where
     past : (j < number) ⊎ (number < j) → number + 1 ≤ j
-    past (inl less) = absurd (omega (arith, less, since))
-    past (inr more) = omega (arith, more)
+    past given = grind arith
 
 -- the state of a slot that holds a frame
 first_byte : (state slot size : ℕ) → slice_index (canonical (desc_in state slot size)) 0 ≡ state % 256
@@ -348,21 +318,14 @@ some_frame (one ∷ frames) (suc n) below = some_frame frames n (omega (arith, b
 acked_taken : (slots seen taken published count : ℕ) (frames : List (List ℕ)) (memory : List ℕ) → RingHolds slots seen taken published frames memory → seen + count ≤ published
     → first_undone slots memory seen count ≡ None → seen + count ≤ taken
 acked_taken slots seen taken published count frames memory ring within is =
-    elim (cases_lt taken (seen + count)) [
-      | inr fine ↦ fine
-      | inl less ↦ never less
-    ]
-  where
-    never : taken < seen + count → seen + count ≤ taken
-    never less =
-        let first = ring.seen_first in
-        let held = ring.held in
-        let turn = ring.turn in
-        let there = some_frame frames (taken - seen) (omega (arith, held, first, less, within)) in
-        let here = ring.each taken first (omega (arith, less, within, turn)) in
-        let ready : slot_state (taken % slots) memory ≡ 2 = held_state memory (taken % slots) 2 there.0 (here.ready (omega arith) (omega (arith, less, within)) there.0 there.1) in
-        let done : slot_state (taken % slots) memory ≡ 4 = each_done slots memory seen count is taken first less in
-        absurd (omega (arith, ready, done))
+    let never : taken < seen + count → seen + count ≤ taken = λ less.
+    let first = ring.seen_first in
+    let there = some_frame frames (taken - seen) (omega (arith, ring.held, first, less, within)) in
+    let here = ring.each taken first (omega (arith, less, within, ring.turn)) in
+    let ready : slot_state (taken % slots) memory ≡ 2 = held_state memory (taken % slots) 2 there.0 (here.ready (omega arith) (omega (arith, less, within)) there.0 there.1) in
+    let done : slot_state (taken % slots) memory ≡ 4 = each_done slots memory seen count is taken first less in
+    absurd (omega (arith, ready, done)) in
+    grind (arith, never, cases_lt)
 
 pub ring_acked : (slots seen taken published count : ℕ) (frames : List (List ℕ)) (memory : List ℕ) → Fits slots memory → RingHolds slots seen taken published frames memory
     → seen + count ≤ published → first_undone slots memory seen count ≡ None → RingHolds slots (seen + count) taken published (drop count frames) (freed slots seen count memory)

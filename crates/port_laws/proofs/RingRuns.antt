@@ -15,7 +15,7 @@ use Rattle.port_model.proofs.Moving.{before_keeps}
 use Rattle.port_model.proofs.Refuting.{true_false}
 use Rattle.port_model.specs.EndLog.{SessionLog}
 use Rattle.port_model.specs.NetEndState.{NetEndState, NetSession}
-use Rattle.port_model.specs.NetEndStep.{Given, Joining, NetGives, NetJoins, Queued, untold}
+use Rattle.port_model.specs.NetEndStep.{Given, Joining, NetGives, NetJoins, Queued}
 use Rattle.port_model.specs.NetEvent.{Asked, Gives, Injects, Joins, Loses, NetEvent, Pokes, Steps, Ticked, on_wire}
 use Rattle.port_model.specs.NetLaneState.{IsNetShape, NetLaneState, NetShape}
 use Rattle.port_model.specs.NetLaneStep.{NetLaneStep, Resets, moved_on}
@@ -63,12 +63,9 @@ given_ring : (slots taken : ℕ) (memory : List ℕ) (s : NetEndState) (given : 
     → RingIn slots taken t.session t.frames memory
 given_ring slots taken memory s given t gives ring = grind (arith, more_frames)
 
-untold_ring : (slots taken : ℕ) (session : Option NetSession) (frames : List (List ℕ)) (memory : List ℕ) → RingIn slots taken session frames memory → RingIn slots taken (untold session) frames memory
-untold_ring slots taken session frames memory ring = grind arith
-
 joined_ring : (slots taken : ℕ) (memory : List ℕ) (s : NetEndState) (joining : Joining) (t : NetEndState) → NetJoins s joining t → RingIn slots taken s.session s.frames memory
     → RingIn slots taken t.session t.frames memory
-joined_ring slots taken memory s joining t joins ring = grind (arith, untold_ring)
+joined_ring slots taken memory s joining t joins ring = grind arith
 
 -- AN EVENT, where nobody forged
 lane_rings : (shape : NetShape) (u t : PortState) (l : PortLog) (event : NetEvent) → OfQueue u event → Finds shape u l → NetLaneStep u.lane event t.lane → (moved_on l.wire (on_wire event)).forged ≡ false
@@ -77,17 +74,10 @@ lane_rings shape u t l (Steps e answer) of_queue finds step clean counts two_end
 lane_rings shape u t l (Asked e lost) of_queue finds step clean counts two_ends = asked_rings e u.lane l lost t.lane step finds.rings
 lane_rings shape u t l (Ticked queued lost) of_queue finds step clean counts two_ends = asked_rings A u.lane l lost t.lane step.1 finds.rings
 lane_rings shape u t l (Gives A given) of_queue finds step clean counts two_ends =
-    subst (λ (x : NetLaneState). Rings x (after l (OnLane (Gives A given)))) (sym step.1)
-    (record {
-      guest_spoke = given_spoke given;
-      hub_spoke = finds.rings.hub_spoke;
-      guest_ring = λ up. given_ring l.shape.slots (taken_by u.lane.wire.wire.end_b l.hub.session) u.lane.guest_memory u.lane.guest given t.lane.guest step.0 (finds.rings.guest_ring up);
-      hub_ring = λ up. given_other given up;
-    })
+    grind (arith, given_spoke, given_other, given_ring)
   where
     given_spoke : (given : Given) → SpokeIn Initiator l.transcript.client (after_given given l.guest).session
-    given_spoke (Queued id frame) = finds.rings.guest_spoke
-    given_spoke _ = finds.rings.guest_spoke
+    given_spoke given = grind arith
 
     given_other : (given : Given) → u.lane.wire.wire.end_b ≡ Up
         → RingIn l.shape.slots (taken_by u.lane.wire.wire.end_a (after_given given l.guest).session) u.lane.hub.session u.lane.hub.frames u.lane.hub_memory
@@ -153,10 +143,7 @@ kept_step shape is s l (Receives frame) t kept step =
       counts = counts_step shape is s l (Receives frame) t kept.counts step;
       logs = logs_received l frame step.0 kept.logs;
       tables = subst (TablesStand shape) (sym lane) kept.tables;
-      rings = λ clean.
-          let rings = kept.rings clean in
-          subst (λ (x : NetLaneState). Rings x (after l (Receives frame))) (sym lane)
-          (record { guest_spoke = rings.guest_spoke; hub_spoke = rings.hub_spoke; guest_ring = rings.guest_ring; hub_ring = rings.hub_ring });
+      rings = grind arith;
     }
 
 pub fresh_kept : (shape : NetShape) → IsNetShape shape → Kept shape (fresh_port shape) (no_events shape)

@@ -6,7 +6,7 @@ use Rattle.ldc_link.specs.declared.phase.Role.{Role}
 use Rattle.ldc_link.specs.declared.phase.Role.TheVariants.{Initiator, Responder}
 use Rattle.ldc_link.specs.Putting.{behind_put}
 use Rattle.ldc_packet.specs.declared.packet.Subtype.{Subtype}
-use Rattle.ldc_queue.specs.Transcript.{Turn}
+use Rattle.ldc_queue.specs.Transcript.{Utterance}
 use Rattle.vio_tag.specs.declared.message.Message.{Message}
 use Rattle.vio_tag.specs.declared.message.MsgBody.{MsgBody}
 use Rattle.vnet_msg.specs.Frames.{IsFrame}
@@ -20,15 +20,15 @@ use Rattle.port_model.proofs.Ruling.{says_of}
 use Rattle.port_model.specs.Fetching.{Fetched, IsFrame as IsFetched, fetched}
 use Rattle.port_model.specs.FramesStand.{CountsStand, FramesStand}
 use Rattle.port_model.specs.Groups.{membership}
-use Rattle.port_model.specs.NetEndPutting.{announcement, answer, answers, cleared_by_put, cleared_ring, groups_answer, holding, holding_own, net_holds, net_kind, net_opens, net_put, opened_by_put}
+use Rattle.port_model.specs.NetEndPutting.{announcement, answer, answers, cleared_by_put, cleared_ring, groups_answer, holding, holding_own, net_holds, net_kind, net_opens, opened_by_put}
 use Rattle.port_model.specs.NetEndRule.{Announces, Fetches, NetRule, Publishes, Puts, Replies, Says, Tells, port_rule}
 use Rattle.port_model.specs.NetEndState.{Activity, NetEndState, NetSession, unseen_in}
 use Rattle.port_model.specs.NetEndStep.{Blocked, Frame, Idle, NetAnswer, NetEndStep, NetLeft, NetSends, Published, Sent, Took, published, published_memory, taken}
-use Rattle.port_model.specs.NetEndTaking.{GoesOn, NetTake, NetTakes, Resets, freed}
+use Rattle.port_model.specs.NetEndTaking.{GoesOn, NetTake, NetTakes, Resets}
 use Rattle.port_laws.specs.NetCore.{net_core}
 use Rattle.port_laws.specs.RingHolds.{RingHolds}
 use Rattle.port_laws.specs.RingStands.{RingIn}
-use Rattle.port_laws.proofs.MessageDoes.{Acks, Asks, Declines, MessageDoes, Names, Told}
+use Rattle.port_laws.proofs.MessageDoes.{Acks, MessageDoes, Asks, Declines, Names, Told}
 use Rattle.port_laws.proofs.RemainingEnds.{held_slots}
 use Rattle.port_laws.proofs.RingFetches.{Reaches, ring_fetched}
 use Rattle.port_laws.proofs.RingMoves.{Fits, ring_acked, ring_cleared, ring_published}
@@ -84,19 +84,15 @@ RingTake taken memory s (Resets cause) = ⊤
 does_ring : (role : Role) (taken : ℕ) (memory : List ℕ) (s : NetEndState) (p : NetSession) (subtype : Subtype) (b : MsgBody) (t : NetEndState) (new : List ℕ) → s.session ≡ Some p → Fits s.slots memory
     → MessageDoes role s p memory subtype b t new → RingIn s.slots taken s.session s.frames memory → RingIn s.slots taken t.session t.frames new
 does_ring role taken memory s p subtype b t new session fits (Asks seq ident start end state kind body place stays is) ring =
-    subst (RingIn s.slots taken t.session t.frames) (sym stays)
-    (subst (λ (x : NetEndState). RingIn s.slots taken x.session x.frames memory) (sym is) (ring_of s.slots taken s.session p s.frames memory session ring))
+    subst (RingIn s.slots taken t.session t.frames) (sym stays) (rw is (ring_of _ _ _ p _ _ session ring))
 does_ring role taken memory s p subtype b t new session fits (Acks seq ident start end state kind body begins inside within done freed_is is) ring =
     let count = range_length s.slots start end in
-    subst (RingIn s.slots taken t.session t.frames) (sym freed_is)
-    (subst (λ (x : NetEndState). RingIn s.slots taken x.session x.frames (freed s.slots p.seen count memory)) (sym is)
-    (ring_acked s.slots p.seen taken p.published count s.frames memory fits (ring_of s.slots taken s.session p s.frames memory session ring) within done))
+    subst (RingIn s.slots taken t.session t.frames) (sym freed_is) (rw is
+    (ring_acked _ _ _ _ _ _ _ fits (ring_of _ _ _ p _ _ session ring) within done))
 does_ring role taken memory s p subtype b t new session fits (Names set count addresses groups reply answer hub kind body stays is) ring =
-    subst (RingIn s.slots taken t.session t.frames) (sym stays)
-    (subst (λ (x : NetEndState). RingIn s.slots taken x.session x.frames memory) (sym is) (ring_of s.slots taken s.session p s.frames memory session ring))
+    subst (RingIn s.slots taken t.session t.frames) (sym stays) (rw is (ring_of _ _ _ p _ _ session ring))
 does_ring role taken memory s p subtype b t new session fits (Told set count addresses guest kind body telling stays is) ring =
-    subst (RingIn s.slots taken t.session t.frames) (sym stays)
-    (subst (λ (x : NetEndState). RingIn s.slots taken x.session x.frames memory) (sym is) (ring_of s.slots taken s.session p s.frames memory session ring))
+    subst (RingIn s.slots taken t.session t.frames) (sym stays) (rw is (ring_of _ _ _ p _ _ session ring))
 does_ring role taken memory s p subtype b t new session fits (Declines h declined stays is) ring =
     subst (RingIn s.slots taken t.session t.frames) (sym stays) (subst (λ (x : NetEndState). RingIn s.slots taken x.session x.frames memory) (sym is) ring)
 
@@ -108,7 +104,7 @@ take_ring role taken memory s (GoesOn t opens new) fits (Reads k h p m session d
     λ none ring. does_ring role taken memory (record s { link = k; handshake = h }) p m.subtype m.body t new session fits does.does ring
 take_ring role taken memory s (Resets cause) fits (Reads k h p m session does) = tt
 
-took_ring : (role : Role) (taken : ℕ) (memory packet : List ℕ) (s t : NetEndState) (turns : List Turn) (opens : Bool) (new : List ℕ) → EndStands role (net_core role s) turns → Fits s.slots memory
+took_ring : (role : Role) (taken : ℕ) (memory packet : List ℕ) (s t : NetEndState) (turns : List Utterance) (opens : Bool) (new : List ℕ) → EndStands role (net_core role s) turns → Fits s.slots memory
     → NetTakes role s memory packet (GoesOn t opens new) → (opens ≡ true → taken ≡ 0) → RingIn s.slots taken s.session s.frames memory → RingIn s.slots taken t.session t.frames new
 took_ring role taken memory packet s t turns opens new ends fits takes =
     take_ring role taken memory s (GoesOn t opens new) fits (took_what role s turns memory packet (GoesOn t opens new) ends takes)
@@ -119,7 +115,7 @@ opens_by (Took packet opens) = opens
 opens_by (Sent packet opens) = opens
 opens_by _ = false
 
-pub record Owns (role : Role) (s : NetEndState) (turns : List Turn) (memory : List ℕ) : Type 0 where
+pub record Owns (role : Role) (s : NetEndState) (turns : List Utterance) (memory : List ℕ) : Type 0 where
   pub ends : EndStands role (net_core role s) turns
   pub stands : FramesStand s
   pub fits : Fits s.slots memory
@@ -134,23 +130,19 @@ sent_ring role taken s at memory reach packet opens left none step ring =
     subst (λ (n : ℕ). RingIn n taken held.session held.frames memory) (sym slots) (held_ring role s.slots taken memory s at reach (port_rule role s at) held refl step.holds ring) in
     let there = put_ring role (net_opens held) taken memory (record held { link = behind_put held.link; handshake = handshake_behind (net_kind held) held.handshake })
     (λ is. none (step.opens_is ∙ is)) here in
-    subst (λ (x : NetLeft). RingIn s.slots taken x.end.session x.end.frames x.own) (sym step.is)
-    (subst (λ (n : ℕ). RingIn n taken (net_put role held).session (net_put role held).frames (cleared_by_put role (net_opens held) n memory)) slots there)
+    grind arith
 
-published_ring : (role : Role) (taken : ℕ) (s : NetEndState) (turns : List Turn) (at : Seen) (memory : List ℕ) (p : NetSession) (frame : List ℕ) → Owns role s turns memory
+published_ring : (role : Role) (taken : ℕ) (s : NetEndState) (turns : List Utterance) (at : Seen) (memory : List ℕ) (p : NetSession) (frame : List ℕ) → Owns role s turns memory
     → port_rule role s at ≡ Publishes p frame → RingIn s.slots taken s.session s.frames memory
     → RingHolds s.slots p.seen taken (p.published + 1) s.frames (published_memory (p.published % s.slots) frame memory)
 published_ring role taken s turns at memory p frame owns rule ring =
     let says = says_of role s at (Publishes p frame) rule in
     let is : s.session ≡ Some p = says.0.in_session.session in
     let counts : CountsStand s p = counts_stand s p owns.stands is in
-    let within = slice_get_within s.frames (unseen_in p) frame says.1 in
-    let seen = counts.seen in
-    let room = owns.stands.room in
     ring_published s.slots p.seen taken p.published s.frames frame memory owns.fits (ring_of s.slots taken s.session p s.frames memory is ring) says.1 (owns.frames (unseen_in p) frame says.1)
-    (omega (arith, within, seen, room))
+    (omega (arith, slice_get_within s.frames (unseen_in p) frame says.1, counts.seen, owns.stands.room))
 
-pub own_ring : (role : Role) (taken : ℕ) (s : NetEndState) (turns : List Turn) (at : Seen) (memory : List ℕ) (reach : Reach) (answer : NetAnswer) (left : NetLeft) → Owns role s turns memory
+pub own_ring : (role : Role) (taken : ℕ) (s : NetEndState) (turns : List Utterance) (at : Seen) (memory : List ℕ) (reach : Reach) (answer : NetAnswer) (left : NetLeft) → Owns role s turns memory
     → (opens_by answer ≡ true → taken ≡ 0) → NetEndStep role s at memory reach answer left → RingIn s.slots taken s.session s.frames memory
     → RingIn s.slots taken left.end.session left.end.frames left.own
 own_ring role taken s turns at memory reach (Took packet opens) left owns none step ring =
@@ -183,8 +175,7 @@ fetched_ring role slots pages taken None frames f at memory reach frame left som
 fetched_ring role slots pages taken (Some p) frames f at memory reach frame left some takes step ring =
     let says = says_of role f at (Fetches step.session step.activity) step.rule in
     let found : fetched f reach (taken % slots) ≡ IsFetched frame step.new = ap (fetched f reach) (sym (takes.1 step.session says.0.session)) ∙ step.found in
-    subst (λ (x : NetLeft). RingHolds slots p.seen (taken + 1) p.published frames x.peer) (sym step.is)
-    (ring_fetched f reach slots pages p.seen taken p.published frames frame step.new takes.0 some ring found).ring
+    rw step.is (ring_fetched f _ _ _ _ _ _ _ _ _ takes.0 some ring found).ring
 
 pub peer_ring : (role : Role) (slots pages taken : ℕ) (session : Option NetSession) (frames : List (List ℕ)) (f : NetEndState) (at : Seen) (memory : List ℕ) (reach : Reach) (answer : NetAnswer)
     (left : NetLeft) → 1 ≤ slots → TakesOf answer f reach slots pages taken session → NetEndStep role f at memory reach answer left → RingIn slots taken session frames reach.memory

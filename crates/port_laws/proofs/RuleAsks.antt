@@ -1,6 +1,6 @@
 -- An INFO that an end of a port takes is the next, and an ACK for which it resets itself as its slot isn't DONE is one of its own ring.
-use Rattle.std.proofs.Common.{◌≡◌, ℕ, ◌+◌, ◌<◌, ◌≤◌, ◌⊎◌, Bool, true, false, Option, Some, None, List, inl, inr, refl, sym, subst, ap, ◌∙◌, arith}
-use Rattle.std.specs.Prelude.{◌%◌, ◌==◌, ◌&&◌, is_some, Result, Ok, Err, nat_eq, nat_le, nat_lt, not, if◌then◌else◌, ⊤}
+use Rattle.std.proofs.Common.{◌≡◌, ℕ, ◌+◌, ◌<◌, ◌≤◌, ◌⊎◌, Bool, true, false, Option, Some, None, List, refl, sym, subst, ap, ◌∙◌, arith}
+use Rattle.std.specs.Prelude.{◌%◌, ◌==◌, ◌&&◌, Result, Ok, Err, nat_eq, nat_le, nat_lt, not, if◌then◌else◌, ⊤}
 use Rattle.std.proofs.lemmas.Bool.{and_parts, eqb-true, leb-false, leb-true}
 use Rattle.ldc_link.specs.declared.phase.Role.{Role}
 use Rattle.ldc_link.specs.declared.phase.Role.TheVariants.{Initiator, Responder}
@@ -13,11 +13,10 @@ use Rattle.ldc_packet.specs.Spelling.{env_at, seqid_at, subtype_code}
 use Rattle.ldc_queue.specs.declared.end.End.{End}
 use Rattle.ldc_queue.specs.Fragments.{fragment_at, is_part}
 use Rattle.ldc_queue.specs.Numbered.{is_numbered}
-use Rattle.ldc_queue.specs.Transcript.{Turn}
+use Rattle.ldc_queue.specs.Transcript.{Utterance}
 use Rattle.dring.specs.Slots.{range_length}
 use Rattle.runs.specs.Lawful.{Lawful, log_of}
 use Rattle.runs.specs.Run.{Run}
-use Rattle.vio_bytes.specs.Place.{number_at}
 use Rattle.vio_tag.proofs.Deciding.{some_result}
 use Rattle.vio_tag.specs.declared.cause.Cause.{Cause}
 use Rattle.vio_tag.specs.declared.cause.Cause.TheVariants as the_cause
@@ -28,7 +27,7 @@ use Rattle.vio_tag.specs.declared.message.TagFault.{TagFault}
 use Rattle.vio_tag.specs.Decoding.{Decodes}
 use Rattle.vio_tag.specs.Form.{HasForm}
 use Rattle.vio_tag.specs.Spelling.{SpellsBody, SpellsMessage, envelope_code}
-use Rattle.channel_model.specs.Messages.{end_of, ended_by, is_range, range_if, range_in, subtype_of}
+use Rattle.channel_model.specs.Messages.{end_of, ended_by, is_range, range_if, range_in}
 use Rattle.channel_model.specs.Ranges.{is_other, wrapped}
 use Rattle.channel_model.specs.Sayings.{count_heard, half_heard}
 use Rattle.channel_model.specs.TranscriptLog.{TranscriptLog, transcript_of}
@@ -42,21 +41,20 @@ use Rattle.port_model.proofs.Refuting.{none_some, true_false}
 use Rattle.port_model.proofs.Ruling.{says_of}
 use Rattle.port_model.proofs.SlotsLooked.{first_in_order}
 use Rattle.port_model.specs.EndLog.{SessionLog, range_of}
-use Rattle.port_model.specs.FrameLaws.{Asks, AsksAt, InSession, IsActive, NamesUndone, SomeMessage, UndoneAt, ended_in}
+use Rattle.port_model.specs.FrameLaws.{Asks, AsksAt, InSession, IsActive, NamesUndone, SomeMessage, UndoneAt}
 use Rattle.port_model.specs.NetEndRule.{NetRule, Takes, port_rule}
 use Rattle.port_model.specs.NetEndState.{NetEndState, NetSession}
 use Rattle.port_model.specs.NetEndStep.{NetFails, Reset, Took}
-use Rattle.port_model.specs.NetEndTaking.{GoesOn, first_undone, slot_state}
+use Rattle.port_model.specs.NetEndTaking.{GoesOn, first_undone}
 use Rattle.port_model.specs.NetEvent.{NetEvent, Steps}
 use Rattle.port_model.specs.NetLaneState.{IsNetShape, NetLaneState, NetShape, memory_of, net_end, reach_of, role_at, seen_at}
 use Rattle.port_model.specs.Offers.{port_offer}
 use Rattle.port_model.specs.NetLaneStep.{NetLaneStep}
 use Rattle.port_model.specs.PortLog.{PortLog, after, log_of_end, no_events}
-use Rattle.port_model.specs.PortState.{OnLane, PortEvent, PortState, PortStep, Receives, before, fresh_port}
+use Rattle.port_model.specs.PortState.{OnLane, PortEvent, PortState, PortStep, before, fresh_port}
 use Rattle.port_model.specs.RuleFacts.{IfOpen, MayListen}
 use Rattle.port_model.specs.SlotsLooked.{FirstUndone}
 use Rattle.port_model.specs.Spoken.{RangeInfo, spoken, spoken_by}
-use Rattle.port_laws.specs.Counted.{ActiveCounts}
 use Rattle.port_laws.specs.NetCore.{fresh_net_core, lane_core}
 use Rattle.port_laws.specs.PortCauses.{ack_cause, info_cause, own_cause, port_cause, session_cause}
 use Rattle.port_laws.specs.PortCore.{port_events}
@@ -69,7 +67,7 @@ use Rattle.port_laws.proofs.LaneMoves.{event_core_step}
 use Rattle.port_laws.proofs.PortCauses.{fails_with, take_cause}
 use Rattle.port_laws.proofs.PortResets.{opened_is}
 use Rattle.port_laws.proofs.PortCounts.{Ready, port_counts, queue_of, ready_before}
-use Rattle.port_laws.proofs.PortRuns.{before_core, before_fits, fresh_port_core, lawful_along, port_fits_behind, spoken_behind}
+use Rattle.port_laws.proofs.PortRuns.{by_option, before_core, before_fits, fresh_port_core, lawful_on_lane, port_fits_behind, spoken_behind}
 use Rattle.port_laws.proofs.RuleFrames.{both_open, end_acts, end_counted, if_range, if_session}
 use Rattle.port_laws.proofs.RuleRest.{own_reset_event}
 use Rattle.port_laws.proofs.StepCounts.{peer_slots_known}
@@ -93,7 +91,7 @@ past_fault : (fault : Option PacketFault) (rest answer : Option Cause) → IsLat
 past_fault None rest answer late is = is
 past_fault (Some fault) rest answer late is = absurd (subst IsLate (sym is) late)
 
-past_packet : (own : Message → Option Cause) (sid : ℕ) (turns : List Turn) (packet : List ℕ) (answer : Option Cause) → IsLate answer → packet_cause own sid turns packet ≡ answer
+past_packet : (own : Message → Option Cause) (sid : ℕ) (turns : List Utterance) (packet : List ℕ) (answer : Option Cause) → IsLate answer → packet_cause own sid turns packet ≡ answer
     → message_cause own sid (ended_by (half_heard turns) packet) ≡ answer
 past_packet own sid turns packet answer late is =
     let rest : Option Cause = message_cause own sid (ended_by (half_heard turns) packet) in
@@ -166,11 +164,9 @@ listens shape e u l packet p v ready rule session log =
     let here : OpenCounts (role_at e) shape.slots s.groups (log_of_end e l).published (log_of_end e l).gone None s.link.begun p (log_of_end e l).session =
     open_empty (role_at e) shape.slots (queue_of e u) s (log_of_end e l) p (end_counted shape e u l ready) session empty in
     let may : MayListen p = subst (λ (x : Option NetSession). IfOpen x MayListen) session says.2 in
-    let quiet : ActiveCounts shape.slots here.of_log None = subst (ActiveCounts shape.slots here.of_log) may.1 here.counts.peer.active in
-    subst (Listens shape.slots p) (same_log (log_of_end e l).session here.of_log v here.is log)
-    (record { seq = here.counts.peer.seq; place = here.counts.peer.place; rests = quiet.0; seen = here.counts.ring.seen; all = here.counts.ring.here })
+    grind (arith, same_log)
 
-asks_here : (role : Role) (s : NetEndState) (p : NetSession) (memory : List ℕ) (sid slots : ℕ) (turns : List Turn) (packet message : List ℕ) (v : SessionLog) → s.handshake.draft.peer_slots ≡ slots → Listens slots p v
+asks_here : (role : Role) (s : NetEndState) (p : NetSession) (memory : List ℕ) (sid slots : ℕ) (turns : List Utterance) (packet message : List ℕ) (v : SessionLog) → s.handshake.draft.peer_slots ≡ slots → Listens slots p v
     → packet_cause (own_cause role s p memory) sid turns packet ≡ None → ended_by (half_heard turns) packet ≡ Some message → spoken message ≡ RangeInfo → Asks slots v message
 asks_here role s p memory sid slots turns packet message v peer listening none ended kind =
     let own : Message → Option Cause = own_cause role s p memory in
@@ -178,11 +174,7 @@ asks_here role s p memory sid slots turns packet message v peer listening none e
     let m : Message = judged.message in
     let info = info_body m.subtype m.body judged.form (sym (spoken_same message m judged.spells) ∙ kind) in
     let fields : SpellsBody message (DringData info.seq info.ident info.start info.end info.state) = subst (SpellsBody message) info.body judged.spells.body in
-    let causes : info_cause s p info.seq info.ident info.start info.end ≡ None =
-    sym (session_info role s p memory info.seq info.ident info.start info.end info.state)
-    ∙ sym (ap (λ (x : Subtype). session_cause role s p memory x (DringData info.seq info.ident info.start info.end info.state)) info.subtype)
-    ∙ sym (ap (session_cause role s p memory m.subtype) info.body)
-    ∙ subst (λ (b : MsgBody). body_cause own m b ≡ None) info.body judged.body in
+    let causes : info_cause s p info.seq info.ident info.start info.end ≡ None = grind (arith, session_info) in
     let one = past_if (is_other s.handshake.draft.ident_peer info.ident) (the_cause.Ident s.handshake.draft.ident_peer info.ident) _ None (λ no. no) tt causes in
     let two = past_if (is_other p.seq info.seq) (the_cause.Seq p.seq info.seq) _ None (λ no. no) tt one.1 in
     let three = past_if (is_other p.place info.start) (the_cause.Slot p.place info.start) _ None (λ no. no) tt two.1 in
@@ -231,7 +223,7 @@ session_undone Initiator s p memory Nack (Mcast set count addresses) slot state 
     told_undone p.telling (Some the_cause.Refused) (Some the_cause.Order) slot state (λ never. absurd (cc never)) (λ never. absurd (cc never)) is
 session_undone role s p memory _ _ slot state is = absurd (cc is)
 
-undone_here : (role : Role) (s : NetEndState) (p : NetSession) (memory : List ℕ) (sid slots : ℕ) (turns : List Turn) (packet : List ℕ) (v : SessionLog) (slot state : ℕ) → s.slots ≡ slots → Listens slots p v
+undone_here : (role : Role) (s : NetEndState) (p : NetSession) (memory : List ℕ) (sid slots : ℕ) (turns : List Utterance) (packet : List ℕ) (v : SessionLog) (slot state : ℕ) → s.slots ≡ slots → Listens slots p v
     → packet_cause (own_cause role s p memory) sid turns packet ≡ Some (the_cause.NotDone slot state)
     → SomeMessage (range_in 2 (ended_by (half_heard turns) packet)) (NamesUndone slots slot state v)
 undone_here role s p memory sid slots turns packet v slot state same listening is =
@@ -261,19 +253,7 @@ undone_here role s p memory sid slots turns packet v slot state same listening i
         let undone : FirstUndone s.slots memory p.seen count (the_cause.NotDone slot state) = first_in_order s.slots memory p.seen count (the_cause.NotDone slot state) three.1 in
         let range : range_of slots message ≡ count =
         ap (λ (n : ℕ). range_length slots n (end_of message)) (sym fields.2) ∙ ap (λ (n : ℕ). range_length slots ack.start n) (sym fields.3) ∙ ap (λ (n : ℕ). range_length n ack.start ack.end) (sym same) in
-        let slot_at : slot ≡ (p.seen + undone.turn) % s.slots = cc undone.cause_is in
-        let state_at : state ≡ slot_state ((p.seen + undone.turn) % s.slots) memory = cc undone.cause_is in
-        let envelope : (number_at 2 2 message == 0x0042) ≡ true = ap (λ (n : ℕ). n == 0x0042) (judged.spells.envelope ∙ ap envelope_code ack.body) in
-        let kind : (subtype_of message == 2) ≡ true = ap (λ (n : ℕ). n == 2) (judged.spells.subtype ∙ ap subtype_code ack.is_ack) in
-        with_range message (is_range 2 message) refl (ap (λ (b : Bool). b && (subtype_of message == 2)) envelope ∙ kind)
-        (record {
-          begins = sym fields.2 ∙ sym (not_other (p.seen % s.slots) ack.start two.0) ∙ ap (λ (n : ℕ). p.seen % n) same ∙ ap (λ (n : ℕ). n % slots) (sym listening.seen);
-          within = omega (arith, range, within, listening.seen, listening.all);
-          turn = undone.turn;
-          named = subst (λ (n : ℕ). undone.turn < n) (sym range) undone.named;
-          slot_is = slot_at ∙ ap (λ (n : ℕ). (p.seen + undone.turn) % n) same ∙ ap (λ (n : ℕ). (n + undone.turn) % slots) (sym listening.seen);
-          state_is = λ four. undone.undone (sym state_at ∙ four);
-        })
+        grind (arith, with_range, not_other)
 
 -- a reset that carries a packet is one of what the end takes; without a session no slot is looked at
 takes_rule : (role : Role) (rule : NetRule) (s : NetEndState) (memory : List ℕ) (reach : Reach) (cause : Cause) (packet : List ℕ) → NetFails role rule s memory reach cause (Some packet) → rule ≡ Takes packet
@@ -282,12 +262,10 @@ takes_rule role rule s memory reach cause packet fails = grind arith
 never_shut : {X : Type 0} (shape : NetShape) (is : IsNetShape shape) (moves : List CoreEvent) (u t : NetLaneState) (run : Run CoreStep (fresh_net_core shape) moves (lane_core u)) (fits : BothFit u) (e : End)
     (slot state : ℕ) (packet : List ℕ) (lost : ℕ) → (net_end e u).session ≡ None → NetLaneStep u (Steps e (Reset (the_cause.NotDone slot state) (Some packet) lost)) t → X
 never_shut {X} shape is moves u t run fits e slot state packet lost none step =
+    let by_why : ResetsFor (core_of e (lane_core u)) (transcript_of e (transcript_behind moves)) (the_cause.NotDone slot state) (Some packet) → X = λ given.
+    grind (arith, opened_is) in
     by_why (reset_says shape.entries (port_offer Initiator shape.address shape.slots) (port_offer Responder shape.address shape.slots) moves (lane_core u) e (the_cause.NotDone slot state) (Some packet) lost (lane_core t)
     (sizes_fit shape is) run refl (event_core_step u (Steps e (Reset (the_cause.NotDone slot state) (Some packet) lost)) t fits step))
-  where
-    by_why : ResetsFor (core_of e (lane_core u)) (transcript_of e (transcript_behind moves)) (the_cause.NotDone slot state) (Some packet) → X
-    by_why (inl why) = absurd why.carried
-    by_why (inr own) = let never : true ≡ false = sym own.opened ∙ opened_is e u ∙ ap (λ (o : Option NetSession). is_some o) none in absurd (cc never)
 
 -- AN EVENT
 module _ (shape : NetShape) (is : IsNetShape shape) (events : List PortEvent) (s : PortState) (event : NetEvent) (run : Run PortStep (fresh_port shape) events s) where
@@ -327,11 +305,9 @@ asks_event shape is events s (Steps e (Took packet opens)) t run step =
 asks_event shape is events s _ t run step = tt
 
 pub port_asks : (shape : NetShape) (events : List PortEvent) (s : PortState) → IsNetShape shape → Run PortStep (fresh_port shape) events s → Lawful AsksAt after (no_events shape) events
-port_asks shape events s is run = lawful_along shape AsksAt here events s run
-  where
-    here : (events : List PortEvent) (s : PortState) (event : PortEvent) (t : PortState) → Run PortStep (fresh_port shape) events s → PortStep s event t → AsksAt (log_of after (no_events shape) events) event
-    here events s (OnLane event) t run step = asks_event shape is events s event t.lane run step.1
-    here events s (Receives frame) t run step = tt
+port_asks shape events s is run =
+    lawful_on_lane shape AsksAt (λ l frame. tt)
+    (λ xs x event y ran step. asks_event shape is xs x event y.lane ran step.1) events s run
 
 -- a reset for a slot that isn't DONE
 in_never : {X : Type 0} (log : Option SessionLog) (P : SessionLog → Type 0) → InSession log (λ (v : SessionLog). ⊥ × P v) → X
@@ -345,31 +321,22 @@ module _ (shape : NetShape) (is : IsNetShape shape) (events : List PortEvent) (s
   log = log_of after (no_events shape) events
 
   with_packet : (bytes : List ℕ) → NetLaneStep (before (for_slot (Some bytes)) s).lane (for_slot (Some bytes)) t → UndoneAt log (OnLane (for_slot (Some bytes)))
-  with_packet bytes step = by_session own.session refl
-    where
-      w : PortState
-      w = before (for_slot (Some bytes)) s
-
-      own : NetEndState
-      own = net_end e w.lane
-
-      known : Ready shape w log
-      known = ready shape is events s (for_slot (Some bytes)) run
-
-      by_session : (session : Option NetSession) → own.session ≡ session → UndoneAt log (OnLane (for_slot (Some bytes)))
-      by_session None none = never_shut shape is (port_events events) w.lane t (moves_run shape is events s (for_slot (Some bytes)) run)
-          (before_fits (for_slot (Some bytes)) s (port_fits_behind shape events s run)) e slot state bytes lost none step
-      by_session (Some p) some =
-          let here = open_counts (role_at e) shape.slots (queue_of e w) own (log_of_end e log) p (end_counted shape e w log known) some in
-          let v : SessionLog = here.of_log in
-          let cause = cause_here shape is events s (for_slot (Some bytes)) run e p bytes (Some (the_cause.NotDone slot state))
-          (fails_with shape (port_events events) w.lane is (moves_run shape is events s (for_slot (Some bytes)) run) e p (the_cause.NotDone slot state) bytes some step.step.0) in
-          let rule : port_rule (role_at e) own (seen_at e w.lane) ≡ Takes bytes = takes_rule (role_at e) (port_rule (role_at e) own (seen_at e w.lane)) own (memory_of e w.lane) (reach_of e w.lane) (the_cause.NotDone slot state) bytes step.step.0 in
-          subst (λ (o : Option SessionLog). InSession o (λ (x : SessionLog). SomeMessage (range_in 2 (ended_in (half_heard (transcript_of e log.transcript)) (Some bytes))) (NamesUndone log.shape.slots slot state x)))
-          (sym here.is)
-          (subst (λ (x : NetShape). SomeMessage (range_in 2 (ended_by (half_heard (transcript_of e log.transcript)) bytes)) (NamesUndone x.slots slot state v)) (sym known.shape_is)
-          (undone_here (role_at e) own p (memory_of e w.lane) own.handshake.draft.sid shape.slots (transcript_of e log.transcript) bytes v slot state
-          (end_counted shape e w log known).slots_is (listens shape e w log bytes p v known rule some here.is) cause))
+  with_packet bytes step =
+      let w : PortState = before (for_slot (Some bytes)) s in
+      let own : NetEndState = net_end e w.lane in
+      let known : Ready shape w log = ready shape is events s (for_slot (Some bytes)) run in
+      by_option own.session
+      (λ p some.
+      let here = open_counts (role_at e) shape.slots (queue_of e w) own (log_of_end e log) p (end_counted shape e w log known) some in
+      let v : SessionLog = here.of_log in
+      let cause = cause_here shape is events s (for_slot (Some bytes)) run e p bytes (Some (the_cause.NotDone slot state))
+      (fails_with shape (port_events events) w.lane is (moves_run shape is events s (for_slot (Some bytes)) run) e p (the_cause.NotDone slot state) bytes some step.step.0) in
+      let rule : port_rule (role_at e) own (seen_at e w.lane) ≡ Takes bytes = takes_rule (role_at e) (port_rule (role_at e) own (seen_at e w.lane)) own (memory_of e w.lane) (reach_of e w.lane) (the_cause.NotDone slot state) bytes step.step.0 in
+      rw (here.is, known.shape_is) (undone_here (role_at e) own p (memory_of e w.lane) own.handshake.draft.sid
+      shape.slots (transcript_of e log.transcript) bytes v slot state (end_counted shape e w log known).slots_is
+      (listens shape e w log bytes p v known rule some here.is) cause))
+      (λ none. never_shut shape is (port_events events) w.lane t (moves_run shape is events s (for_slot (Some bytes)) run)
+      (before_fits (for_slot (Some bytes)) s (port_fits_behind shape events s run)) e slot state bytes lost none step)
 
   undone_by : (packet : Option (List ℕ)) → NetLaneStep (before (for_slot packet) s).lane (for_slot packet) t → UndoneAt log (OnLane (for_slot packet))
   undone_by None step =
@@ -382,8 +349,6 @@ undone_event : (shape : NetShape) (is : IsNetShape shape) (events : List PortEve
 undone_event shape is events s event t run step = grind (arith, undone_by)
 
 pub port_undone : (shape : NetShape) (events : List PortEvent) (s : PortState) → IsNetShape shape → Run PortStep (fresh_port shape) events s → Lawful UndoneAt after (no_events shape) events
-port_undone shape events s is run = lawful_along shape UndoneAt here events s run
-  where
-    here : (events : List PortEvent) (s : PortState) (event : PortEvent) (t : PortState) → Run PortStep (fresh_port shape) events s → PortStep s event t → UndoneAt (log_of after (no_events shape) events) event
-    here events s (OnLane event) t run step = undone_event shape is events s event t.lane run step.1
-    here events s (Receives frame) t run step = tt
+port_undone shape events s is run =
+    lawful_on_lane shape UndoneAt (λ l frame. tt)
+    (λ xs x event y ran step. undone_event shape is xs x event y.lane ran step.1) events s run

@@ -9,7 +9,7 @@ use Rattle.ldc_link.specs.declared.phase.Role.{Role}
 use Rattle.ldc_link.specs.declared.phase.Role.TheVariants.{Initiator}
 use Rattle.ldc_queue.specs.declared.end.End.{End}
 use Rattle.ldc_queue.specs.declared.end.End.TheVariants.{A}
-use Rattle.ldc_queue.specs.Transcript.{Turn}
+use Rattle.ldc_queue.specs.Transcript.{Utterance}
 use Rattle.runs.specs.Lawful.{Lawful, log_of}
 use Rattle.runs.specs.Run.{Run}
 use Rattle.channel_model.specs.Messages.{ended_by, is_range, range_if, range_in}
@@ -18,27 +18,27 @@ use Rattle.channel_model.specs.TranscriptLog.{transcript_of}
 use Rattle.port_model.proofs.FramesKept.{step_stands}
 use Rattle.port_model.proofs.Refuting.{none_some}
 use Rattle.port_model.proofs.Ruling.{says_of}
-use Rattle.port_model.specs.EndLog.{EndLog, SessionLog, change, held, heard_in, heard_kind, hears_log, lost_in, opens_log, range_of}
-use Rattle.port_model.specs.FrameLaws.{AcknowledgesAt, Acknowledges, Admits, AdmissionAt, Announces, AnnouncesAt, IfMessage, IfSession, InSession, IsActive, LostAt, MayPublish, PublishedAt, SeesAt, SeesPublished, TakingAt}
+use Rattle.port_model.specs.EndLog.{EndLog, SessionLog, held, hears_log, lost_in, opens_log, range_of}
+use Rattle.port_model.specs.FrameLaws.{AcknowledgesAt, Acknowledges, AdmissionAt, Announces, AnnouncesAt, IfMessage, IfSession, InSession, LostAt, MayPublish, PublishedAt, SeesAt, SeesPublished, TakingAt}
 use Rattle.port_model.specs.FramesStand.{FramesStand}
 use Rattle.port_model.specs.NetEndRule.{Fetches, Publishes, Takes, port_rule}
 use Rattle.port_model.specs.NetEndState.{Activity, NetEndState, NetSession, unseen, unseen_in}
-use Rattle.port_model.specs.NetEndStep.{Frame, Given, Joined, NetGives, Published, Reset, Sent, Took}
+use Rattle.port_model.specs.NetEndStep.{Frame, Joined, Published, Reset, Sent, Took}
 use Rattle.port_model.specs.NetEvent.{Asked, NetEvent, Steps, Ticked}
 use Rattle.port_model.specs.NetLaneState.{IsNetShape, NetLaneState, NetShape, memory_of, net_end, reach_of, role_at, seen_at}
 use Rattle.port_model.specs.NetLaneStep.{NetLaneStep}
 use Rattle.port_model.specs.PortLog.{PortLog, after, log_of_end, no_events}
 use Rattle.port_model.specs.PortState.{OfQueue, OnLane, PortEvent, PortState, PortStep, Receives, before, fresh_port}
-use Rattle.port_model.specs.Spoken.{RangeAck, Spoken, spoken, spoken_by}
+use Rattle.port_model.specs.Spoken.{RangeAck, spoken, spoken_by}
 use Rattle.port_laws.specs.Counted.{ActiveCounts, EndCounts, PeerCounts, SaysRightly, unsaid}
 use Rattle.port_laws.proofs.EndCounting.{OpenCounts, left_published, left_seen, open_counts, shut_counts, open_empty}
 use Rattle.port_laws.proofs.PortCounts.{PortCounts, Ready, guest_acts, hub_acts, port_counts, queue_of, ready_before}
-use Rattle.port_laws.proofs.PortRuns.{lawful_along}
+use Rattle.port_laws.proofs.PortRuns.{lawful_on_lane}
 use Rattle.port_laws.proofs.PutCounts.{SaidRight}
 use Rattle.port_laws.proofs.StepCounts.{Acting, sent_right, took_here}
 use Rattle.port_laws.proofs.TookCounts.{TookCounts, free_empty}
 use Rattle.port_laws.proofs.LaneMoves.{holds_up}
-use Rattle.port_laws.proofs.SlotsFound.{Fits, fetched_fits}
+use Rattle.port_laws.proofs.SlotsFound.{fetched_fits}
 
 -- EITHER END
 pub end_counted : (shape : NetShape) (e : End) (u : PortState) (l : PortLog) → Ready shape u l → EndCounts (role_at e) shape.slots (queue_of e u) (net_end e u.lane) (log_of_end e l)
@@ -105,8 +105,7 @@ if_range k None P holds = tt
 if_range k (Some message) P holds = by_test (is_range k message) refl
   where
     by_test : (b : Bool) → is_range k message ≡ b → IfMessage (range_if b message) P
-    by_test true is = holds message refl (range_test k message is)
-    by_test false is = tt
+    by_test b is = grind (arith, range_test)
 
 pub if_session : (log : Option SessionLog) (P : SessionLog → Type 0) → ((v : SessionLog) → log ≡ Some v → P v) → IfSession log P
 if_session log P holds = grind arith
@@ -140,7 +139,7 @@ acknowledges_event shape u l _ t ready step = tt
 pub seen_within : (role : Role) (slots : ℕ) (queue : List (List ℕ)) (s : NetEndState) (l : EndLog) (v : SessionLog) → EndCounts role slots queue s l → FramesStand s → l.session ≡ Some v → v.seen ≤ v.published
 seen_within role slots queue s l v counts stands log = grind (arith, both_open, left_published, left_seen)
 
-sees_here : (role : Role) (slots : ℕ) (queue : List (List ℕ)) (s t : NetEndState) (l : EndLog) (turns : List Turn) (packet : List ℕ) (opens : Bool) (v : SessionLog) (message : List ℕ)
+sees_here : (role : Role) (slots : ℕ) (queue : List (List ℕ)) (s t : NetEndState) (l : EndLog) (turns : List Utterance) (packet : List ℕ) (opens : Bool) (v : SessionLog) (message : List ℕ)
     → EndCounts role slots queue s l → FramesStand t → TookCounts role slots queue s t l turns packet opens 0 → l.session ≡ Some v → ended_by (half_heard turns) packet ≡ Some message
     → spoken message ≡ RangeAck → SeesPublished slots v message
 sees_here role slots queue s t l turns packet opens v message counts stands took log ended kind =
@@ -149,9 +148,7 @@ sees_here role slots queue s t l turns packet opens v message counts stands took
     let after : EndCounts role slots queue t (hears_log slots (ended_by (half_heard turns) packet) l) =
     subst (λ (b : Bool). EndCounts role slots queue t (opens_log b 0 (hears_log slots (ended_by (half_heard turns) packet) l))) shut took.counts in
     let now : SessionLog = record v { seen = v.seen + range_of slots message; asking = false } in
-    let session : (hears_log slots (ended_by (half_heard turns) packet) l).session ≡ Some now =
-    ap (λ (x : Option SessionLog). change (heard_in slots (ended_by (half_heard turns) packet)) x) log
-    ∙ ap (λ (x : Option (List ℕ)). Some (heard_in slots x v)) ended ∙ ap (λ (k : Spoken). Some (heard_kind slots k message v)) kind in
+    let session : (hears_log slots (ended_by (half_heard turns) packet) l).session ≡ Some now = grind arith in
     seen_within role slots queue t (hears_log slots (ended_by (half_heard turns) packet) l) now after stands session
 
 sees_event : (shape : NetShape) (u : PortState) (l : PortLog) (event : NetEvent) (t : NetLaneState) → Ready shape u l → NetLaneStep u.lane event t → SeesAt l (OnLane event)
@@ -174,11 +171,7 @@ active_here role slots queue s l p activity counts is active empty P holds = gri
 taking_event : (shape : NetShape) (u : PortState) (l : PortLog) (event : NetEvent) (t : NetLaneState) → Ready shape u l → NetLaneStep u.lane event t → TakingAt l (OnLane event)
 taking_event shape u l (Steps e (Frame frame)) t ready step =
     let says = says_of (role_at e) (net_end e u.lane) (seen_at e u.lane) (Fetches step.step.session step.step.activity) step.step.rule in
-    let acting = end_acts shape e u l ready says.0.free.up in (
-      subst Fits step.step.found (fetched_fits (net_end e u.lane) (reach_of e u.lane) step.step.session.place),
-      active_here (role_at e) shape.slots (queue_of e u) (net_end e u.lane) (log_of_end e l) step.step.session step.step.activity acting.counts says.0.session says.1
-          (free_empty (role_at e) (net_end e u.lane) (transcript_of e l.transcript) acting.ends says.0.free.quiet) IsActive (λ v peer busy. busy.0),
-    )
+    grind (arith, fetched_fits, active_here, free_empty)
 taking_event shape u l _ t ready step = tt
 
 -- 1. A FRAME THAT IS SENT
@@ -193,20 +186,14 @@ none_more n = omega arith
 guest_held : (slots : ℕ) (s : NetEndState) (l : EndLog) → EndCounts Initiator slots [] s l → held l ≡ length s.frames
 guest_held slots s l counts = held_frames Initiator slots [] s l counts ∙ none_more (length s.frames)
 
-admits : (shape : NetShape) (u : PortState) (l : PortLog) (given : Given) (t : NetEndState) → Ready shape u l → NetGives u.lane.guest given t → Admits l given
-admits shape u l given t ready gives = grind (arith, guest_held)
-
 -- ALONG EVERY RUN
 pub along : (shape : NetShape) (May : PortLog → PortEvent → Type 0) → IsNetShape shape
     → ((s : PortState) (l : PortLog) (event : NetEvent) (t : PortState) → PortCounts shape s l → Ready shape (before event s) l → PortStep s (OnLane event) t → May l (OnLane event))
     → ((l : PortLog) (frame : List ℕ) → May l (Receives frame)) → (events : List PortEvent) (s : PortState) → Run PortStep (fresh_port shape) events s → Lawful May after (no_events shape) events
-along shape May is law received events s run = lawful_along shape May here events s run
-  where
-    here : (events : List PortEvent) (s : PortState) (event : PortEvent) (t : PortState) → Run PortStep (fresh_port shape) events s → PortStep s event t → May (log_of after (no_events shape) events) event
-    here events s (OnLane event) t run step =
-        let counts = port_counts shape events s is run in
-        law s (log_of after (no_events shape) events) event t counts (ready_before shape s (log_of after (no_events shape) events) event is counts) step
-    here events s (Receives frame) t run step = received (log_of after (no_events shape) events) frame
+along shape May is law received events s run =
+    lawful_on_lane shape May received (λ xs x event y ran step.
+    let counts = port_counts shape xs x is ran in law x _ event y counts (ready_before shape x _ event is counts) step)
+    events s run
 
 pub port_lost : (shape : NetShape) (events : List PortEvent) (s : PortState) → IsNetShape shape → Run PortStep (fresh_port shape) events s → Lawful LostAt after (no_events shape) events
 port_lost shape events s is run = along shape LostAt is (λ x l event t counts ready step. lost_event shape (before event x) l event t.lane ready step.1) (λ l frame. tt) events s run
@@ -228,7 +215,7 @@ pub port_takes : (shape : NetShape) (events : List PortEvent) (s : PortState) �
 port_takes shape events s is run = along shape TakingAt is (λ x l event t counts ready step. taking_event shape (before event x) l event t.lane ready step.1) (λ l frame. tt) events s run
 
 admission_event : (shape : NetShape) (s u : PortState) (l : PortLog) (event : NetEvent) (t : PortState) → Ready shape u l → OfQueue s event → NetLaneStep u.lane event t.lane → AdmissionAt l (OnLane event)
-admission_event shape s u l event t ready of_queue step = grind (arith, admits)
+admission_event shape s u l event t ready of_queue step = grind (arith, guest_held)
 
 pub port_admits : (shape : NetShape) (events : List PortEvent) (s : PortState) → IsNetShape shape → Run PortStep (fresh_port shape) events s → Lawful AdmissionAt after (no_events shape) events
 port_admits shape events s is run = along shape AdmissionAt is (λ x l event t counts ready step. admission_event shape x (before event x) l event t ready step.0 step.1) (λ l frame. tt) events s run

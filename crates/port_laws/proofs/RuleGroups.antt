@@ -18,13 +18,13 @@ use Rattle.port_model.specs.PortState.{OnLane, PortEvent, PortState, PortStep, b
 use Rattle.port_model.specs.Spoken.{Spoken, spoken}
 use Rattle.port_laws.specs.Counted.{EndCounts, SaysRightly}
 use Rattle.port_laws.specs.GroupsTold.{told_in}
-use Rattle.port_laws.proofs.EndCounting.{left_groups, open_counts, shut_counts}
+use Rattle.port_laws.proofs.EndCounting.{open_counts, shut_counts}
 use Rattle.port_laws.proofs.PortCounts.{Ready, port_counts}
 use Rattle.port_laws.proofs.RuleFrames.{along, if_session, sent_said}
 
 -- WHAT THE SWITCH'S END KNOWS
 pub hub_told : (slots : ℕ) (queue : List (List ℕ)) (s : NetEndState) (l : EndLog) → EndCounts Responder slots queue s l → s.groups ≡ told_in l.session
-hub_told slots queue s l counts = grind (arith, shut_counts, open_counts, left_groups)
+hub_told slots queue s l counts = grind (arith, shut_counts, open_counts)
 
 pub port_told : (shape : NetShape) (events : List PortEvent) (s : PortState) → IsNetShape shape → Run PortStep (fresh_port shape) events s
     → s.lane.hub.groups ≡ told_in (log_of after (no_events shape) events).hub.session

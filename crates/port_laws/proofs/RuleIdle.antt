@@ -1,6 +1,6 @@
 -- Where the ends of a port may be idle: nothing waits, and in session nothing is left to do.
-use Rattle.std.proofs.Common.{◌≡◌, ℕ, ◌+◌, ◌-◌, ◌<◌, ◌≤◌, Bool, true, false, ◌⊎◌, inl, inr, Option, Some, None, List, [], length, refl, sym, subst, ap, ◌∙◌, arith, length-append}
-use Rattle.std.specs.Prelude.{◌&&◌, nat_lt, not, slice_get, if◌then◌else◌}
+use Rattle.std.proofs.Common.{◌≡◌, ℕ, ◌+◌, ◌-◌, ◌<◌, ◌≤◌, Bool, true, false, ◌⊎◌, inl, inr, Option, Some, None, List, [], length, refl, subst, ap, arith, length-append}
+use Rattle.std.specs.Prelude.{◌&&◌, nat_lt, not, slice_get}
 use Rattle.std.proofs.lemmas.Bool.{lt-ltb}
 use Rattle.std.proofs.lemmas.Bool.Decides.{nat_tests}
 use Rattle.std.proofs.lemmas.Option.{slice_get_cases}
@@ -19,7 +19,7 @@ use Rattle.port_model.proofs.Ruling.{says_of}
 use Rattle.port_model.specs.EndLog.{EndLog, SessionLog}
 use Rattle.port_model.specs.FrameLaws.{IfSession}
 use Rattle.port_model.specs.FramesStand.{FramesStand}
-use Rattle.port_model.specs.NetEndRule.{Announces, Idles, Tells, port_rule, publishes, tells_first}
+use Rattle.port_model.specs.NetEndRule.{Idles, port_rule, publishes, tells_first}
 use Rattle.port_model.specs.NetEndRule as rule
 use Rattle.port_model.specs.NetEndState.{NetEndState, NetSession, unseen_in}
 use Rattle.port_model.specs.NetEndStep.{Idle}
@@ -43,21 +43,15 @@ pub record NothingLeft (role : Role) (s : NetEndState) (p : NetSession) : Type 0
   pub published : slice_get s.frames (unseen_in p) ≡ None
   pub announced : (nat_lt p.seen p.published && not p.asking) ≡ false
 
-announces_none : (p : NetSession) (b : Bool) → (nat_lt p.seen p.published && not p.asking) ≡ b → (if b then Announces p else Idles) ≡ Idles → (nat_lt p.seen p.published && not p.asking) ≡ false
-announces_none p b is idles = grind arith
-
 record PublishesNone (s : NetEndState) (p : NetSession) : Type 0 where
   published : slice_get s.frames (unseen_in p) ≡ None
   announced : (nat_lt p.seen p.published && not p.asking) ≡ false
 
 publishes_none : (s : NetEndState) (p : NetSession) (frame : Option (List ℕ)) → slice_get s.frames (unseen_in p) ≡ frame → publishes p frame ≡ Idles → PublishesNone s p
-publishes_none s p frame is idles = grind (arith, announces_none)
-
-tells_none : (s : NetEndState) (p : NetSession) (b : Bool) → (p.untold && not p.telling) ≡ b → (if b then Tells p else publishes p (slice_get s.frames (unseen_in p))) ≡ Idles → NothingLeft Initiator s p
-tells_none s p b is idles = grind (arith, publishes_none)
+publishes_none s p frame is idles = grind arith
 
 time_none : (role : Role) (s : NetEndState) (p : NetSession) → tells_first role p (publishes p (slice_get s.frames (unseen_in p))) ≡ Idles → NothingLeft role s p
-time_none role s p idles = grind (arith, tells_none, publishes_none)
+time_none role s p idles = grind (arith, publishes_none)
 
 pub rule_left : (role : Role) (s : NetEndState) (at : Seen) (p : NetSession) → IsFree s at → at.first ≡ None → s.session ≡ Some p → MayListen p → port_rule role s at ≡ Idles → NothingLeft role s p
 rule_left role s at p free first session listens idles = grind (arith, time_none)
@@ -65,9 +59,6 @@ rule_left role s at p free first session listens idles = grind (arith, time_none
 -- AN IDLE END in session
 pub past_end : (frames : List (List ℕ)) (i : ℕ) → slice_get frames i ≡ None → length frames ≤ i
 past_end frames i none = grind (arith, slice_get_cases, none_some)
-
-asks_if : (less asking : Bool) → less ≡ true → (less && not asking) ≡ false → asking ≡ true
-asks_if less asking less_2 none = grind (arith, true_false, false_true)
 
 idle_told : (b : Bool) (p : NetSession) (groups members : List (List ℕ)) (l : PortLog) (v : SessionLog) → p.untold ≡ b → (p.untold && not p.telling) ≡ false → GroupCounts p groups v → groups ≡ members → l.members ≡ members
     → IsTold l v v.membership
@@ -82,7 +73,8 @@ pub record IdleCounts (role : Role) (slots : ℕ) (queue : List (List ℕ)) (s :
 
 pub idle_counts : (role : Role) (slots : ℕ) (queue : List (List ℕ)) (s : NetEndState) (l : EndLog) (v : SessionLog) (p : NetSession) → EndCounts role slots queue s l → FramesStand s → s.session ≡ Some p → l.session ≡ Some v
     → s.link.to_send ≡ [] → MayListen p → NothingLeft role s p → IdleCounts role slots queue s l v
-idle_counts role slots queue s l v p counts stands session log empty listens left = grind (arith, open_empty, past_end, asks_if, lt-ltb)
+idle_counts role slots queue s l v p counts stands session log empty listens left =
+    grind (arith, open_empty, past_end, true_false, false_true, lt-ltb)
 
 -- THE GUEST'S END
 guest_idle : (shape : NetShape) (u : PortState) (l : PortLog) → Ready shape u l → port_rule Initiator u.lane.guest (seen_at A u.lane) ≡ Idles → IfSession l.guest.session (IsIdle A l)
@@ -98,14 +90,12 @@ guest_idle shape u l ready idles =
     let here : OpenCounts Initiator shape.slots u.lane.guest.groups l.guest.published l.guest.gone None u.lane.guest.link.begun both.p l.guest.session =
     subst (λ (x : Option (List ℕ)). OpenCounts Initiator shape.slots u.lane.guest.groups l.guest.published l.guest.gone x u.lane.guest.link.begun both.p l.guest.session)
     (empty_unsaid u.lane.guest empty) (open_counts Initiator shape.slots [] u.lane.guest l.guest both.p ready.guest both.is) in
-    let same : here.of_log ≡ v = (let two : Some here.of_log ≡ Some v = sym here.is ∙ log in cc) in
     let all : l.guest.published + 0 ≡ length l.guest.given = counts.all in
     record {
       answered = counts.answered;
       published = omega (arith, all);
       announced = counts.announced;
-      told = subst (λ (x : SessionLog). IsTold l x x.membership) same
-          (idle_told both.p.untold both.p u.lane.guest.groups l.members l here.of_log refl (left.told refl) here.counts.guest ready.members refl);
+      told = grind (arith, idle_told);
       replied = counts.replied;
     })
 

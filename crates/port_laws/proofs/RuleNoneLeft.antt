@@ -8,12 +8,10 @@ use Rattle.ldc_queue.specs.declared.end.ChannelState.{ChannelState}
 use Rattle.ldc_queue.specs.declared.end.ChannelState.TheVariants.{Up}
 use Rattle.ldc_queue.specs.declared.end.End.{End}
 use Rattle.ldc_queue.specs.declared.end.End.TheVariants.{A, B}
-use Rattle.ldc_queue.specs.Fragments.{fragments_in}
-use Rattle.ldc_queue.specs.Messages.{whole_in}
 use Rattle.ldc_queue.specs.Numbered.{numbered}
 use Rattle.ldc_queue.specs.OneStream.{OneWay, live}
 use Rattle.ldc_queue.specs.Transcript.{numbered_heard, numbered_said}
-use Rattle.runs.specs.Lawful.{Lawful, log_of}
+use Rattle.runs.specs.Lawful.{Lawful}
 use Rattle.runs.specs.Run.{Run}
 use Rattle.channel_model.proofs.SameSayings.{heard_is, said_is}
 use Rattle.channel_model.specs.Sayings.{heard, said}
@@ -26,7 +24,6 @@ use Rattle.port_model.proofs.Moving.{before_keeps}
 use Rattle.port_model.proofs.Refuting.{true_false}
 use Rattle.port_model.proofs.Ruling.{says_of}
 use Rattle.port_model.specs.EndLog.{SessionLog}
-use Rattle.port_model.specs.FrameLaws.{InSession}
 use Rattle.port_model.specs.NetEndRule.{Idles, port_rule}
 use Rattle.port_model.specs.NetEndState.{NetEndState, NetSession}
 use Rattle.port_model.specs.NetEndStep.{Idle}
@@ -34,37 +31,32 @@ use Rattle.port_model.specs.NetEvent.{CalmTick, NetEvent, Steps}
 use Rattle.port_model.specs.NetLaneState.{IsNetShape, NetShape, net_end, role_at, seen_at}
 use Rattle.port_model.specs.NetLaneStep.{NetLaneStep}
 use Rattle.port_model.specs.PortLog.{PortLog, after, log_of_end, no_events}
-use Rattle.port_model.specs.PortState.{OnLane, PortEvent, PortState, PortStep, Receives, before, fresh_port}
+use Rattle.port_model.specs.PortState.{OnLane, PortEvent, PortState, PortStep, before, fresh_port}
 use Rattle.port_model.specs.RestLaws.{TwoIdleAt}
 use Rattle.port_model.specs.RuleFacts.{IfOpen, MayListen}
 use Rattle.port_laws.specs.NetCore.{lane_core}
-use Rattle.port_laws.specs.NoneLeft.{AllSeen, NoneLeft, NoneLeftAt}
-use Rattle.port_laws.specs.WaysStand.{Way, WaysStand, acks_in, infos_in, or_new}
+use Rattle.port_laws.specs.NoneLeft.{NoneLeft, NoneLeftAt}
+use Rattle.port_laws.specs.WaysStand.{Way, WaysStand, acks_in, infos_in}
 use Rattle.port_laws.proofs.PortCounts.{before_guest, before_wire, queue_of, ready_before}
-use Rattle.port_laws.proofs.PortRuns.{lawful_along}
+use Rattle.port_laws.proofs.PortRuns.{lawful_on_lane}
 use Rattle.port_laws.proofs.RingActs.{Finds}
 use Rattle.port_laws.proofs.RingRuns.{finds_before}
-use Rattle.port_laws.proofs.RuleFrames.{both_open, end_acts, end_counted, end_stood, held_frames, seen_within}
+use Rattle.port_laws.proofs.RuleFrames.{both_open, end_acts, end_counted, end_stood, seen_within}
 use Rattle.port_laws.proofs.RuleIdle.{idle_counts, rule_left}
-use Rattle.port_laws.proofs.RuleRest.{up_state}
 use Rattle.port_laws.proofs.RuleTwoIdle.{IdlesKept, idles_kept, two_idle_event}
 use Rattle.port_laws.proofs.TookCounts.{free_empty}
 use Rattle.port_laws.proofs.WayRuns.{KeptWays, port_ways, ways_before}
+use Rattle.channel_laws.proofs.NextPacket.{none_of}
+use Rattle.channel_laws.proofs.LinkPlaced.{up_live}
+use Rattle.port_laws.proofs.LaneMoves.{up_of}
 
 -- WHAT WAS SAID WAS HEARD where nothing was lost and nothing waits
-no_packets : (packets : List (List ℕ)) → length packets ≤ 0 → packets ≡ []
-no_packets [] few = refl
-no_packets (packet ∷ packets) few = absurd (omega (arith, few))
-
 pub no_first : (packets : List (List ℕ)) → slice_get packets 0 ≡ None → packets ≡ []
 no_first [] is = refl
 no_first (packet ∷ packets) is = absurd (cc is)
 
-live_up : (state : ChannelState) (packets : List (List ℕ)) → state ≡ Up → live state packets ≡ packets
-live_up state packets is = ap (λ (x : ChannelState). live x packets) is
-
 one_way : (x y : ChannelState) (put took waiting : List (List ℕ)) (lost : ℕ) → OneWay (live x put) (live y took) (numbered waiting) lost → lost ≡ 0 → waiting ≡ [] → x ≡ Up → y ≡ Up → put ≡ took
-one_way x y put took waiting lost way whole none up other = grind (arith, no_packets, live_up, append-nil)
+one_way x y put took waiting lost way whole none up other = grind (arith, none_of, up_live, append-nil)
 
 pub record HeardAll (s : Sides) : Type 0 where
   pub mine : said s.mine.turns ≡ heard s.theirs.turns
@@ -77,10 +69,7 @@ heard_all s c whole up other none other_none =
     one_way s.mine.state s.theirs.state (numbered_said s.mine.turns) (numbered_heard s.theirs.turns) s.theirs.waiting c.lost_theirs c.stream.to_b lost.1 other_none up other in
     let answered : numbered_said s.theirs.turns ≡ numbered_heard s.mine.turns =
     one_way s.theirs.state s.mine.state (numbered_said s.theirs.turns) (numbered_heard s.mine.turns) s.mine.waiting c.lost_mine c.stream.to_a lost.0 none other up in
-    record {
-      mine = said_is s.mine.turns ∙ ap (λ (xs : List (List ℕ)). whole_in [] (fragments_in xs)) asked ∙ sym (heard_is s.theirs.turns);
-      theirs = said_is s.theirs.turns ∙ ap (λ (xs : List (List ℕ)). whole_in [] (fragments_in xs)) answered ∙ sym (heard_is s.mine.turns);
-    }
+    grind (arith, said_is, heard_is)
 
 nothing_goes : (told taken going : List (List ℕ)) → told ≡ taken ++ going → told ≡ taken → going ≡ []
 nothing_goes told taken going is same = append_cancel_left taken going [] (sym is ∙ same ∙ sym (append-nil taken))
@@ -124,8 +113,8 @@ both_left : (shape : NetShape) (u : PortState) (l : PortLog) → Finds shape u l
 both_left shape u l finds ways guest_idles hub_idles lossless opened =
     let guest_says = says_of Initiator u.lane.guest (seen_at A u.lane) Idles guest_idles in
     let hub_says = says_of Responder u.lane.hub (seen_at B u.lane) Idles hub_idles in
-    let up : u.lane.wire.wire.end_a ≡ Up = up_state u.lane.wire.wire.end_a guest_says.0.up in
-    let other : u.lane.wire.wire.end_b ≡ Up = up_state u.lane.wire.wire.end_b hub_says.0.up in
+    let up : u.lane.wire.wire.end_a ≡ Up = up_of u.lane.wire.wire.end_a guest_says.0.up in
+    let other : u.lane.wire.wire.end_b ≡ Up = up_of u.lane.wire.wire.end_b hub_says.0.up in
     let whole : u.lane.wire.lossy ≡ false = ap (λ (w : WireLog). w.lossy) finds.ready.wire ∙ lossless in
     let two_ends = finds.two_ends.two_ends A in
     let all = heard_all (sides_of (lane_core u.lane) l.transcript) two_ends.meets.converse whole up other (no_first u.lane.wire.wire.to_a guest_says.1) (no_first u.lane.wire.wire.to_b hub_says.1) in
@@ -137,22 +126,14 @@ both_left shape u l finds ways guest_idles hub_idles lossless opened =
     let guest_end = idle_end shape A u l guest.0 finds guest_idles guest.1 in
     let hub_end = idle_end shape B u l hub.0 finds hub_idles hub.1 in
     let mine : Way l.shape.slots guest.0 hub.0 (infos_in between.going) (acks_in between.coming) =
-    subst (λ (o : Option SessionLog). Way l.shape.slots guest.0 (or_new o) (infos_in between.going) (acks_in between.coming)) hub.1
-    (subst (λ (o : Option SessionLog). Way l.shape.slots (or_new o) (or_new l.hub.session) (infos_in between.going) (acks_in between.coming)) guest.1 between.mine) in
+    rw hub.1 at (rw guest.1 at between.mine) in
     let theirs : Way l.shape.slots hub.0 guest.0 (infos_in between.coming) (acks_in between.going) =
-    subst (λ (o : Option SessionLog). Way l.shape.slots hub.0 (or_new o) (infos_in between.coming) (acks_in between.going)) guest.1
-    (subst (λ (o : Option SessionLog). Way l.shape.slots (or_new o) (or_new l.guest.session) (infos_in between.coming) (acks_in between.going)) hub.1 between.theirs) in
+    rw guest.1 at (rw hub.1 at between.theirs) in
     let guest_seen : guest.0.seen ≡ guest.0.published =
     rests_seen l.shape.slots guest.0 hub.0 (infos_in between.going) (acks_in between.coming) (ap infos_in going) (ap acks_in coming) hub_end.answered guest_end.announced guest_end.within mine in
     let hub_seen : hub.0.seen ≡ hub.0.published =
     rests_seen l.shape.slots hub.0 guest.0 (infos_in between.coming) (acks_in between.going) (ap infos_in coming) (ap acks_in going) guest_end.answered hub_end.announced hub_end.within theirs in
-    let unseen = guest_end.unseen in
-    let frames = held_frames Initiator shape.slots [] u.lane.guest l.guest finds.ready.guest in
-    record {
-      guest = subst (λ (o : Option SessionLog). InSession o AllSeen) (sym guest.1) guest_seen;
-      hub = subst (λ (o : Option SessionLog). InSession o AllSeen) (sym hub.1) hub_seen;
-      none = omega (arith, frames, unseen, guest_seen);
-    }
+    grind arith
 
 -- AN EVENT
 pub before_entries : (event : NetEvent) (s : PortState) → (before event s).lane.shape.entries ≡ s.lane.shape.entries
@@ -175,13 +156,9 @@ left_event shape s l (Steps B Idle) t is had kept opened step = λ last clean wh
 left_event shape s l _ t is had kept opened step = tt
 
 pub port_none_left : (shape : NetShape) (events : List PortEvent) (s : PortState) → IsNetShape shape → Run PortStep (fresh_port shape) events s → Lawful NoneLeftAt after (no_events shape) events
-port_none_left shape events s is run = lawful_along shape NoneLeftAt here events s run
-  where
-    here : (events : List PortEvent) (s : PortState) (event : PortEvent) (t : PortState) → Run PortStep (fresh_port shape) events s → PortStep s event t
-        → NoneLeftAt (log_of after (no_events shape) events) event
-    here events s (OnLane event) t run step =
-        let l : PortLog = log_of after (no_events shape) events in
-        let had = port_ways shape events s is run in
-        left_event shape s l event t is had (idles_kept shape events s run)
-        (two_idle_event shape s l event t had.kept.counts (ready_before shape s l (CalmTick 0) is had.kept.counts) step.1) step.1
-    here events s (Receives frame) t run step = tt
+port_none_left shape events s is run =
+    lawful_on_lane shape NoneLeftAt (λ l frame. tt) (λ xs x event y ran step.
+    let had = port_ways shape xs x is ran in
+    let ready = ready_before shape x _ (CalmTick 0) is had.kept.counts in
+    left_event shape x _ event y is had (idles_kept shape xs x ran)
+    (two_idle_event shape x _ event y had.kept.counts ready step.1) step.1) events s run

@@ -1,19 +1,18 @@
 -- Where an end of a port is idle directly after the other, where nobody forged and nothing was lost, the guest told all its groups.
-use Rattle.std.proofs.Common.{◌≡◌, ◌≢◌, ℕ, Bool, false, Option, Some, None, List, [], refl, sym, subst, ap, ◌∙◌, arith}
+use Rattle.std.proofs.Common.{◌≡◌, ◌≢◌, Bool, false, Option, None, List, [], refl, subst, ap, ◌∙◌, arith, ℕ, Some, sym}
 use Rattle.std.specs.Prelude.{◌&&◌, is_some, not}
 use Rattle.std.proofs.lemmas.List.{drop_all}
 use Rattle.ldc_link.specs.declared.phase.Role.TheVariants.{Initiator, Responder}
 use Rattle.ldc_queue.specs.declared.end.ChannelState.TheVariants.{Up}
 use Rattle.ldc_queue.specs.declared.end.End.TheVariants.{A, B}
-use Rattle.ldc_queue.specs.Transcript.{Turn}
-use Rattle.runs.specs.Lawful.{Lawful, log_of}
+use Rattle.ldc_queue.specs.Transcript.{Utterance}
+use Rattle.runs.specs.Lawful.{Lawful}
 use Rattle.runs.specs.Run.{Run}
 use Rattle.channel_model.specs.Sayings.{heard, said}
 use Rattle.channel_model.specs.WireLog.{WireLog}
 use Rattle.channel_laws.specs.Sides.{sides_of}
 use Rattle.port_model.proofs.Refuting.{true_false}
 use Rattle.port_model.proofs.Ruling.{says_of}
-use Rattle.port_model.specs.EndLog.{SessionLog}
 use Rattle.port_model.specs.FrameLaws.{InSession, ToldAll}
 use Rattle.port_model.specs.NetEndRule.{Idles, port_rule}
 use Rattle.port_model.specs.NetEndState.{GroupsReply, NetEndState, NetSession}
@@ -22,31 +21,32 @@ use Rattle.port_model.specs.NetEvent.{CalmTick, NetEvent, Steps}
 use Rattle.port_model.specs.NetLaneState.{IsNetShape, NetShape, seen_at}
 use Rattle.port_model.specs.NetLaneStep.{NetLaneStep}
 use Rattle.port_model.specs.PortLog.{PortLog, after, no_events}
-use Rattle.port_model.specs.PortState.{OnLane, PortEvent, PortState, PortStep, Receives, before, fresh_port}
+use Rattle.port_model.specs.PortState.{OnLane, PortEvent, PortState, PortStep, before, fresh_port}
 use Rattle.port_model.specs.RestLaws.{TwoIdleAt}
 use Rattle.port_model.specs.RuleFacts.{IfOpen, MayListen}
-use Rattle.port_laws.specs.Counted.{GroupCounts}
 use Rattle.port_laws.specs.NetCore.{lane_core, one_if}
-use Rattle.port_laws.specs.GroupsTold.{told_in}
 use Rattle.port_laws.specs.NoneUntold.{KnowsAll, NoneUntoldAt}
 use Rattle.port_laws.proofs.EndCounting.{OpenCounts, empty_unsaid}
 use Rattle.port_laws.proofs.Outbox.{count_groups, outbox}
 use Rattle.port_laws.proofs.PortCounts.{before_guest, before_wire, ready_before}
-use Rattle.port_laws.proofs.PortRuns.{lawful_along}
+use Rattle.port_laws.proofs.PortRuns.{lawful_on_lane}
 use Rattle.port_laws.proofs.RingActs.{Finds}
 use Rattle.port_laws.proofs.RingRuns.{finds_before}
 use Rattle.port_laws.proofs.RuleFrames.{both_open, end_acts}
 use Rattle.port_laws.proofs.RuleIdle.{rule_left}
 use Rattle.port_laws.proofs.RuleNoneLeft.{heard_all, moved_guest, before_entries, no_first, some_log}
-use Rattle.port_laws.proofs.RuleRest.{up_state}
 use Rattle.port_laws.proofs.RuleTwoIdle.{IdlesKept, idles_kept, two_idle_event}
 use Rattle.port_laws.proofs.RuleGroups.{hub_told}
-use Rattle.port_laws.proofs.GroupsExchanged.{AllTold, owed_replies, reply_in}
+use Rattle.port_laws.proofs.GroupsExchanged.{owed_replies, reply_in, AllTold}
 use Rattle.port_laws.proofs.ExchangeGuest.{ExchangeStands}
 use Rattle.port_laws.proofs.ExchangeRuns.{KeptExchange, before_exchange, port_exchange}
 use Rattle.port_laws.proofs.TookCounts.{free_empty}
+use Rattle.port_laws.proofs.LaneMoves.{up_of}
+use Rattle.port_model.specs.EndLog.{SessionLog}
+use Rattle.port_laws.specs.Counted.{GroupCounts}
+use Rattle.port_laws.specs.GroupsTold.{told_in}
 
-none_out : (s : NetEndState) (mine theirs : List Turn) → said mine ≡ heard theirs → s.link.to_send ≡ [] → outbox s mine theirs ≡ []
+none_out : (s : NetEndState) (mine theirs : List Utterance) → said mine ≡ heard theirs → s.link.to_send ≡ [] → outbox s mine theirs ≡ []
 none_out s mine theirs all empty = grind (arith, drop_all, empty_unsaid)
 
 none_telling : (b : Bool) → one_if b ≡ 0 → b ≡ false
@@ -61,8 +61,8 @@ both_told : (shape : NetShape) (u : PortState) (l : PortLog) → Finds shape u l
 both_told shape u l finds exchange guest_idles hub_idles lossless opened =
     let guest_says = says_of Initiator u.lane.guest (seen_at A u.lane) Idles guest_idles in
     let hub_says = says_of Responder u.lane.hub (seen_at B u.lane) Idles hub_idles in
-    let up : u.lane.wire.wire.end_a ≡ Up = up_state u.lane.wire.wire.end_a guest_says.0.up in
-    let other : u.lane.wire.wire.end_b ≡ Up = up_state u.lane.wire.wire.end_b hub_says.0.up in
+    let up : u.lane.wire.wire.end_a ≡ Up = up_of u.lane.wire.wire.end_a guest_says.0.up in
+    let other : u.lane.wire.wire.end_b ≡ Up = up_of u.lane.wire.wire.end_b hub_says.0.up in
     let whole : u.lane.wire.lossy ≡ false = ap (λ (w : WireLog). w.lossy) finds.ready.wire ∙ lossless in
     let all = heard_all (sides_of (lane_core u.lane) l.transcript) (finds.two_ends.two_ends A).meets.converse whole up other (no_first u.lane.wire.wire.to_a guest_says.1) (no_first u.lane.wire.wire.to_b hub_says.1) in
     let guest = some_log l.guest.session opened.0 in
@@ -83,8 +83,7 @@ both_told shape u l finds exchange guest_idles hub_idles lossless opened =
     let left = rule_left Initiator u.lane.guest (seen_at A u.lane) both.p guest_says.0 guest_says.1 both.is listens guest_idles in
     let untold : both.p.untold ≡ false = told_by both.p.untold both.p.telling (left.told refl) telling in
     let here : OpenCounts Initiator shape.slots u.lane.guest.groups l.guest.published l.guest.gone None u.lane.guest.link.begun both.p l.guest.session =
-    subst (λ (x : Option (List ℕ)). OpenCounts Initiator shape.slots u.lane.guest.groups l.guest.published l.guest.gone x u.lane.guest.link.begun both.p l.guest.session)
-    (empty_unsaid u.lane.guest empty) both.open_is in
+    rw (empty_unsaid u.lane.guest empty) at both.open_is in
     let groups : GroupCounts both.p u.lane.guest.groups here.of_log = here.counts.guest in
     let known : u.lane.hub.groups ≡ u.lane.guest.groups = subst (AllTold u.lane.guest.groups u.lane.hub.groups) sent (exchanging.latest untold) in (
       subst (λ (o : Option SessionLog). InSession o (ToldAll l)) (sym here.is)
@@ -105,13 +104,9 @@ told_event shape s l (Steps B Idle) t is had kept opened step = λ last clean wh
 told_event shape s l _ t is had kept opened step = tt
 
 pub port_none_untold : (shape : NetShape) (events : List PortEvent) (s : PortState) → IsNetShape shape → Run PortStep (fresh_port shape) events s → Lawful NoneUntoldAt after (no_events shape) events
-port_none_untold shape events s is run = lawful_along shape NoneUntoldAt here events s run
-  where
-    here : (events : List PortEvent) (s : PortState) (event : PortEvent) (t : PortState) → Run PortStep (fresh_port shape) events s → PortStep s event t
-        → NoneUntoldAt (log_of after (no_events shape) events) event
-    here events s (OnLane event) t run step =
-        let l : PortLog = log_of after (no_events shape) events in
-        let had = port_exchange shape events s is run in
-        told_event shape s l event t is had (idles_kept shape events s run)
-        (two_idle_event shape s l event t had.ways.kept.counts (ready_before shape s l (CalmTick 0) is had.ways.kept.counts) step.1) step.1
-    here events s (Receives frame) t run step = tt
+port_none_untold shape events s is run =
+    lawful_on_lane shape NoneUntoldAt (λ l frame. tt) (λ xs x event y ran step.
+    let had = port_exchange shape xs x is ran in
+    let ready = ready_before shape x _ (CalmTick 0) is had.ways.kept.counts in
+    told_event shape x _ event y is had (idles_kept shape xs x ran)
+    (two_idle_event shape x _ event y had.ways.kept.counts ready step.1) step.1) events s run

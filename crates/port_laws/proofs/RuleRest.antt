@@ -1,11 +1,9 @@
 -- Why an end of a port resets itself, where a port is finished, and where its ends may be idle, by the counts of both ends.
-use Rattle.std.proofs.Common.{◌≡◌, ℕ, Bool, true, false, Option, Some, None, List, [], length, refl, sym, subst, ap, ◌∙◌, arith}
+use Rattle.std.proofs.Common.{◌≡◌, ℕ, Bool, true, Option, Some, None, List, [], length, refl, sym, subst, ap, ◌∙◌, arith}
 use Rattle.std.specs.Prelude.{◌%◌, ◌==◌, ◌&&◌, not}
 use Rattle.std.proofs.lemmas.Bool.{and_parts, eqb-true}
 use Rattle.cookie_copy.specs.Faults.{is_up}
 use Rattle.ldc_link.specs.declared.phase.Role.TheVariants.{Initiator, Responder}
-use Rattle.ldc_queue.specs.declared.end.ChannelState.{ChannelState}
-use Rattle.ldc_queue.specs.declared.end.ChannelState.TheVariants.{Up}
 use Rattle.ldc_queue.specs.declared.end.End.{End}
 use Rattle.ldc_queue.specs.Wire.{state_of}
 use Rattle.runs.specs.Lawful.{Lawful}
@@ -19,7 +17,7 @@ use Rattle.port_model.proofs.Ruling.{says_of}
 use Rattle.port_model.specs.EndLog.{EndLog, SessionLog, said_in, said_kind}
 use Rattle.port_model.specs.Fetching.{fetched}
 use Rattle.port_model.specs.FrameLaws.{InSession, IsFinished, OwnReset, OwnResetAt, SlotResets, TickAt, ToldAll, WorksAt}
-use Rattle.port_model.specs.NetEndRule.{Fetches, NetRule, Takes, port_rule}
+use Rattle.port_model.specs.NetEndRule.{Fetches, NetRule, port_rule}
 use Rattle.port_model.specs.NetEndState.{NetEndState, NetSession}
 use Rattle.port_model.specs.NetEndStep.{NetFails}
 use Rattle.port_model.specs.NetEvent.{NetEvent}
@@ -28,19 +26,17 @@ use Rattle.port_model.specs.NetLaneStep.{NetLaneStep, is_finished, is_nothing, t
 use Rattle.port_model.specs.PortLog.{PortLog, after, log_of_end, no_events}
 use Rattle.port_model.specs.PortState.{OfQueue, OnLane, PortEvent, PortState, PortStep, before, fresh_port}
 use Rattle.port_model.specs.Spoken.{Spoken, spoken}
-use Rattle.port_laws.specs.Counted.{EndCounts, GroupCounts, IsBehind, LastCounts, SaysRightly, UnsaidRight, unsaid}
+use Rattle.port_laws.specs.Counted.{EndCounts, GroupCounts, IsBehind, LastCounts, SaysRightly}
 use Rattle.port_laws.proofs.EndCounting.{open_counts}
 use Rattle.port_laws.proofs.PortCounts.{Ready, queue_of}
 use Rattle.port_laws.proofs.RuleFrames.{active_here, along, both_open, end_acts, held_frames, none_more}
 use Rattle.port_laws.proofs.SlotsFound.{fails_fit, fetched_fits}
 use Rattle.port_laws.proofs.TookCounts.{free_empty}
+use Rattle.port_laws.proofs.LaneMoves.{up_of}
 
 -- ONLY AN END THAT IS UP publishes a frame or takes one
-pub up_state : (c : ChannelState) → is_up c ≡ true → c ≡ Up
-up_state c is = grind (arith, false_true)
-
 end_up : (shape : NetShape) (e : End) (u : PortState) (l : PortLog) → Ready shape u l → is_up (seen_at e u.lane).state ≡ true → IsUp e l.wire.wire
-end_up shape e u l ready up = subst (λ (w : WireLog). IsUp e w.wire) ready.wire (up_state (state_of e u.lane.wire.wire) up)
+end_up shape e u l ready up = subst (λ (w : WireLog). IsUp e w.wire) ready.wire (up_of (state_of e u.lane.wire.wire) up)
 
 works_event : (shape : NetShape) (u : PortState) (l : PortLog) (event : NetEvent) (t : NetLaneState) → Ready shape u l → NetLaneStep u.lane event t → WorksAt l (OnLane event)
 works_event shape u l event t ready step = grind (arith, end_up, says_of)
@@ -51,7 +47,6 @@ port_works shape events s is run = along shape WorksAt is (λ x l event t counts
 -- 5. WHY A SLOT REFUSES
 own_reset : (shape : NetShape) (e : End) (u : PortState) (l : PortLog) (cause : Cause) (packet : Option (List ℕ)) (r : NetRule) → Ready shape u l → port_rule (role_at e) (net_end e u.lane) (seen_at e u.lane) ≡ r
     → NetFails (role_at e) r (net_end e u.lane) (memory_of e u.lane) (reach_of e u.lane) cause packet → OwnReset l.shape.slots (log_of_end e l) cause packet
-own_reset shape e u l cause packet (Takes bytes) ready is fails = subst (OwnReset l.shape.slots (log_of_end e l) cause) (sym fails.0) tt
 own_reset shape e u l cause packet (Fetches p activity) ready is fails =
     let says = says_of (role_at e) (net_end e u.lane) (seen_at e u.lane) (Fetches p activity) is in
     let acting = end_acts shape e u l ready says.0.free.up in
@@ -64,7 +59,7 @@ own_reset shape e u l cause packet (Fetches p activity) ready is fails =
           (peer.place ∙ ap (λ (n : ℕ). v.taken % n) slots) (λ none. sym (subst (LastCounts shape.slots v) none busy.2)),
       busy.0,
     )))
-own_reset shape e u l cause packet _ ready is fails = absurd fails
+own_reset shape e u l cause packet r ready is fails = grind arith
 
 pub own_reset_event : (shape : NetShape) (u : PortState) (l : PortLog) (event : NetEvent) (t : NetLaneState) → Ready shape u l → NetLaneStep u.lane event t → OwnResetAt l (OnLane event)
 own_reset_event shape u l event t ready step = grind (arith, own_reset)
@@ -90,20 +85,11 @@ never_behind groups told is behind = grind arith
 kept_kind : (k : Spoken) (slots : ℕ) (groups : List (List ℕ)) (message : List ℕ) (v : SessionLog) → SaysRightly slots groups v message k → Told groups v → Told groups (said_kind k message v)
 kept_kind k slots groups message v right is = grind (arith, never_behind)
 
-kept_left : (left : Option (List ℕ)) (slots : ℕ) (groups : List (List ℕ)) (begun : Bool) (v : SessionLog) → UnsaidRight slots groups begun v left → Told groups v → Told groups (said_in left v)
-kept_left left slots groups begun v right is = grind (arith, kept_kind)
-
-both_not : (untold telling : Bool) → (not untold && not telling) ≡ true → (untold ≡ false) × (telling ≡ false)
-both_not untold telling is = grind (arith, false_true)
-
 finished_told : (p : NetSession) (groups : List (List ℕ)) (v : SessionLog) → GroupCounts p groups v → told_all (Some p) ≡ true → Told groups v
-finished_told p groups v counts is = grind (arith, both_not)
+finished_told p groups v counts is = grind (arith, false_true)
 
 told_by : (untold telling : Bool) (p : NetSession) (groups : List (List ℕ)) (v : SessionLog) → p.untold ≡ untold → p.telling ≡ telling → GroupCounts p groups v → Told groups v → (not untold && not telling) ≡ true
 told_by untold telling p groups v one two counts is = grind (arith, never_behind, true_false)
-
-told_finished : (p : NetSession) (groups : List (List ℕ)) (v : SessionLog) → GroupCounts p groups v → Told groups v → told_all (Some p) ≡ true
-told_finished p groups v counts is = told_by p.untold p.telling p groups v refl refl counts is
 
 -- the guest's session
 guest_told : (slots : ℕ) (s : NetEndState) (l : EndLog) → EndCounts Initiator slots [] s l → told_all s.session ≡ true → InSession l.session (Told s.groups)
@@ -111,13 +97,10 @@ guest_told slots s l counts is = by_session s.session refl
   where
     by_session : (session : Option NetSession) → s.session ≡ session → InSession l.session (Told s.groups)
     by_session None none = true_false (sym is ∙ ap told_all none)
-    by_session (Some p) some =
-        let here = open_counts Initiator slots [] s l p counts some in
-        subst (λ (x : Option SessionLog). InSession x (Told s.groups)) (sym here.is)
-        (told_left (unsaid s) s.groups here.of_log (finished_told p s.groups (said_in (unsaid s) here.of_log) here.counts.guest (sym (ap told_all some) ∙ is)))
+    by_session (Some p) some = grind (arith, open_counts Initiator slots [] s l p counts some, told_left, finished_told)
 
 told_guest : (slots : ℕ) (s : NetEndState) (l : EndLog) (v : SessionLog) → EndCounts Initiator slots [] s l → l.session ≡ Some v → Told s.groups v → told_all s.session ≡ true
-told_guest slots s l v counts log is = grind (arith, both_open, told_finished, kept_left)
+told_guest slots s l v counts log is = grind (arith, both_open, told_by, kept_kind)
 
 nothing_empty : (frames : List (List ℕ)) → is_nothing frames ≡ true → length frames ≡ 0
 nothing_empty frames is = grind (arith, false_true)
@@ -135,15 +118,12 @@ calm_finished shape u l queued ready queue is =
     let one = and_parts (told_all u.lane.guest.session) (is_nothing u.lane.guest.frames) two.0 in
     let none : queued ≡ 0 = eqb-true queued 0 three.1 in
     let guest_held = held_frames Initiator shape.slots [] u.lane.guest l.guest ready.guest ∙ none_more (length u.lane.guest.frames) in
-    let hub_held = held_frames Responder shape.slots u.queue u.lane.hub l.hub ready.hub in
     let guest_none : length u.lane.guest.frames ≡ 0 = nothing_empty u.lane.guest.frames one.1 in
     let hub_none : length u.lane.hub.frames ≡ 0 = nothing_empty u.lane.hub.frames two.1 in
     record {
-      told = in_open l.guest.session (Told u.lane.guest.groups) (ToldAll l)
-          (λ v told. (told.membership ∙ ap (λ (x : List (List ℕ)). Some x) ready.members, told.told))
-          (guest_told shape.slots u.lane.guest l.guest ready.guest one.0);
+      told = grind (arith, in_open, guest_told);
       guest = guest_held ∙ guest_none;
-      hub = omega (arith, hub_held, hub_none, queue, none);
+      hub = omega (arith, held_frames Responder shape.slots u.queue u.lane.hub l.hub ready.hub, hub_none, queue, none);
     }
 
 all_true : (a b c d : Bool) → a ≡ true → b ≡ true → c ≡ true → d ≡ true → (a && b && c && d) ≡ true

@@ -1,18 +1,18 @@
 -- No end of a port resets itself for a slot where nobody forged: what it works on is in the peer's ring.
-use Rattle.std.proofs.Common.{◌≡◌, ℕ, ◌+◌, ◌%◌, ◌<◌, Bool, true, false, Option, Some, None, List, refl, sym, ap, ◌∙◌, subst, arith}
+use Rattle.std.proofs.Common.{◌≡◌, ℕ, ◌+◌, ◌%◌, Bool, true, false, Option, Some, None, List, refl, sym, ap, ◌∙◌, subst, arith}
 use Rattle.std.specs.Prelude.{is_some}
 use Rattle.ldc_queue.specs.declared.end.ChannelState.{ChannelState}
 use Rattle.ldc_queue.specs.declared.end.ChannelState.TheVariants.{Up}
 use Rattle.ldc_queue.specs.declared.end.End.{End}
 use Rattle.ldc_queue.specs.Wire.{peer_of, state_of}
-use Rattle.runs.specs.Lawful.{Lawful, log_of}
+use Rattle.runs.specs.Lawful.{Lawful}
 use Rattle.runs.specs.Run.{Run}
 use Rattle.channel_model.specs.TranscriptLog.{transcript_of}
 use Rattle.vio_tag.specs.declared.cause.Cause.{Cause}
 use Rattle.vnet_msg.specs.Frames.{memory_pages}
 use Rattle.port_model.proofs.Refuting.{none_some, true_false}
 use Rattle.port_model.proofs.Ruling.{says_of}
-use Rattle.port_model.specs.EndLog.{SessionLog, said_in, said_kind}
+use Rattle.port_model.specs.EndLog.{SessionLog}
 use Rattle.port_model.specs.Fetching.{fetched}
 use Rattle.port_model.specs.FramesStand.{CountsStand}
 use Rattle.port_model.specs.NetEndRule.{Fetches, NetRule, Takes, port_rule}
@@ -22,28 +22,27 @@ use Rattle.port_model.specs.NetEvent.{NetEvent, Steps}
 use Rattle.port_model.specs.NetLaneState.{IsNetShape, NetLaneState, NetShape, memory_of, net_end, reach_of, role_at, seen_at}
 use Rattle.port_model.specs.NetLaneStep.{NetLaneStep}
 use Rattle.port_model.specs.PortLog.{PortLog, after, log_of_end, no_events}
-use Rattle.port_model.specs.PortState.{OnLane, PortEvent, PortState, PortStep, Receives, before, fresh_port}
+use Rattle.port_model.specs.PortState.{OnLane, PortEvent, PortState, PortStep, before, fresh_port}
 use Rattle.port_model.specs.RuleFacts.{IfOpen}
-use Rattle.port_model.specs.Spoken.{Spoken}
-use Rattle.port_laws.specs.Counted.{ActiveCounts, LastCounts, unsaid}
+use Rattle.port_laws.specs.Counted.{ActiveCounts, unsaid}
 use Rattle.port_laws.specs.NetCore.{lane_core}
 use Rattle.port_laws.specs.NoSlotReset.{NoSlotResetAt}
 use Rattle.port_laws.specs.RingHolds.{RingHolds}
 use Rattle.port_laws.specs.RingStands.{RingIn, taken_by, taken_in, taken_of}
-use Rattle.port_laws.specs.WaysStand.{Way, WaysStand}
+use Rattle.port_laws.specs.WaysStand.{WaysStand}
 use Rattle.port_laws.proofs.EndCounting.{OpenCounts, left_seen, open_counts, open_empty}
 use Rattle.port_laws.proofs.MemoryRoom.{power_room}
 use Rattle.port_laws.proofs.PortCounts.{queue_of}
-use Rattle.port_laws.proofs.PortRuns.{lawful_along}
+use Rattle.port_laws.proofs.PortRuns.{lawful_on_lane}
 use Rattle.port_laws.proofs.PortTwoEnds.{PeerOpen, many_open}
 use Rattle.port_laws.proofs.RingActs.{Finds, core_open, end_reaches, peer_ring_of, place_is, spoke_of}
 use Rattle.port_laws.proofs.RingFinds.{Finding, no_fail, ring_finds}
 use Rattle.port_laws.proofs.RingRuns.{finds_before}
 use Rattle.port_laws.proofs.RuleFrames.{end_acts, end_counted, end_stood}
-use Rattle.port_laws.proofs.RuleRest.{up_state}
 use Rattle.port_laws.proofs.SessionsHeard.{spoke_some}
 use Rattle.port_laws.proofs.TookCounts.{free_empty}
 use Rattle.port_laws.proofs.WayRuns.{KeptWays, port_ways, ways_before}
+use Rattle.port_laws.proofs.LaneMoves.{up_of}
 
 -- WHAT ITS COPIES WORK ON
 reach_memory : (e : End) (u : NetLaneState) → memory_of (peer_of e) u ≡ (reach_of e u).memory
@@ -60,19 +59,11 @@ record Working (v w : SessionLog) : Type 0 where
   asking : v.asking ≡ true
   answered : w.answered ≡ v.seen
 
-working : (slots : ℕ) (v w : SessionLog) (infos acks : List (List ℕ)) → w.asked ≡ w.acks + 1 → Way slots v w infos acks → Working v w
-working slots v w infos acks busy given = grind arith
-
 works_at : (e : End) (u : NetLaneState) (l : PortLog) (v w : SessionLog) → WaysStand u l → state_of e u.wire.wire ≡ Up → state_of (peer_of e) u.wire.wire ≡ Up → (log_of_end e l).session ≡ Some w
     → (log_of_end (peer_of e) l).session ≡ Some v → w.asked ≡ w.acks + 1 → Working v w
-works_at e u l v w ways up other mine theirs busy = grind (arith, none_some, working)
+works_at e u l v w ways up other mine theirs busy = grind (arith, none_some)
 
 -- what an end holds to say leaves an INFO unanswered
-kind_asking : (k : Spoken) (message : List ℕ) (v : SessionLog) → v.asking ≡ true → (said_kind k message v).asking ≡ true
-kind_asking k message v is = grind arith
-
-left_asking : (left : Option (List ℕ)) (v : SessionLog) → v.asking ≡ true → (said_in left v).asking ≡ true
-left_asking left v is = grind (arith, kind_asking)
 
 -- A FETCH
 pub slot_reset : (shape : NetShape) (e : End) (u : PortState) (l : PortLog) (cause : Cause) (lost : ℕ) (left : NetLeft) → Finds shape u l → WaysStand u.lane l
@@ -99,18 +90,14 @@ slot_reset shape e u l cause lost left finds ways step = by_rule (port_rule (rol
         let v : SessionLog = there.of_log in
         let work : Working v w = works_at e u.lane l v w ways up other here.is there.is busy.0 in
         let stood : CountsStand peer q = subst (λ (o : Option NetSession). IfOpen o (CountsStand peer)) is_q (end_stood shape (peer_of e) u l finds.ready).session in
-        let some : q.seen < q.published = stood.some (sym there.counts.ring.asking ∙ left_asking (unsaid peer) v work.asking) in
         let seen : q.seen ≡ v.seen = sym there.counts.ring.seen ∙ left_seen (unsaid peer) v in
-        let slots : l.shape.slots ≡ shape.slots = ap (λ (z : NetShape). z.slots) finds.ready.shape_is in
         let taken : taken_of e u.lane l ≡ w.taken =
         ap (λ (x : ChannelState). taken_by x (log_of_end e l).session) up ∙ ap taken_in here.is in
         let ring : RingIn l.shape.slots (taken_of e u.lane l) peer.session peer.frames (memory_of (peer_of e) u.lane) = peer_ring_of e u.lane l finds.rings other in
         let ring_q : RingHolds l.shape.slots q.seen (taken_of e u.lane l) q.published peer.frames (memory_of (peer_of e) u.lane) =
         subst (λ (o : Option NetSession). RingIn l.shape.slots (taken_of e u.lane l) o peer.frames (memory_of (peer_of e) u.lane)) is_q ring in
         let holds : RingHolds shape.slots q.seen w.taken q.published peer.frames (reach_of e u.lane).memory =
-        subst (λ (x : List ℕ). RingHolds shape.slots q.seen w.taken q.published peer.frames x) (reach_memory e u.lane)
-        (subst (λ (n : ℕ). RingHolds shape.slots q.seen n q.published peer.frames (memory_of (peer_of e) u.lane)) taken
-        (subst (λ (n : ℕ). RingHolds n q.seen (taken_of e u.lane l) q.published peer.frames (memory_of (peer_of e) u.lane)) slots ring_q)) in
+        grind (arith, reach_memory) in
         let sound = finds.ready.sound in
         let enough = power_room sound.slots.0 shape.slots sound.slots.1 sound.some_slots sound.most_slots in
         let one = sound.some_slots in
@@ -119,18 +106,13 @@ slot_reset shape e u l cause lost left finds ways step = by_rule (port_rule (rol
         (end_reaches shape e u l finds (ap is_some says.0.session) (ap is_some is_q)) (omega (arith, one)) (reach_both e u.lane up other) enough holds in
         let place : p.place ≡ w.taken % shape.slots =
         place_is (role_at e) shape.slots (queue_of e u) s (log_of_end e l) p (end_counted shape e u l finds.ready) says.0.session ∙ ap (λ (o : Option SessionLog). taken_in o % shape.slots) here.is in
-        let less : activity.last ≡ None → w.taken < q.published = λ none.
-        let rests : w.answered ≡ w.taken = subst (LastCounts shape.slots w) none busy.2 in
-        let answered = work.answered in
-        omega (arith, rests, answered, seen, some) in
-        no_fail w.taken q.published (fetched s (reach_of e u.lane) (w.taken % shape.slots)) activity p.place cause finding less
-        (subst (λ (n : ℕ). FetchFails (fetched s (reach_of e u.lane) n) activity p.place cause) place fails)
+        grind (arith, no_fail)
 
     at_work : (p : NetSession) (activity : Activity) → port_rule (role_at e) s (seen_at e u.lane) ≡ Fetches p activity
         → FetchFails (fetched s (reach_of e u.lane) p.place) activity p.place cause → ⊥
     at_work p activity rule fails =
         let says = says_of (role_at e) s (seen_at e u.lane) (Fetches p activity) rule in
-        let up : state_of e u.lane.wire.wire ≡ Up = seen_up e u.lane ∙ up_state (seen_at e u.lane).state says.0.free.up in
+        let up : state_of e u.lane.wire.wire ≡ Up = seen_up e u.lane ∙ up_of (seen_at e u.lane).state says.0.free.up in
         let acting = end_acts shape e u l finds.ready says.0.free.up in
         let empty = free_empty (role_at e) s (transcript_of e l.transcript) acting.ends says.0.free.quiet in
         let here : OpenCounts (role_at e) shape.slots s.groups (log_of_end e l).published (log_of_end e l).gone None s.link.begun p (log_of_end e l).session =
@@ -153,7 +135,7 @@ slot_reset shape e u l cause lost left finds ways step = by_rule (port_rule (rol
     by_rule _ is fails = fails
 
 -- ALONG EVERY RUN
-by_forged : (b : Bool) → (b ≡ false → ⊥) → b ≡ true
+pub by_forged : (b : Bool) → (b ≡ false → ⊥) → b ≡ true
 by_forged b never = grind arith
 
 slots_event : (shape : NetShape) (s : PortState) (l : PortLog) (event : NetEvent) (t : PortState) → IsNetShape shape → KeptWays shape s l → NetLaneStep (before event s).lane event t.lane
@@ -165,9 +147,6 @@ slots_event shape s l (Steps e (Reset cause None lost)) t is had step =
 slots_event shape s l _ t is had step = tt
 
 pub port_slots : (shape : NetShape) (events : List PortEvent) (s : PortState) → IsNetShape shape → Run PortStep (fresh_port shape) events s → Lawful NoSlotResetAt after (no_events shape) events
-port_slots shape events s is run = lawful_along shape NoSlotResetAt here events s run
-  where
-    here : (events : List PortEvent) (s : PortState) (event : PortEvent) (t : PortState) → Run PortStep (fresh_port shape) events s → PortStep s event t
-        → NoSlotResetAt (log_of after (no_events shape) events) event
-    here events s (OnLane event) t run step = slots_event shape s (log_of after (no_events shape) events) event t is (port_ways shape events s is run) step.1
-    here events s (Receives frame) t run step = tt
+port_slots shape events s is run =
+    lawful_on_lane shape NoSlotResetAt (λ l frame. tt)
+    (λ xs x event y ran step. slots_event shape x _ event y is (port_ways shape xs x is ran) step.1) events s run

@@ -1,34 +1,32 @@
 -- Each event of a port stands where the states of its ends and its queues let it, and what changes nothing is answered rightly.
-use Rattle.std.proofs.Common.{◌≡◌, ℕ, ◌+◌, ◌*◌, ◌≤◌, List, length, sym, ap, ◌∙◌, subst, arith}
+use Rattle.std.proofs.Common.{◌≡◌, ℕ, ◌+◌, ◌*◌, ◌≤◌, List, length, subst, arith}
 use Rattle.ldc_link.specs.declared.phase.Role.TheVariants.{Initiator, Responder}
 use Rattle.ldc_queue.specs.declared.end.End.{End}
-use Rattle.ldc_queue.specs.Wire.{Wire, peer_of, waiting_for}
+use Rattle.ldc_queue.specs.Wire.{peer_of, waiting_for}
 use Rattle.runs.specs.Lawful.{Lawful, log_of}
 use Rattle.runs.specs.Run.{Run}
 use Rattle.vnet_msg.specs.Frames.{memory_pages}
-use Rattle.channel_model.specs.WireAt.{IsUp, Sizes, WireAnswersAt, WireTableAt}
+use Rattle.channel_model.specs.WireAt.{WireAnswersAt, WireTableAt}
 use Rattle.channel_model.specs.WireLog.{WireLog}
 use Rattle.channel_laws.proofs.Sessions.{converse_knows}
 use Rattle.channel_laws.specs.CoreLog as core
-use Rattle.channel_laws.specs.CoreLog.{RoomStands}
 use Rattle.channel_laws.specs.LaneCore.{CoreStands}
 use Rattle.port_model.proofs.Ruling.{says_of}
-use Rattle.port_model.specs.NetEndStep.{Idle, NetAnswer}
-use Rattle.port_model.specs.NetEvent.{NetEvent, Steps}
+use Rattle.port_model.specs.NetEvent.{NetEvent}
 use Rattle.port_model.specs.NetLaneState.{IsNetShape, NetLaneState, NetShape}
 use Rattle.port_model.specs.NetLaneStep.{NetLaneStep, sizes_of}
 use Rattle.port_model.specs.Offers.{port_offer}
 use Rattle.port_model.specs.PortLog.{PortLog, after, no_events}
 use Rattle.port_model.specs.PortMay.{OfWire, sizes_in}
-use Rattle.port_model.specs.PortState.{OnLane, PortEvent, PortState, PortStep, Receives, before, fresh_port}
+use Rattle.port_model.specs.PortState.{OnLane, PortEvent, PortState, PortStep, before, fresh_port}
 use Rattle.port_laws.specs.NetCore.{core_event}
 use Rattle.port_laws.specs.PortCore.{port_core, port_events}
 use Rattle.port_laws.proofs.CoreLaws.{sizes_fit}
 use Rattle.port_laws.proofs.MemoryLong.{KeptLong, port_long}
 use Rattle.port_laws.proofs.PortCounts.{before_wire}
-use Rattle.port_laws.proofs.PortRuns.{fresh_port_core, lawful_along, logs_same, port_fits_behind, port_step_core}
-use Rattle.port_laws.proofs.RuleRest.{up_state}
+use Rattle.port_laws.proofs.PortRuns.{fresh_port_core, lawful_on_lane, logs_same, port_fits_behind, port_step_core}
 use Rattle.port_laws.proofs.RuleSlots.{seen_up}
+use Rattle.port_laws.proofs.LaneMoves.{up_of}
 
 -- THE SIZES of the log are those of the lane
 record SameSizes (s : NetLaneState) (l : PortLog) : Type 0 where
@@ -50,52 +48,31 @@ same_sizes shape events s is run =
     let now : core.CoreLog = log_of core.after (core.nothing_yet shape.entries) (port_events events) in
     let knows = converse_knows shape.entries (port_offer Initiator shape.address shape.slots) (port_offer Responder shape.address shape.slots) (port_events events) (port_core s) (sizes_fit shape is)
     (fresh_port_core shape events s run) in
-    let room : RoomStands now = knows.room in
-    let slots : shape.slots ≡ l.shape.slots = sym (ap (λ (z : NetShape). z.slots) had.counts.shape_is) in
-    let to_a = room.to_a in
-    let to_b = room.to_b in
-    record {
-      wire = had.counts.wire;
-      entries = knows.entries ∙ logs.entries;
-      guest = had.memory.guest ∙ ap (λ (n : ℕ). 8192 * memory_pages n) slots;
-      hub = had.memory.hub ∙ ap (λ (n : ℕ). 8192 * memory_pages n) slots;
-      room_a = omega (arith, to_a, logs.entries, ap (λ (w : WireLog). length w.wire.to_a) logs.wire);
-      room_b = omega (arith, to_b, logs.entries, ap (λ (w : WireLog). length w.wire.to_b) logs.wire);
-    }
+    grind arith
 
 -- A STEP, by what stands on the channel
 full_at : (e : End) (l : PortLog) (s : NetLaneState) → SameSizes s l → l.shape.entries ≤ length (waiting_for (peer_of e) l.wire.wire) + 1 → length (waiting_for (peer_of e) l.wire.wire) + 1 ≡ l.shape.entries
 full_at e l s same full = grind arith
 
-answer_table : (e : End) (answer : NetAnswer) (s : NetLaneState) (l : PortLog) → SameSizes s l → (answer ≡ Idle → IsUp e l.wire.wire) → CoreStands l.shape.entries l.wire (core_event (Steps e answer))
-    → OfWire (WireTableAt (sizes_in l) l.wire) (OnLane (Steps e answer))
-answer_table e answer s l same idle stands = grind (arith, full_at)
-
-idle_up : (e : End) (u t : NetLaneState) (l : PortLog) (answer : NetAnswer) → u.wire ≡ l.wire → NetLaneStep u (Steps e answer) t → answer ≡ Idle → IsUp e l.wire.wire
-idle_up e u t l answer wire step is = grind (arith, says_of, seen_up, up_state)
-
-on_log : (e : End) (s : NetLaneState) (l : PortLog) → SameSizes s l → (P : Sizes → Wire → Type 0) → P (sizes_of e s) s.wire.wire → P (sizes_in l) l.wire.wire
-on_log e s l same P holds = subst (λ (n : Sizes). P n l.wire.wire) (sizes_are s l same e) (subst (λ (w : WireLog). P (sizes_of e s) w.wire) same.wire holds)
-
 -- THE TABLE
 table_event : (s : PortState) (l : PortLog) (event : NetEvent) (t : NetLaneState) → SameSizes s.lane l → CoreStands l.shape.entries l.wire (core_event event)
     → NetLaneStep (before event s).lane event t → OfWire (WireTableAt (sizes_in l) l.wire) (OnLane event)
-table_event s l event t same stands step = grind (arith, answer_table, idle_up, before_wire, on_log)
+table_event s l event t same stands step = grind (arith, full_at, says_of, seen_up, up_of, before_wire, sizes_are)
 
 pub port_table : (shape : NetShape) (events : List PortEvent) (s : PortState) → IsNetShape shape → Run PortStep (fresh_port shape) events s
     → Lawful (λ (l : PortLog) (event : PortEvent). OfWire (WireTableAt (sizes_in l) l.wire) event) after (no_events shape) events
-port_table shape events s is run = lawful_along shape (λ (l : PortLog) (event : PortEvent). OfWire (WireTableAt (sizes_in l) l.wire) event) here events s run
+port_table shape events s is run =
+    lawful_on_lane shape (λ (l : PortLog) (event : PortEvent). OfWire (WireTableAt (sizes_in l) l.wire) event) (λ l frame. tt) here events s run
   where
-    here : (events : List PortEvent) (s : PortState) (event : PortEvent) (t : PortState) → Run PortStep (fresh_port shape) events s → PortStep s event t
-        → OfWire (WireTableAt (sizes_in (log_of after (no_events shape) events)) (log_of after (no_events shape) events).wire) event
-    here events s (OnLane event) t run step =
+    here : (events : List PortEvent) (s : PortState) (event : NetEvent) (t : PortState) → Run PortStep (fresh_port shape) events s → PortStep s (OnLane event) t
+        → OfWire (WireTableAt (sizes_in (log_of after (no_events shape) events)) (log_of after (no_events shape) events).wire) (OnLane event)
+    here events s event t run step =
         let l : PortLog = log_of after (no_events shape) events in
         let same = same_sizes shape events s is run in
         let stands = (port_step_core s (OnLane event) t (port_fits_behind shape events s run) step).stands in
         let there : CoreStands l.shape.entries l.wire (core_event event) =
         subst (λ (n : ℕ). CoreStands n l.wire (core_event event)) same.entries (subst (λ (w : WireLog). CoreStands s.lane.shape.entries w (core_event event)) same.wire stands) in
         table_event s l event t.lane same there step.1
-    here events s (Receives frame) t run step = tt
 
 -- THE ANSWERS
 answers_event : (s : PortState) (l : PortLog) (event : NetEvent) (t : NetLaneState) → SameSizes s.lane l → NetLaneStep (before event s).lane event t
@@ -104,9 +81,6 @@ answers_event s l event t same step = grind (arith, sizes_are)
 
 pub port_answers : (shape : NetShape) (events : List PortEvent) (s : PortState) → IsNetShape shape → Run PortStep (fresh_port shape) events s
     → Lawful (λ (l : PortLog) (event : PortEvent). OfWire (WireAnswersAt (sizes_in l) l.wire) event) after (no_events shape) events
-port_answers shape events s is run = lawful_along shape (λ (l : PortLog) (event : PortEvent). OfWire (WireAnswersAt (sizes_in l) l.wire) event) here events s run
-  where
-    here : (events : List PortEvent) (s : PortState) (event : PortEvent) (t : PortState) → Run PortStep (fresh_port shape) events s → PortStep s event t
-        → OfWire (WireAnswersAt (sizes_in (log_of after (no_events shape) events)) (log_of after (no_events shape) events).wire) event
-    here events s (OnLane event) t run step = answers_event s (log_of after (no_events shape) events) event t.lane (same_sizes shape events s is run) step.1
-    here events s (Receives frame) t run step = tt
+port_answers shape events s is run =
+    lawful_on_lane shape (λ (l : PortLog) (event : PortEvent). OfWire (WireAnswersAt (sizes_in l) l.wire) event) (λ l frame. tt)
+    (λ xs x event y ran step. answers_event x _ event y.lane (same_sizes shape xs x is ran) step.1) events s run

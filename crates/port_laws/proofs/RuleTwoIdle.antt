@@ -1,6 +1,6 @@
 -- Where an end of a port is idle directly after the other, where nobody forged and nothing was lost, both sessions are open.
-use Rattle.std.proofs.Common.{◌≡◌, ◌≢◌, true, false, Option, Some, None, List, sym, subst, arith}
-use Rattle.std.specs.Prelude.{is_some, ⊤}
+use Rattle.std.proofs.Common.{◌≡◌, ◌≢◌, false, Some, None, List, sym, subst, arith}
+use Rattle.std.specs.Prelude.{⊤}
 use Rattle.ldc_link.specs.declared.phase.Role.TheVariants.{Initiator, Responder}
 use Rattle.ldc_queue.specs.declared.end.End.{End}
 use Rattle.ldc_queue.specs.declared.end.End.TheVariants.{A, B}
@@ -11,12 +11,11 @@ use Rattle.channel_laws.specs.EndsAtRest.{IsAtRest}
 use Rattle.port_model.proofs.Refuting.{none_some}
 use Rattle.port_model.proofs.Ruling.{says_of}
 use Rattle.port_model.specs.NetEndRule.{Idles, port_rule}
-use Rattle.port_model.specs.NetEndState.{NetSession}
 use Rattle.port_model.specs.NetEndStep.{Idle}
 use Rattle.port_model.specs.NetEvent.{CalmTick, NetEvent, Steps}
 use Rattle.port_model.specs.NetLaneState.{IsNetShape, NetLaneState, NetShape, net_end, role_at, seen_at}
 use Rattle.port_model.specs.NetLaneStep.{EndSteps, NetLaneStep}
-use Rattle.port_model.specs.PortLog.{PortLog, after, idle_in, no_events}
+use Rattle.port_model.specs.PortLog.{PortLog, after, no_events}
 use Rattle.port_model.specs.PortState.{OnLane, PortEvent, PortState, PortStep, before, fresh_port}
 use Rattle.port_model.specs.RestLaws.{TwoIdleAt}
 use Rattle.port_laws.specs.NetCore.{lane_core}
@@ -25,16 +24,17 @@ use Rattle.port_laws.proofs.EndCounting.{open_counts}
 use Rattle.port_laws.proofs.PortCounts.{PortCounts, Ready, ready_before}
 use Rattle.port_laws.proofs.PortRuns.{before_core, fresh_port_core}
 use Rattle.port_laws.proofs.RuleFrames.{along}
-use Rattle.port_laws.proofs.RuleRest.{up_state}
+use Rattle.port_laws.proofs.PutCounts.{some_of}
+use Rattle.port_laws.proofs.LaneMoves.{up_of}
 
 -- AN END AT REST, as its channel sees it
 idle_rests : (e : End) (u : NetLaneState) → port_rule (role_at e) (net_end e u) (seen_at e u) ≡ Idles → IsAtRest e (lane_core u)
 idle_rests A u idles =
     let says = says_of Initiator u.guest (seen_at A u) Idles idles in
-    record { up = up_state u.wire.wire.end_a says.0.up; quiet = says.0.quiet; owed = says.0.owed; waits = none_waits u.wire.wire.to_a says.1 }
+    record { up = up_of u.wire.wire.end_a says.0.up; quiet = says.0.quiet; owed = says.0.owed; waits = none_waits u.wire.wire.to_a says.1 }
 idle_rests B u idles =
     let says = says_of Responder u.hub (seen_at B u) Idles idles in
-    record { up = up_state u.wire.wire.end_b says.0.up; quiet = says.0.quiet; owed = says.0.owed; waits = none_waits u.wire.wire.to_b says.1 }
+    record { up = up_of u.wire.wire.end_b says.0.up; quiet = says.0.quiet; owed = says.0.owed; waits = none_waits u.wire.wire.to_b says.1 }
 
 -- THE END that was idle last has nothing to do
 pub record IdlesKept (s : PortState) (l : PortLog) : Type 0 where
@@ -43,11 +43,8 @@ pub record IdlesKept (s : PortState) (l : PortLog) : Type 0 where
 idle_stays : (e : End) (u t : NetLaneState) → EndSteps e u Idle t → port_rule (role_at e) (net_end e t) (seen_at e t) ≡ Idles
 idle_stays e u t step = grind arith
 
-last_idles : (u : NetLaneState) (event : NetEvent) (t : NetLaneState) → NetLaneStep u event t → (e : End) → idle_in event ≡ Some e → port_rule (role_at e) (net_end e t) (seen_at e t) ≡ Idles
-last_idles u event t step e is = grind (arith, idle_stays, none_some)
-
 idles_step : (s : PortState) (l : PortLog) (event : PortEvent) (t : PortState) → IdlesKept s l → PortStep s event t → IdlesKept t (after l event)
-idles_step s l event t kept step = grind (arith, last_idles)
+idles_step s l event t kept step = grind (arith, idle_stays, none_some)
 
 pub idles_kept : (shape : NetShape) (events : List PortEvent) (s : PortState) → Run PortStep (fresh_port shape) events s → IdlesKept s (log_of after (no_events shape) events)
 idles_kept shape events s run =
@@ -55,12 +52,9 @@ idles_kept shape events s run =
     (fresh_port shape) s (no_events shape) events (record { idles = λ e is. none_some e is }) run).1
 
 -- BOTH AT REST
-pub some_session : (session : Option NetSession) → is_some session ≡ true → (p : NetSession) × (session ≡ Some p)
-some_session session is = grind arith
-
 two_idle : (shape : NetShape) (s : PortState) (l : PortLog) → PortCounts shape s l → Ready shape s l → IsAtRest A (lane_core s.lane) → IsAtRest B (lane_core s.lane) → l.wire.forged ≡ false → l.wire.lossy ≡ false
     → (l.guest.session ≢ None) × (l.hub.session ≢ None)
-two_idle shape s l counts ready one other clean whole = grind (arith, two_at_rest_open, sizes_fit, offers_match, fresh_port_core, some_session, open_counts, none_some)
+two_idle shape s l counts ready one other clean whole = grind (arith, two_at_rest_open, sizes_fit, offers_match, fresh_port_core, some_of, open_counts, none_some)
 
 pub two_idle_event : (shape : NetShape) (s : PortState) (l : PortLog) (event : NetEvent) (t : PortState) → PortCounts shape s l → Ready shape s l → NetLaneStep (before event s).lane event t.lane → TwoIdleAt l (OnLane event)
 two_idle_event shape s l (Steps A Idle) t counts ready step = λ last clean whole.

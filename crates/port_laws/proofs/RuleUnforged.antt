@@ -3,12 +3,11 @@ use Rattle.std.proofs.Common.{◌≡◌, ℕ, ◌+◌, ◌-◌, ◌<◌, ◌≤�
 use Rattle.std.specs.Prelude.{◌%◌, is_some, slice_get}
 use Rattle.std.proofs.lemmas.Bool.{eq-eqb}
 use Rattle.ldc_link.specs.declared.phase.Role.{Role}
-use Rattle.ldc_queue.specs.declared.end.ChannelState.{ChannelState}
 use Rattle.ldc_queue.specs.declared.end.ChannelState.TheVariants.{Up}
 use Rattle.ldc_queue.specs.declared.end.End.{End}
 use Rattle.ldc_queue.specs.declared.end.End.TheVariants.{A, B}
 use Rattle.ldc_queue.specs.Wire.{peer_of, state_of}
-use Rattle.runs.specs.Lawful.{Lawful, log_of}
+use Rattle.runs.specs.Lawful.{Lawful}
 use Rattle.runs.specs.Run.{Run}
 use Rattle.channel_model.specs.TranscriptLog.{transcript_of}
 use Rattle.channel_model.specs.WireAt.{IsUp}
@@ -25,25 +24,25 @@ use Rattle.port_model.specs.NetEvent.{NetEvent, Steps}
 use Rattle.port_model.specs.NetLaneState.{IsNetShape, NetLaneState, NetShape, memory_of, net_end, reach_of, role_at, seen_at}
 use Rattle.port_model.specs.NetLaneStep.{EndSteps, NetLaneStep}
 use Rattle.port_model.specs.PortLog.{PortLog, after, log_of_end, no_events}
-use Rattle.port_model.specs.PortState.{OnLane, PortEvent, PortState, PortStep, Receives, before, fresh_port}
+use Rattle.port_model.specs.PortState.{OnLane, PortEvent, PortState, PortStep, before, fresh_port}
 use Rattle.port_model.specs.RestLaws.{IsPublished, UnforgedAt, last_of}
 use Rattle.port_laws.specs.Counted.{EndCounts, unsaid}
 use Rattle.port_laws.specs.NetCore.{lane_core}
 use Rattle.port_laws.specs.RingHolds.{RingHolds}
-use Rattle.port_laws.specs.RingStands.{RingIn, taken_by, taken_in}
+use Rattle.port_laws.specs.RingStands.{taken_in}
 use Rattle.port_laws.proofs.EndCounting.{left_published, open_counts}
 use Rattle.port_laws.proofs.LogsStand.{EndLogStands, HeadIn, held_given}
 use Rattle.port_laws.proofs.PortCounts.{queue_of}
-use Rattle.port_laws.proofs.PortRuns.{lawful_along}
+use Rattle.port_laws.proofs.PortRuns.{lawful_on_lane}
 use Rattle.port_laws.proofs.PortTwoEnds.{PeerOpen, many_open}
-use Rattle.port_laws.proofs.RingActs.{Finds, end_reaches, peer_ring_of, place_is, seen_state, spoke_of}
+use Rattle.port_laws.proofs.RingActs.{Finds, end_reaches, place_is, seen_state, spoke_of}
 use Rattle.port_laws.proofs.RingEvents.{acts_up}
 use Rattle.port_laws.proofs.RingFetches.{Fetches as FetchesFrame, ring_fetched}
 use Rattle.port_laws.proofs.RingRuns.{Kept, finds_before, port_kept}
 use Rattle.port_laws.proofs.RuleFrames.{active_here, end_acts, end_counted}
 use Rattle.port_laws.proofs.SessionsHeard.{same_sid, spoke_some}
 use Rattle.port_laws.proofs.TookCounts.{free_empty}
-use Rattle.port_laws.proofs.RuleTwoIdle.{some_session}
+use Rattle.port_laws.proofs.PutCounts.{some_of}
 
 -- IN THE LOG of the end that published it
 last_is : (one : OpenedLog) (rest : List OpenedLog) (sid : ℕ) → one.sid ≡ sid → last_of sid (one ∷ rest) ≡ Some one
@@ -56,10 +55,8 @@ published_is role slots queue s l p v frame counts logs is same first below next
     let here = open_counts role slots queue s l p counts is in
     let w : SessionLog = here.of_log in
     let head : HeadIn (Some w) l.opened l.published = subst (λ (o : Option SessionLog). HeadIn o l.opened l.published) here.is logs.head in
-    let all = here.counts.ring.all in
-    let gone = here.counts.ring.left in
     let own : w.published ≡ p.published = sym (left_published (unsaid s) w) ∙ here.counts.ring.here in
-    by_opened l.opened refl w head (same w here.is) all gone own
+    by_opened l.opened refl w head (same w here.is) here.counts.ring.all here.counts.ring.left own
   where
     by_opened : (opened : List OpenedLog) → l.opened ≡ opened → (w : SessionLog) → HeadIn (Some w) opened l.published → w.sid ≡ v.sid → l.published ≡ p.base + p.published → l.gone ≡ p.base + p.seen
         → w.published ≡ p.published → IsPublished l frame v
@@ -95,7 +92,8 @@ pub record TakesPublished (shape : NetShape) (e : End) (u : PortState) (l : Port
   pub ring : RingHolds shape.slots p.seen v.taken p.published (net_end (peer_of e) u.lane).frames (memory_of (peer_of e) u.lane)
   pub found : FetchesFrame shape.slots p.seen v.taken p.published (net_end (peer_of e) u.lane).frames frame (memory_of (peer_of e) u.lane) new
 
-in_some : (log : Option SessionLog) (P : SessionLog → Type 0) → InSession log P → (v : SessionLog) × (log ≡ Some v) × P v
+-- a session of which this holds
+pub in_some : (log : Option SessionLog) (P : SessionLog → Type 0) → InSession log P → (v : SessionLog) × (log ≡ Some v) × P v
 in_some log P holds = grind arith
 
 core_peer : (e : End) (u : NetLaneState) → PeerOpen e (lane_core u) → is_some (net_end (peer_of e) u).session ≡ true
@@ -130,17 +128,11 @@ takes_published shape e u l frame t finds step =
     let spoke = spoke_some (role_at e) (transcript_of e l.transcript) log.session v mine (spoke_of e u.lane l finds.rings) in
     let there : PeerOpen e (lane_core u.lane) = many_open shape (lane_core u.lane) l e finds.two_ends (core_up e u.lane up) (spoke.many (omega (arith, busy))) in
     let peer_up : state_of (peer_of e) u.lane.wire.wire ≡ Up = peer_is_up e u.lane there in
-    let peer = some_session (net_end (peer_of e) u.lane).session (core_peer e u.lane there) in
+    let peer = some_of (net_end (peer_of e) u.lane).session (core_peer e u.lane there) in
     let p : NetSession = peer.0 in
     let frames : List (List ℕ) = (net_end (peer_of e) u.lane).frames in
     let memory : List ℕ = memory_of (peer_of e) u.lane in
-    let slots : l.shape.slots ≡ shape.slots = ap (λ (z : NetShape). z.slots) finds.ready.shape_is in
-    let taken : taken_by (state_of e u.lane.wire.wire) log.session ≡ v.taken = ap (λ (x : ChannelState). taken_by x log.session) up ∙ ap taken_in mine in
-    let held : RingIn l.shape.slots (taken_by (state_of e u.lane.wire.wire) log.session) (net_end (peer_of e) u.lane).session frames memory = peer_ring_of e u.lane l finds.rings peer_up in
-    let ring : RingHolds shape.slots p.seen v.taken p.published frames memory =
-    subst (λ (n : ℕ). RingHolds n p.seen v.taken p.published frames memory) slots
-    (subst (λ (n : ℕ). RingIn l.shape.slots n (Some p) frames memory) taken
-    (subst (λ (o : Option NetSession). RingIn l.shape.slots (taken_by (state_of e u.lane.wire.wire) log.session) o frames memory) peer.1 held)) in
+    let ring : RingHolds shape.slots p.seen v.taken p.published frames memory = grind arith in
     let here : RingHolds shape.slots p.seen v.taken p.published frames (reach_of e u.lane).memory =
     subst (RingHolds shape.slots p.seen v.taken p.published frames) (sym (reach_memory e u.lane)) ring in
     let place : q.place ≡ v.taken % shape.slots =
@@ -178,9 +170,6 @@ unforged_event shape s l (Steps e (Frame frame)) t is kept step = λ clean. fram
 unforged_event shape s l _ t is kept step = tt
 
 pub port_unforged : (shape : NetShape) (events : List PortEvent) (s : PortState) → IsNetShape shape → Run PortStep (fresh_port shape) events s → Lawful UnforgedAt after (no_events shape) events
-port_unforged shape events s is run = lawful_along shape UnforgedAt here events s run
-  where
-    here : (events : List PortEvent) (s : PortState) (event : PortEvent) (t : PortState) → Run PortStep (fresh_port shape) events s → PortStep s event t
-        → UnforgedAt (log_of after (no_events shape) events) event
-    here events s (OnLane event) t run step = unforged_event shape s (log_of after (no_events shape) events) event t is (port_kept shape events s is run) step.1
-    here events s (Receives frame) t run step = tt
+port_unforged shape events s is run =
+    lawful_on_lane shape UnforgedAt (λ l frame. tt)
+    (λ xs x event y ran step. unforged_event shape x _ event y is (port_kept shape xs x is ran) step.1) events s run

@@ -1,31 +1,31 @@
 -- What an end's log says of its open session, by what the end said and heard: its sid is that of the sixth message that the initiator says, and
 -- a frame is taken only once a message of the session was heard.
-use Rattle.std.proofs.Common.{◌≡◌, ℕ, zero, suc, ◌+◌, ◌≤◌, Bool, Option, Some, None, List, [], ◌∷◌, ◌++◌, length, refl, sym, ap, ◌∙◌, subst, arith, length-append}
+use Rattle.std.proofs.Common.{◌≡◌, ℕ, zero, suc, ◌+◌, ◌≤◌, Bool, Option, Some, None, List, [], ◌∷◌, ◌++◌, length, sym, ap, ◌∙◌, subst, arith, length-append}
 use Rattle.std.specs.Prelude.{◌&&◌, slice_get, ⊤}
 use Rattle.ldc_link.specs.declared.phase.Role.{Role}
 use Rattle.ldc_link.specs.declared.phase.Role.TheVariants.{Initiator, Responder}
 use Rattle.ldc_queue.specs.Fragments.{Fragment, fragment_at, is_part}
-use Rattle.ldc_queue.specs.Transcript.{Heard, Said, Turn}
+use Rattle.ldc_queue.specs.Transcript.{Heard, Said, Utterance}
 use Rattle.channel_model.specs.Messages.{ended_by, opening_sid, sid_in, sid_of, whole_with}
-use Rattle.channel_model.specs.Sayings.{half_heard, half_said, heard, said, whole_by, whole_past}
+use Rattle.channel_model.specs.Sayings.{half_heard, half_said, heard, said, whole_past}
 use Rattle.port_model.proofs.Refuting.{none_some}
 use Rattle.port_model.specs.EndLog.{SessionLog, heard_in, heard_kind, opened_log, said_in, said_kind}
-use Rattle.port_model.specs.Spoken.{GroupsNack, Other, RangeInfo, Spoken}
+use Rattle.port_model.specs.Spoken.{RangeInfo, Spoken}
 use Rattle.port_laws.proofs.PeerOpens.{row}
 
 -- A SESSION of the log
-pub record Spoke (role : Role) (turns : List Turn) (v : SessionLog) : Type 0 where
+pub record Spoke (role : Role) (turns : List Utterance) (v : SessionLog) : Type 0 where
   pub message : List ℕ
   pub sixth : slice_get (row role turns) 5 ≡ Some message
   pub sid : v.sid ≡ sid_of message
   pub quiet : v.asked ≡ 0 → v.taken ≡ 0
   pub many : 1 ≤ v.asked → 7 ≤ length (heard turns)
 
-abbrev pub SpokeIn : Role → List Turn → Option SessionLog → Type 0
+abbrev pub SpokeIn : Role → List Utterance → Option SessionLog → Type 0
 SpokeIn role turns None = ⊤
 SpokeIn role turns (Some v) = Spoke role turns v
 
-pub spoke_some : (role : Role) (turns : List Turn) (log : Option SessionLog) (v : SessionLog) → log ≡ Some v → SpokeIn role turns log → Spoke role turns v
+pub spoke_some : (role : Role) (turns : List Utterance) (log : Option SessionLog) (v : SessionLog) → log ≡ Some v → SpokeIn role turns log → Spoke role turns v
 spoke_some role turns log v is spoke = subst (SpokeIn role turns) is spoke
 
 -- ONE MESSAGE MORE, if the packet ends one
@@ -33,16 +33,13 @@ abbrev pub Grown : Option (List ℕ) → List (List ℕ) → List (List ℕ) →
 Grown None before now = now ≡ before
 Grown (Some message) before now = now ≡ before ++ message ∷ []
 
-grown_by : (stop : Bool) (message : List ℕ) (messages : List (List ℕ)) → Grown (whole_with stop message) messages (whole_by stop message messages)
-grown_by stop message messages = grind arith
-
 grown : (b : Bool) (part : Fragment) (half : List ℕ) (messages : List (List ℕ)) → Grown (whole_with (b && part.stop) (half ++ part.bytes)) messages (whole_past b part half messages)
-grown b part half messages = grind (arith, grown_by)
+grown b part half messages = grind arith
 
-pub heard_grown : (turns : List Turn) (packet : List ℕ) → Grown (ended_by (half_heard turns) packet) (heard turns) (heard (Heard packet ∷ turns))
+pub heard_grown : (turns : List Utterance) (packet : List ℕ) → Grown (ended_by (half_heard turns) packet) (heard turns) (heard (Heard packet ∷ turns))
 heard_grown turns packet = grown (is_part packet) (fragment_at packet) (half_heard turns) (heard turns)
 
-pub said_grown : (turns : List Turn) (packet : List ℕ) → Grown (ended_by (half_said turns) packet) (said turns) (said (Said packet ∷ turns))
+pub said_grown : (turns : List Utterance) (packet : List ℕ) → Grown (ended_by (half_said turns) packet) (said turns) (said (Said packet ∷ turns))
 said_grown turns packet = grown (is_part packet) (fragment_at packet) (half_said turns) (said turns)
 
 pub grown_most : (o : Option (List ℕ)) (before now : List (List ℕ)) → Grown o before now → length now ≤ length before + 1
@@ -54,10 +51,9 @@ get_more (one ∷ messages) more zero message get = get
 get_more (one ∷ messages) more (suc n) message get = get_more messages more n message get
 
 pub get_last : (messages : List (List ℕ)) (n : ℕ) (message : List ℕ) → length messages ≡ n → slice_get (messages ++ message ∷ []) n ≡ Some message
-get_last [] zero message is = refl
 get_last [] (suc n) message is = absurd (omega (arith, is))
-get_last (one ∷ messages) zero message is = absurd (omega (arith, is))
 get_last (one ∷ messages) (suc n) message is = get_last messages n message (omega (arith, is))
+get_last messages n message is = grind arith
 
 grown_get : (o : Option (List ℕ)) (before now : List (List ℕ)) (n : ℕ) (message : List ℕ) → Grown o before now → slice_get before n ≡ Some message → slice_get now n ≡ Some message
 grown_get o before now n message is get = grind (arith, get_more)
@@ -71,11 +67,11 @@ sent_row : Role → Option (List ℕ) → Option (List ℕ)
 sent_row Initiator ended = ended
 sent_row Responder ended = None
 
-took_grown : (role : Role) (turns : List Turn) (packet : List ℕ) → Grown (took_row role (ended_by (half_heard turns) packet)) (row role turns) (row role (Heard packet ∷ turns))
+took_grown : (role : Role) (turns : List Utterance) (packet : List ℕ) → Grown (took_row role (ended_by (half_heard turns) packet)) (row role turns) (row role (Heard packet ∷ turns))
 unfolding took_row
 took_grown role turns packet = grind (arith, heard_grown)
 
-sent_grown : (role : Role) (turns : List Turn) (packet : List ℕ) → Grown (sent_row role (ended_by (half_said turns) packet)) (row role turns) (row role (Said packet ∷ turns))
+sent_grown : (role : Role) (turns : List Utterance) (packet : List ℕ) → Grown (sent_row role (ended_by (half_said turns) packet)) (row role turns) (row role (Said packet ∷ turns))
 unfolding sent_row
 sent_grown role turns packet = grind (arith, said_grown)
 
@@ -97,18 +93,18 @@ record Sixth (o : Option (List ℕ)) (now : List (List ℕ)) : Type 0 where
 sixth_of : (o : Option (List ℕ)) (before now : List (List ℕ)) → Grown o before now → length before ≤ 5 → 6 ≤ length now → Sixth o now
 sixth_of o before now is few many = grind (arith, length-append, get_last)
 
-opened_spoke : (role : Role) (now : List Turn) (ended : Option (List ℕ)) (message : List ℕ) → ended ≡ Some message → slice_get (row role now) 5 ≡ Some message
+opened_spoke : (role : Role) (now : List Utterance) (ended : Option (List ℕ)) (message : List ℕ) → ended ≡ Some message → slice_get (row role now) 5 ≡ Some message
     → Spoke role now (opened_log (sid_in ended))
 opened_spoke role now ended message is sixth = grind arith
 
-pub took_opens : (role : Role) (turns : List Turn) (packet : List ℕ) → length (row role turns) ≤ 5 → 6 ≤ length (row role (Heard packet ∷ turns))
+pub took_opens : (role : Role) (turns : List Utterance) (packet : List ℕ) → length (row role turns) ≤ 5 → 6 ≤ length (row role (Heard packet ∷ turns))
     → Spoke role (Heard packet ∷ turns) (opened_log (opening_sid (half_heard turns) packet))
 took_opens role turns packet few many =
     let ended = ended_by (half_heard turns) packet in
     let sixth = sixth_of (took_row role ended) (row role turns) (row role (Heard packet ∷ turns)) (took_grown role turns packet) few many in
     opened_spoke role (Heard packet ∷ turns) ended sixth.message (took_some role ended sixth.message sixth.is) sixth.sixth
 
-pub sent_opens : (role : Role) (turns : List Turn) (packet : List ℕ) → length (row role turns) ≤ 5 → 6 ≤ length (row role (Said packet ∷ turns))
+pub sent_opens : (role : Role) (turns : List Utterance) (packet : List ℕ) → length (row role turns) ≤ 5 → 6 ≤ length (row role (Said packet ∷ turns))
     → Spoke role (Said packet ∷ turns) (opened_log (opening_sid (half_said turns) packet))
 sent_opens role turns packet few many =
     let ended = ended_by (half_said turns) packet in
@@ -121,7 +117,7 @@ record SameTaking (v w : SessionLog) : Type 0 where
   asked : w.asked ≡ v.asked
   taken : w.taken ≡ v.taken
 
-same_spoke : (role : Role) (turns now : List Turn) (o : Option (List ℕ)) (v w : SessionLog) → Spoke role turns v → Grown o (row role turns) (row role now) → length (heard turns) ≤ length (heard now)
+same_spoke : (role : Role) (turns now : List Utterance) (o : Option (List ℕ)) (v w : SessionLog) → Spoke role turns v → Grown o (row role turns) (row role now) → length (heard turns) ≤ length (heard now)
     → SameTaking v w → Spoke role now w
 same_spoke role turns now o v w spoke grows more same = record {
   message = spoke.message;
@@ -137,13 +133,13 @@ said_same k message v = grind arith
 said_taking : (ended : Option (List ℕ)) (v : SessionLog) → SameTaking v (said_in ended v)
 said_taking ended v = grind (arith, said_same)
 
-pub sent_spoke : (role : Role) (turns : List Turn) (packet : List ℕ) (v : SessionLog) → Spoke role turns v → Spoke role (Said packet ∷ turns) (said_in (ended_by (half_said turns) packet) v)
+pub sent_spoke : (role : Role) (turns : List Utterance) (packet : List ℕ) (v : SessionLog) → Spoke role turns v → Spoke role (Said packet ∷ turns) (said_in (ended_by (half_said turns) packet) v)
 sent_spoke role turns packet v spoke =
     same_spoke role turns (Said packet ∷ turns) (sent_row role (ended_by (half_said turns) packet)) v (said_in (ended_by (half_said turns) packet) v) spoke (sent_grown role turns packet)
     (omega arith) (said_taking (ended_by (half_said turns) packet) v)
 
 -- one more INFO comes behind the six of the handshake
-kind_spoke : (k : Spoken) (role : Role) (slots : ℕ) (turns now : List Turn) (o : Option (List ℕ)) (message : List ℕ) (v : SessionLog) → Spoke role turns v → Grown o (row role turns) (row role now)
+kind_spoke : (k : Spoken) (role : Role) (slots : ℕ) (turns now : List Utterance) (o : Option (List ℕ)) (message : List ℕ) (v : SessionLog) → Spoke role turns v → Grown o (row role turns) (row role now)
     → heard now ≡ heard turns ++ message ∷ [] → 6 ≤ length (heard turns) → Spoke role now (heard_kind slots k message v)
 kind_spoke RangeInfo role slots turns now o message v spoke grows is six = record {
   message = spoke.message;
@@ -152,30 +148,25 @@ kind_spoke RangeInfo role slots turns now o message v spoke grows is six = recor
   quiet = λ none. absurd (omega (arith, none));
   many = λ some. omega (arith, six, ap length is, length-append (heard turns) (message ∷ []));
 }
-kind_spoke GroupsNack role slots turns now o message v spoke grows is six =
-    same_spoke role turns now o v v spoke grows (omega (arith, ap length is, length-append (heard turns) (message ∷ []))) (record { sid = refl; asked = refl; taken = refl })
-kind_spoke Other role slots turns now o message v spoke grows is six =
-    same_spoke role turns now o v v spoke grows (omega (arith, ap length is, length-append (heard turns) (message ∷ []))) (record { sid = refl; asked = refl; taken = refl })
-kind_spoke k role slots turns now o message v spoke grows is six =
-    same_spoke role turns now o v (heard_kind slots k message v) spoke grows (omega (arith, ap length is, length-append (heard turns) (message ∷ []))) (record { sid = refl; asked = refl; taken = refl })
+kind_spoke k role slots turns now o message v spoke grows is six = grind (arith, same_spoke, length-append)
 
-ended_spoke : (ended : Option (List ℕ)) (role : Role) (slots : ℕ) (turns now : List Turn) (o : Option (List ℕ)) (v : SessionLog) → Spoke role turns v → Grown o (row role turns) (row role now)
+ended_spoke : (ended : Option (List ℕ)) (role : Role) (slots : ℕ) (turns now : List Utterance) (o : Option (List ℕ)) (v : SessionLog) → Spoke role turns v → Grown o (row role turns) (row role now)
     → Grown ended (heard turns) (heard now) → 6 ≤ length (heard turns) → Spoke role now (heard_in slots ended v)
 ended_spoke ended role slots turns now o v spoke grows is six = grind (arith, same_spoke, kind_spoke)
 
-pub took_spoke : (role : Role) (slots : ℕ) (turns : List Turn) (packet : List ℕ) (v : SessionLog) → Spoke role turns v → 6 ≤ length (heard turns)
+pub took_spoke : (role : Role) (slots : ℕ) (turns : List Utterance) (packet : List ℕ) (v : SessionLog) → Spoke role turns v → 6 ≤ length (heard turns)
     → Spoke role (Heard packet ∷ turns) (heard_in slots (ended_by (half_heard turns) packet) v)
 took_spoke role slots turns packet v spoke six =
     ended_spoke (ended_by (half_heard turns) packet) role slots turns (Heard packet ∷ turns) (took_row role (ended_by (half_heard turns) packet)) v spoke (took_grown role turns packet)
     (heard_grown turns packet) six
 
 -- it publishes, or takes a frame
-pub published_spoke : (role : Role) (turns : List Turn) (v : SessionLog) → Spoke role turns v → Spoke role turns (record v { published = v.published + 1 })
+pub published_spoke : (role : Role) (turns : List Utterance) (v : SessionLog) → Spoke role turns v → Spoke role turns (record v { published = v.published + 1 })
 published_spoke role turns v spoke = record { message = spoke.message; sixth = spoke.sixth; sid = spoke.sid; quiet = spoke.quiet; many = spoke.many }
 
-pub frame_spoke : (role : Role) (turns : List Turn) (v : SessionLog) → v.asked ≡ v.acks + 1 → Spoke role turns v → Spoke role turns (record v { taken = v.taken + 1 })
+pub frame_spoke : (role : Role) (turns : List Utterance) (v : SessionLog) → v.asked ≡ v.acks + 1 → Spoke role turns v → Spoke role turns (record v { taken = v.taken + 1 })
 frame_spoke role turns v active spoke = grind arith
 
 -- ONE SID of both, where one heard a front of what the other said
-pub same_sid : (asks answers : List Turn) (v w : SessionLog) (more : List (List ℕ)) → said asks ≡ heard answers ++ more → Spoke Initiator asks v → Spoke Responder answers w → v.sid ≡ w.sid
+pub same_sid : (asks answers : List Utterance) (v w : SessionLog) (more : List (List ℕ)) → said asks ≡ heard answers ++ more → Spoke Initiator asks v → Spoke Responder answers w → v.sid ≡ w.sid
 same_sid asks answers v w more front one other = grind (arith, get_more)

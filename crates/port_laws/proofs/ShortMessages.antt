@@ -1,5 +1,5 @@
 -- A message of a port's session has at most 56 bytes.
-use Rattle.std.proofs.Common.{◌≡◌, ℕ, zero, suc, ◌+◌, ◌*◌, ◌≤◌, List, [], ◌∷◌, ◌++◌, length, replicate, drop, refl, arith}
+use Rattle.std.proofs.Common.{◌≡◌, ℕ, zero, suc, ◌+◌, ◌*◌, ◌≤◌, List, [], ◌∷◌, length, drop, refl, arith}
 use Rattle.std.specs.List.{flat_map}
 use Rattle.std.proofs.lemmas.List.{length-append, length-take}
 use Rattle.vio_tag.proofs.Canonical.{length_canonical}
@@ -16,10 +16,7 @@ joined addresses = flat_map (λ (address : List ℕ). address) addresses
 
 joined_long : (addresses : List (List ℕ)) → AreShort addresses → length (joined addresses) ≤ 6 * length addresses
 joined_long [] short = omega arith
-joined_long (address ∷ addresses) short =
-    let rest = joined_long addresses short.1 in
-    let first = short.0 in
-    omega (arith, length-append address (joined addresses))
+joined_long (address ∷ addresses) short = grind (arith, joined_long addresses short.1, short.0, length-append)
 
 seven_short : (n : ℕ) (groups : List (List ℕ)) → AreShort groups → AreShort (seven n groups)
 seven_short zero groups short = tt
@@ -40,13 +37,9 @@ pub read_long : (n at : ℕ) (bytes : List ℕ) → length (addresses_at at n by
 read_long zero at bytes = refl
 read_long (suc n) at bytes = let rest = read_long n (at + 6) bytes in omega arith
 
-groups_long : (set count : ℕ) (addresses : List (List ℕ)) → length addresses ≤ 7 → AreShort addresses
-    → length (joined addresses ++ replicate 4 0) ≤ 46
-groups_long set count addresses few short = grind (arith, joined_long, length-append)
-
 pub groups_short : (sid set count : ℕ) (addresses : List (List ℕ)) (message : Message) → length addresses ≤ 7 → AreShort addresses
     → message.body ≡ Mcast set count addresses → length (canonical message) ≤ 56
-groups_short sid set count addresses message few short is = grind (arith, length_canonical, groups_long)
+groups_short sid set count addresses message few short is = grind (arith, length_canonical, joined_long, length-append)
 
 pub membership_short : (sid : ℕ) (groups : List (List ℕ)) → AreShort groups → length (canonical (membership sid groups)) ≤ 56
 membership_short sid groups short =

@@ -60,10 +60,7 @@ first_two : (a b c d : Bool) → (a && b && c && d) ≡ true → (a && b) ≡ tr
 first_two a b c d is = grind arith
 
 frame_long : (size : ℕ) (buffer : List ℕ) → holds_size size ≡ true → length buffer ≡ moved_size size → IsFrame (frame_in size buffer)
-frame_long size buffer fits long =
-    let both = sized size fits in
-    let all : length (frame_in size buffer) ≡ size = length-range_at 6 size buffer (omega (arith, long)) in
-    record { least = omega (arith, all, both.0); most = omega (arith, all, both.1) }
+frame_long size buffer fits long = grind (arith, sized size fits, length-range_at 6 size buffer (omega (arith, long)))
 
 copied_fits : (s : NetEndState) (reach : Reach) (slot : ℕ) (desc : NetDesc) (why : Option CopyFault) → holds_frame desc ≡ true → frame_fault reach desc ≡ why → Fits (copied s reach slot desc why)
 copied_fits s reach slot desc None holds is =

@@ -1,11 +1,10 @@
 -- A step of an end is counted by its log as the end counts it, and stands where its laws let it.
-use Rattle.std.proofs.Common.{◌≡◌, ℕ, ◌+◌, ◌-◌, ◌<◌, ◌≤◌, Bool, true, Option, Some, List, [], length, refl, sym, subst, ap, ◌∙◌, arith}
-use Rattle.std.specs.Prelude.{◌%◌}
+use Rattle.std.proofs.Common.{◌≡◌, ℕ, ◌+◌, ◌-◌, ◌<◌, Bool, true, Option, Some, List, [], refl, sym, subst, arith}
 use Rattle.std.proofs.Math.Nat.{mod-add-mod}
 use Rattle.ldc_link.specs.Calls.{Puts as PutsPacket}
 use Rattle.ldc_link.specs.declared.phase.Role.{Role}
 use Rattle.ldc_link.specs.Putting.{behind_put}
-use Rattle.ldc_queue.specs.Transcript.{Turn}
+use Rattle.ldc_queue.specs.Transcript.{Utterance}
 use Rattle.vio_handshake.specs.declared.handshake.Phase.{Phase}
 use Rattle.channel_model.specs.Messages.{ended_by, opening_sid}
 use Rattle.channel_model.specs.Sayings.{half_heard, half_said}
@@ -25,17 +24,17 @@ use Rattle.port_model.specs.EndLog.{EndLog, SessionLog, ends_log, publishes_log,
 use Rattle.port_model.specs.FramesStand.{CountsStand, FramesStand}
 use Rattle.port_model.specs.NetEndPutting.{net_opens, net_put}
 use Rattle.port_model.specs.NetEndRule.{Fetches, Publishes, Takes, port_rule}
-use Rattle.port_model.specs.NetEndState.{Activity, NetEndState, NetSession, joined_net_end, kept_groups, unseen}
+use Rattle.port_model.specs.NetEndState.{Activity, NetEndState, NetSession, joined_net_end, unseen}
 use Rattle.port_model.specs.NetEndStep.{Blocked, Frame, Idle, Joined, NetAnswer, NetEndStep, NetLeft, NetSends, Published, Reset, Sent, Took, published, taken}
 use Rattle.port_model.specs.PortLog.{after_answer}
 use Rattle.port_model.specs.RuleFacts.{IfOpen}
-use Rattle.port_laws.specs.Counted.{EndCounts, GuestGroups, LastCounts, NoneTold}
+use Rattle.port_laws.specs.Counted.{EndCounts, GuestGroups, LastCounts}
 use Rattle.port_laws.specs.NetCore.{net_core}
 use Rattle.port_laws.specs.NetFits.{NetFits}
 use Rattle.port_laws.proofs.EndCounting.{empty_unsaid, frames_leave, gone_within, guest_same, open_counts, shut_counts, open_empty}
 use Rattle.port_laws.proofs.EndMoves.{HeldCore, held_core, puts_behind, says_core, waits_core}
 use Rattle.channel_laws.proofs.HandshakeFitting.{same_fits}
-use Rattle.channel_laws.specs.HandshakeFits.{HandshakeFits, takes_ring}
+use Rattle.channel_laws.specs.HandshakeFits.{HandshakeFits}
 use Rattle.port_model.specs.Offers.{port_offer}
 use Rattle.port_laws.proofs.HeldCounts.{SlotsFit, held_counts}
 use Rattle.port_laws.proofs.OwedSays.{OwesNoGroups}
@@ -44,7 +43,7 @@ use Rattle.port_laws.proofs.TookCounts.{TookCounts, free_empty, session_open, to
 use Rattle.port_laws.proofs.LaneMoves.{holds_up}
 
 -- WHAT IS KNOWN of an end that makes a step
-pub record Acting (role : Role) (slots : ℕ) (queue : List (List ℕ)) (s : NetEndState) (l : EndLog) (turns : List Turn) : Type 0 where
+pub record Acting (role : Role) (slots : ℕ) (queue : List (List ℕ)) (s : NetEndState) (l : EndLog) (turns : List Utterance) : Type 0 where
   pub counts : EndCounts role slots queue s l
   pub stands : FramesStand s
   pub fits : NetFits role s
@@ -60,19 +59,13 @@ counts_stand s p stands is = subst (λ (x : Option NetSession). IfOpen x (Counts
 kept : (role : Role) (s : NetEndState) → GuestGroups role s.groups → GuestGroups role (joined_net_end role s).groups
 kept role s groups = grind arith
 
-none_kept : (role : Role) (groups : List (List ℕ)) → NoneTold role (kept_groups role groups)
-none_kept role groups = grind arith
-
-lost_all : (role : Role) (slots : ℕ) (queue : List (List ℕ)) (s : NetEndState) (l : EndLog) → EndCounts role slots queue s l → FramesStand s → (session : Option NetSession) → s.session ≡ session
-    → (l.published ≡ l.gone + unseen session) × (unseen session ≤ length s.frames)
-lost_all role slots queue s l counts stands session is = grind (arith, shut_counts, open_counts, counts_stand)
-
 pub begins_counts : (role : Role) (slots : ℕ) (queue : List (List ℕ)) (s : NetEndState) (l : EndLog) (lost : ℕ) → EndCounts role slots queue s l → FramesStand s → lost ≡ unseen s.session
     → EndCounts role slots queue (joined_net_end role s) (ends_log lost l)
-begins_counts role slots queue s l lost counts stands is = grind (arith, lost_all, frames_leave, gone_within, kept, none_kept)
+begins_counts role slots queue s l lost counts stands is =
+    grind (arith, shut_counts, open_counts, counts_stand, frames_leave, gone_within, kept)
 
 -- IT PUTS
-sent_counts : (role : Role) (slots : ℕ) (queue : List (List ℕ)) (s : NetEndState) (l : EndLog) (turns : List Turn) (at : Seen) (memory : List ℕ) (reach : Reach) (packet : List ℕ) (opens : Bool)
+sent_counts : (role : Role) (slots : ℕ) (queue : List (List ℕ)) (s : NetEndState) (l : EndLog) (turns : List Utterance) (at : Seen) (memory : List ℕ) (reach : Reach) (packet : List ℕ) (opens : Bool)
     (t : NetLeft) (sid : ℕ) → Acting role slots queue s l turns → (step : NetSends role s at memory reach packet opens t) → PutCounts role slots queue step.held t.end l turns packet opens sid
 sent_counts role slots queue s l turns at memory reach packet opens t sid acting step =
     let held : NetEndState = step.held in
@@ -90,8 +83,7 @@ sent_counts role slots queue s l turns at memory reach packet opens t sid acting
     let what : PutWhat role (net_core role held) turns packet (net_opens held) (net_core role (net_put role held)) =
     end_put role (net_core role s) (net_core role (net_put role held)) turns packet (net_opens held) (says_core role s held packet core puts) held_stands in
     let here : PutCounts role slots queue held (net_put role held) l turns packet (net_opens held) sid = put_counts role slots queue held l turns packet sid counts held_stands keeps.owed none what in
-    subst (λ (b : Bool). PutCounts role slots queue held t.end l turns packet b sid) (sym step.opens_is)
-    (subst (λ (x : NetLeft). PutCounts role slots queue held x.end l turns packet (net_opens held) sid) (sym step.is) here)
+    grind arith
 
 -- IT PUBLISHES
 published_counts : (role : Role) (slots : ℕ) (queue : List (List ℕ)) (s : NetEndState) (l : EndLog) (p : NetSession) → EndCounts role slots queue s l → s.session ≡ Some p → s.link.to_send ≡ []
@@ -102,26 +94,21 @@ published_counts role slots queue s l p counts is empty = grind (arith, empty_un
 last_before : (slots : ℕ) (v : SessionLog) (last : Option ℕ) → LastCounts slots v last → v.answered < v.taken + 1
 last_before slots v last is = grind arith
 
-next_place : (place taken slots peer : ℕ) → place ≡ taken % slots → peer ≡ slots → (place + 1) % peer ≡ (taken + 1) % slots
-next_place place taken slots peer is same = ap (λ (n : ℕ). (n + 1) % peer) is ∙ ap (λ (n : ℕ). (taken % slots + 1) % n) same ∙ mod-add-mod taken slots 1
-
 frame_counts : (role : Role) (slots : ℕ) (queue : List (List ℕ)) (s : NetEndState) (l : EndLog) (p : NetSession) (activity : Activity) (frame : List ℕ) → EndCounts role slots queue s l → s.session ≡ Some p
     → p.active ≡ Some activity → s.handshake.draft.peer_slots ≡ slots → s.link.to_send ≡ [] → EndCounts role slots queue (record s { session = Some (taken s p activity); last = frame }) (takes_log l)
-frame_counts role slots queue s l p activity frame counts is active peer empty = grind (arith, empty_unsaid, open_empty, next_place, last_before, guest_same)
+frame_counts role slots queue s l p activity frame counts is active peer empty =
+    grind (arith, empty_unsaid, open_empty, mod-add-mod, last_before, guest_same)
 
 -- in session it knows as many slots of the peer's ring as its own has
 named_open : (role : Role) (ph : Phase) → is_open_in ph ≡ true → has_named role ph ≡ true
 named_open role ph is = grind (arith, false_true)
 
-takes_both : (role : Role) → takes_ring role true ≡ true
-takes_both role = grind arith
-
-pub peer_slots_known : (role : Role) (slots : ℕ) (queue : List (List ℕ)) (s : NetEndState) (l : EndLog) (turns : List Turn) (p : NetSession) → Acting role slots queue s l turns → s.session ≡ Some p
+pub peer_slots_known : (role : Role) (slots : ℕ) (queue : List (List ℕ)) (s : NetEndState) (l : EndLog) (turns : List Utterance) (p : NetSession) → Acting role slots queue s l turns → s.session ≡ Some p
     → s.handshake.draft.peer_slots ≡ slots
-peer_slots_known role slots queue s l turns p acting is = grind (arith, takes_both, named_open, session_open)
+peer_slots_known role slots queue s l turns p acting is = grind (arith, named_open, session_open)
 
 -- IT IS UP where it puts, and takes what waits
-pub took_here : (role : Role) (slots : ℕ) (queue : List (List ℕ)) (s : NetEndState) (l : EndLog) (turns : List Turn) (at : Seen) (memory : List ℕ) (reach : Reach) (packet : List ℕ) (opens : Bool)
+pub took_here : (role : Role) (slots : ℕ) (queue : List (List ℕ)) (s : NetEndState) (l : EndLog) (turns : List Utterance) (at : Seen) (memory : List ℕ) (reach : Reach) (packet : List ℕ) (opens : Bool)
     (t : NetLeft) (sid : ℕ) → Acting role slots queue s l turns → NetEndStep role s at memory reach (Took packet opens) t → TookCounts role slots queue s t.end l turns packet opens sid
 took_here role slots queue s l turns at memory reach packet opens t sid acting step =
     let says = says_of role s at (Takes packet) step.0 in
@@ -132,7 +119,7 @@ took_here role slots queue s l turns at memory reach packet opens t sid acting s
 abbrev LeftCounts : Role → ℕ → List (List ℕ) → EndLog → NetLeft → Type 0
 LeftCounts role slots queue l left = EndCounts role slots queue left.end l
 
-pub step_counts : (role : Role) (slots : ℕ) (queue : List (List ℕ)) (s : NetEndState) (l : EndLog) (turns : List Turn) (at : Seen) (memory : List ℕ) (reach : Reach) (answer : NetAnswer) (t : NetLeft)
+pub step_counts : (role : Role) (slots : ℕ) (queue : List (List ℕ)) (s : NetEndState) (l : EndLog) (turns : List Utterance) (at : Seen) (memory : List ℕ) (reach : Reach) (answer : NetAnswer) (t : NetLeft)
     → EndCounts role slots queue s l → FramesStand s → (is_up at.state ≡ true → Acting role slots queue s l turns) → NetEndStep role s at memory reach answer t
     → EndCounts role slots queue t.end (after_answer slots turns answer l)
 step_counts role slots queue s l turns at memory reach (Joined lost) t counts stands acts step =
@@ -149,9 +136,7 @@ step_counts role slots queue s l turns at memory reach Blocked t counts stands a
 step_counts role slots queue s l turns at memory reach Idle t counts stands acts step = subst (LeftCounts role slots queue l) (sym step.1) counts
 step_counts role slots queue s l turns at memory reach (Published id) t counts stands acts step =
     let says = says_of role s at (Publishes step.session step.frame) step.rule in
-    let acting : Acting role slots queue s l turns = acts says.0.in_session.free.up in
-    subst (LeftCounts role slots queue (publishes_log l)) (sym step.is)
-    (published_counts role slots queue s l step.session acting.counts says.0.in_session.session (free_empty role s turns acting.ends says.0.in_session.free.quiet))
+    grind (arith, published_counts, free_empty)
 step_counts role slots queue s l turns at memory reach (Frame frame) t counts stands acts step =
     let says = says_of role s at (Fetches step.session step.activity) step.rule in
     let acting : Acting role slots queue s l turns = acts says.0.free.up in
@@ -162,7 +147,7 @@ step_counts role slots queue s l turns at memory reach (Reset cause packet lost)
     subst (LeftCounts role slots queue (ends_log lost l)) (sym step.2) (begins_counts role slots queue s l lost counts stands step.1)
 
 -- what a packet ends that was put
-pub sent_right : (role : Role) (slots : ℕ) (queue : List (List ℕ)) (s : NetEndState) (l : EndLog) (turns : List Turn) (at : Seen) (memory : List ℕ) (reach : Reach) (packet : List ℕ) (opens : Bool)
+pub sent_right : (role : Role) (slots : ℕ) (queue : List (List ℕ)) (s : NetEndState) (l : EndLog) (turns : List Utterance) (at : Seen) (memory : List ℕ) (reach : Reach) (packet : List ℕ) (opens : Bool)
     (t : NetLeft) → Acting role slots queue s l turns → (step : NetSends role s at memory reach packet opens t) → SaidRight slots step.held.groups l (ended_by (half_said turns) packet)
 sent_right role slots queue s l turns at memory reach packet opens t acting step =
     (sent_counts role slots queue s l turns at memory reach packet opens t 0 acting step).right

@@ -1,18 +1,18 @@
 -- What an end of a port in session, which nobody forged, notes of the packet that it takes.
-use Rattle.std.proofs.Common.{◌≡◌, ℕ, ◌+◌, ◌*◌, ◌⊎◌, Bool, true, false, Some, None, List, [], ◌∷◌, ◌++◌, length, inl, inr, refl, sym, subst, ap, ◌∙◌, arith}
-use Rattle.std.specs.Prelude.{◌==◌, if◌then◌else◌, ◌≤◌, zero, suc, drop, take as first_of}
+use Rattle.std.proofs.Common.{◌≡◌, ℕ, ◌+◌, ◌*◌, ◌⊎◌, Bool, true, false, Some, List, [], ◌∷◌, ◌++◌, length, inl, inr, refl, sym, subst, ap, ◌∙◌, arith}
+use Rattle.std.specs.Prelude.{◌==◌, ◌≤◌, zero, suc, drop, take as first_of}
 use Rattle.std.proofs.lemmas.Bool.{eq-eqb}
 use Rattle.std.proofs.lemmas.List.{length-append, length-drop, length-take}
 use Rattle.std.specs.List.{flat_map}
 use Rattle.ldc_link.specs.declared.phase.Role.{Role}
 use Rattle.ldc_link.specs.declared.phase.Role.TheVariants.{Initiator, Responder}
 use Rattle.ldc_packet.specs.declared.packet.Subtype.{Subtype}
-use Rattle.ldc_packet.specs.declared.packet.Subtype.TheVariants.{Ack, Info}
+use Rattle.ldc_packet.specs.declared.packet.Subtype.TheVariants.{Ack}
 use Rattle.ldc_queue.specs.declared.end.ChannelState.TheVariants.{Up}
 use Rattle.ldc_queue.specs.OneStream.{IsFront}
-use Rattle.ldc_queue.specs.Transcript.{Turn}
+use Rattle.ldc_queue.specs.Transcript.{Utterance}
 use Rattle.vio_handshake.specs.declared.session.Offer.{Offer}
-use Rattle.vio_handshake.specs.Rules.{is_declined, sid_fault}
+use Rattle.vio_handshake.specs.Rules.{is_declined}
 use Rattle.vio_tag.specs.declared.message.Message.{Message}
 use Rattle.vio_tag.specs.declared.message.MsgBody.{MsgBody}
 use Rattle.vio_tag.specs.declared.message.MsgBody.TheVariants.{Mcast}
@@ -25,10 +25,10 @@ use Rattle.channel_laws.specs.EndStep.{IsOfSession}
 use Rattle.channel_laws.specs.Sides.{Sides}
 use Rattle.port_model.specs.Groups.{groups_after}
 use Rattle.port_model.specs.NetEndState.{GroupsReply, NetEndState, NetSession, with_session}
-use Rattle.port_model.specs.NetEndTaking.{GoesOn, NetTake, active, hears_message, in_session, replying, takes_groups}
+use Rattle.port_model.specs.NetEndTaking.{GoesOn, NetTake, active, hears_message, in_session, replying}
 use Rattle.port_model.specs.Spoken.{addresses_of, count_of, set_of, seven_of}
 use Rattle.port_laws.proofs.HearsIn.{HearsOne, OwnRead, decodes_as, own_read}
-use Rattle.port_laws.proofs.MessageDoes.{Acks, Asks, Declines, MessageDoes, Names, Told}
+use Rattle.port_laws.proofs.MessageDoes.{Acks, Asks, MessageDoes, Names, Told, Declines}
 use Rattle.port_laws.proofs.Outbox.{MessageFits, is_groups}
 use Rattle.port_laws.proofs.PeerOpens.{TwoEnds}
 use Rattle.port_laws.proofs.GroupsExchanged.{ReplyAgrees}
@@ -45,26 +45,21 @@ fitting_long role sid bytes given given_2 = grind arith
 pub next_read : (asks answers : Offer) (role r : Role) (s : Sides) (bytes : List ℕ) (sid : ℕ) → (two_ends : TwoEnds asks answers role s) → s.mine.state ≡ Up → s.mine.core.is_open ≡ true → s.theirs.state ≡ Up
     → IsFront (heard s.mine.turns ++ bytes ∷ []) (said s.theirs.turns) → MessageFits r sid bytes → OwnRead bytes two_ends.meets.handshakes.sid
 next_read asks answers role r s bytes sid two_ends up opened other_up front fits =
+    let by_code : (code : ℕ) → envelope_at bytes ≡ code → (code ≡ 0x0042) ⊎ (code ≡ 0x0101) → (envelope_at bytes ≡ 0x0042) ⊎ (envelope_at bytes ≡ 0x0101) = λ code is given.
+    grind arith in
     let own = next_is_own asks answers role s bytes two_ends up opened other_up front in
     let envelope : envelope_at bytes ≡ envelope_code own.message.body = ap envelope_at own.is ∙ envelope_reads own.message own.body in
     own_read (deal asks answers two_ends.meets.handshakes.sid) bytes own two_ends.meets.handshakes.small
     (fitting_long r sid bytes fits (by_code (envelope_code own.message.body) envelope (own_code own.message.body own.body)))
-  where
-    by_code : (code : ℕ) → envelope_at bytes ≡ code → (code ≡ 0x0042) ⊎ (code ≡ 0x0101) → (envelope_at bytes ≡ 0x0042) ⊎ (envelope_at bytes ≡ 0x0101)
-    by_code code is (inl one) = inl (is ∙ one)
-    by_code code is (inr two) = inr (is ∙ two)
 
 -- so it is taken as the session does
 pub record InSession (role : Role) (s : NetEndState) (p : NetSession) (memory : List ℕ) (message : Message) (take : NetTake) : Type 0 where
   pub hears : take ≡ hears_message role s memory (Some p) message
   pub is : take ≡ in_session role s p memory message message.subtype message.body
 
-same_number : (n : ℕ) → sid_fault (Some n) n ≡ None
-same_number n = ap (λ (b : Bool). if b then None else Some (the_cause.Sid n n)) (eq-eqb n n refl)
-
-pub in_own_session : (role : Role) (s : NetEndState) (p : NetSession) (memory packet : List ℕ) (turns : List Turn) (take : NetTake) (sid : ℕ) → (one : HearsOne role s memory turns packet take)
+pub in_own_session : (role : Role) (s : NetEndState) (p : NetSession) (memory packet : List ℕ) (turns : List Utterance) (take : NetTake) (sid : ℕ) → (one : HearsOne role s memory turns packet take)
     → s.session ≡ Some p → s.handshake.sid ≡ Some sid → (own : OwnRead one.bytes sid) → InSession role (record s { link = one.link }) p memory own.message take
-in_own_session role s p memory packet turns take sid one session knows own = grind (arith, decodes_as, same_number)
+in_own_session role s p memory packet turns take sid one session knows own = grind (arith, decodes_as, eq-eqb)
 
 -- WHAT THE GUEST NOTES
 pub record GuestNotes (s t : NetEndState) (p q : NetSession) (m : List ℕ) : Type 0 where
@@ -184,13 +179,9 @@ hub_notes s t p memory new m message opens of spells long learns goes (Acks seq 
 hub_notes s t p memory new m message opens of spells long learns goes (Names set count addresses groups reply answers role info body same is) =
     let named : envelope_at m ≡ 0x0101 = spells.envelope ∙ ap envelope_code body in
     let fields : SpellsBody m (Mcast set count addresses) = subst (SpellsBody m) body spells.body in
-    let known : groups_after set count addresses s.groups ≡ Some (addresses_of m) =
-    ap (λ (n : ℕ). groups_after n count addresses s.groups) fields.0 ∙ ap (λ (n : ℕ). groups_after (set_of m) n addresses s.groups) fields.1
-    ∙ ap (λ (xs : List (List ℕ)). groups_after (set_of m) (count_of m) xs s.groups) fields.2 ∙ learns named in
+    let known : groups_after set count addresses s.groups ≡ Some (addresses_of m) = grind arith in
     let answer : GroupsReply = record { subtype = Ack; set = set; count = count; addresses = addresses } in
-    let takes : GoesOn t opens new ≡ GoesOn (with_session (replying answer p) (record s { groups = addresses_of m })) false memory =
-    goes ∙ ap (λ (x : Subtype). in_session Responder s p memory message x message.body) info ∙ ap (in_session Responder s p memory message Info) body
-    ∙ ap (takes_groups s p memory set count addresses) known in
+    let takes : GoesOn t opens new ≡ GoesOn (with_session (replying answer p) (record s { groups = addresses_of m })) false memory = grind arith in
     let left : t ≡ with_session (replying answer p) (record s { groups = addresses_of m }) = cc takes in (
       replying answer p,
       inr (record {

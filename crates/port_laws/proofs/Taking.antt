@@ -13,7 +13,7 @@ use Rattle.vio_tag.specs.declared.message.MsgBody.{MsgBody}
 use Rattle.vio_tag.specs.declared.message.MsgBody.TheVariants.{Mcast}
 use Rattle.channel_laws.specs.EndStep.{HandshakeTakes, HearsOwn, IsOfSession, IsOwn}
 use Rattle.port_model.specs.NetEndState.{NetEndState, NetSession}
-use Rattle.port_model.specs.NetEndTaking.{GoesOn, NetTake, Resets, by_handshake, hears_message, in_session, opens_by_take, refused, sid_first, takes_ack, takes_done, takes_groups, takes_info, told}
+use Rattle.port_model.specs.NetEndTaking.{GoesOn, NetTake, Resets, by_handshake, hears_message, in_session, opens_by_take, refused, sid_first, takes_done, takes_groups, takes_info, told}
 use Rattle.port_laws.specs.NetCore.{net_core}
 use Rattle.port_laws.specs.NetFits.{AreShort, NetFits, SessionFits}
 
@@ -76,10 +76,6 @@ done_goes : (role : Role) (s : NetEndState) (message : Message) (p : NetSession)
     → TakeGoes role s message (takes_done s p memory count fault)
 done_goes role s message p memory count fault given own = grind (arith, resets_own, goes_own, reply_fits)
 
-ack_goes : (role : Role) (s : NetEndState) (message : Message) (p : NetSession) (memory : List ℕ) (ident start end : ℕ) → NetFits role s → OwnMessage s message p
-    → TakeGoes role s message (takes_ack s p memory ident start end)
-ack_goes role s message p memory ident start end given own = grind (arith, take_if, resets_own, done_goes)
-
 groups_goes : (s : NetEndState) (message : Message) (p : NetSession) (memory : List ℕ) (set count : ℕ) (addresses : List (List ℕ)) (groups : Option (List (List ℕ))) → OwnMessage s message p
     → (length addresses ≤ 7) × AreShort addresses → TakeGoes Responder s message (takes_groups s p memory set count addresses groups)
 groups_goes s message p memory set count addresses groups own short = grind (arith, goes_own)
@@ -98,7 +94,8 @@ of_body s message p b session sid is of_session = record { session = session; si
 in_goes : (role : Role) (s : NetEndState) (p : NetSession) (memory : List ℕ) (message : Message) (subtype : Subtype) (b : MsgBody) → NetFits role s → BodyFits b
     → s.session ≡ Some p → sid_fault s.handshake.sid message.sid ≡ None → message.body ≡ b
     → TakeGoes role s message (in_session role s p memory message subtype b)
-in_goes role s p memory message subtype b given short session sid is = grind (arith, info_goes, of_body, ack_goes, resets_own, groups_goes, told_goes, refused_goes, handshake_goes)
+in_goes role s p memory message subtype b given short session sid is =
+    grind (arith, info_goes, of_body, take_if, resets_own, done_goes, groups_goes, told_goes, refused_goes, handshake_goes)
 
 sid_goes : (role : Role) (s : NetEndState) (message : Message) (fault : Option Cause) (rest : NetTake) → sid_fault s.handshake.sid message.sid ≡ fault
     → (sid_fault s.handshake.sid message.sid ≡ None → TakeGoes role s message rest) → TakeGoes role s message (sid_first fault rest)

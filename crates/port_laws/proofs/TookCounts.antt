@@ -1,15 +1,14 @@
 -- A packet that an end takes is counted by its log as the end counts it.
 use Rattle.std.proofs.Common.{◌≡◌, ℕ, ◌+◌, Bool, true, false, Option, Some, None, List, [], ◌∷◌, ◌++◌, length, refl, sym, subst, ap, ◌∙◌, arith, length-append}
-use Rattle.std.specs.Prelude.{◌&&◌, is_some, not, if◌then◌else◌, Result, Ok, Err}
+use Rattle.std.specs.Prelude.{◌&&◌, is_some, Result, Ok, Err}
 use Rattle.ldc_link.specs.declared.phase.Role.{Role}
-use Rattle.ldc_link.specs.declared.phase.Role.TheVariants.{Initiator, Responder}
 use Rattle.ldc_link.specs.LinkState.{LinkState, cleared, is_up}
 use Rattle.ldc_link.specs.Putting.{owes}
 use Rattle.ldc_link.specs.Taking.{Heard, LinkTake, TakesBytes, Unheard}
 use Rattle.ldc_queue.specs.Fragments.{fragment_at, is_part}
-use Rattle.ldc_queue.specs.Transcript.{Turn}
+use Rattle.ldc_queue.specs.Transcript.{Utterance}
 use Rattle.vio_handshake.specs.declared.handshake.Handshake.{Handshake}
-use Rattle.vio_handshake.specs.Rules.{Faults, Goes, GoesOpen, HandshakeTake, handshake_take}
+use Rattle.vio_handshake.specs.Rules.{HandshakeTake, handshake_take}
 use Rattle.vio_tag.specs.declared.message.Message.{Message}
 use Rattle.vio_tag.specs.declared.message.TagFault.{TagFault}
 use Rattle.vio_tag.specs.Decoding.{Decodes}
@@ -17,11 +16,11 @@ use Rattle.channel_model.specs.Messages.{ended_by, whole_with}
 use Rattle.channel_model.specs.Sayings.{half_heard, heard, whole_by, whole_past}
 use Rattle.channel_laws.proofs.EndStanding.{up_empty}
 use Rattle.channel_laws.proofs.LinkCases.{LinkHeard, link_heard}
-use Rattle.channel_laws.proofs.TurnCases.{HearsOn, hears_on}
+use Rattle.channel_laws.proofs.UtteranceCases.{HearsOn, hears_on}
 use Rattle.channel_laws.specs.Standing.{EndStands, is_open_in}
 use Rattle.port_model.proofs.FramesTaken.{stands_with}
 use Rattle.port_model.proofs.Refuting.{false_true, none_some, true_false}
-use Rattle.port_model.specs.EndLog.{EndLog, SessionLog, acked_in, change, heard_in, hears_log, opens_log}
+use Rattle.port_model.specs.EndLog.{EndLog, SessionLog, change, heard_in, hears_log, opens_log}
 use Rattle.port_model.specs.FramesStand.{FramesStand}
 use Rattle.port_model.specs.NetEndPutting.{cleared_ring}
 use Rattle.port_model.specs.NetEndState.{NetEndState, NetSession, opened_net_end}
@@ -36,21 +35,18 @@ use Rattle.port_laws.proofs.MessageDoes.{Does, TakeDoes, message_does}
 use Rattle.port_laws.proofs.PutCounts.{ended_if, opened_counts}
 
 -- A LINK THAT OWES NOTHING holds nothing
-pub free_empty : (role : Role) (s : NetEndState) (turns : List Turn) → EndStands role (net_core role s) turns → owes s.link ≡ false → s.link.to_send ≡ []
+pub free_empty : (role : Role) (s : NetEndState) (turns : List Utterance) → EndStands role (net_core role s) turns → owes s.link ≡ false → s.link.to_send ≡ []
 free_empty role s turns stands quiet = grind (arith, up_empty)
 
 -- in session it is up, and the handshake is open
-pub session_open : (role : Role) (s : NetEndState) (turns : List Turn) (p : NetSession) → EndStands role (net_core role s) turns → s.session ≡ Some p → is_open_in s.handshake.phase ≡ true
+pub session_open : (role : Role) (s : NetEndState) (turns : List Utterance) (p : NetSession) → EndStands role (net_core role s) turns → s.session ≡ Some p → is_open_in s.handshake.phase ≡ true
 session_open role s turns p stands is = sym stands.opened ∙ ap (λ (x : Option NetSession). is_some x) is
 
-pub session_up : (role : Role) (s : NetEndState) (turns : List Turn) (p : NetSession) → EndStands role (net_core role s) turns → s.session ≡ Some p → is_up s.link ≡ true
+pub session_up : (role : Role) (s : NetEndState) (turns : List Utterance) (p : NetSession) → EndStands role (net_core role s) turns → s.session ≡ Some p → is_up s.link ≡ true
 session_up role s turns p stands is = grind (arith, true_false, session_open)
 
-risen_if : (b a : Bool) (h g : Handshake) → a ≡ true → (if b && not a then g else h) ≡ h
-risen_if b a h g up = grind (arith, false_true)
-
 pub risen_up : (role : Role) (before behind : LinkState) (h : Handshake) → is_up before ≡ true → risen role before behind h ≡ h
-risen_up role before behind h up = grind (arith, risen_if)
+risen_up role before behind h up = grind (arith, false_true)
 
 -- WHAT THE PACKET ENDS is what became whole
 pub heard_send : (k m : LinkState) (packet : List ℕ) → LinkHeard k packet m → m.to_send ≡ k.to_send
@@ -59,9 +55,8 @@ heard_send k m packet given = grind arith
 unended : (part stop : Bool) (message : List ℕ) → (part ≡ true → stop ≡ true → ⊥) → whole_with (part && stop) message ≡ None
 unended part stop message never = grind arith
 
-whole_ended : (turns : List Turn) (packet : List ℕ) (whole : Option (List ℕ)) → HearsOn turns packet whole → ended_by (half_heard turns) packet ≡ whole
-whole_ended turns packet (Some message) on =
-    ended_if (is_part packet) (fragment_at packet).stop (half_heard turns ++ (fragment_at packet).bytes) on.ends.part on.ends.stop ∙ ap (λ (x : List ℕ). Some x) (sym on.ends.is)
+whole_ended : (turns : List Utterance) (packet : List ℕ) (whole : Option (List ℕ)) → HearsOn turns packet whole → ended_by (half_heard turns) packet ≡ whole
+whole_ended turns packet (Some message) on = grind (arith, ended_if)
 whole_ended turns packet None on =
     unended (is_part packet) (fragment_at packet).stop (half_heard turns ++ (fragment_at packet).bytes)
     (λ part stop.
@@ -79,14 +74,11 @@ change_same slots x = grind arith
 hears_none : (slots : ℕ) (l : EndLog) → hears_log slots None l ≡ l
 hears_none slots l = grind (arith, change_same)
 
-acked_none : (slots : ℕ) (whole : Option (List ℕ)) → acked_in slots whole None ≡ 0
-acked_none slots whole = grind arith
-
 hears_shut : (slots : ℕ) (whole : Option (List ℕ)) (l : EndLog) → l.session ≡ None → hears_log slots whole l ≡ l
-hears_shut slots whole l is = grind (arith, acked_none)
+hears_shut slots whole l is = grind arith
 
 -- AN END THAT TAKES
-pub record Taking (role : Role) (slots : ℕ) (queue : List (List ℕ)) (s : NetEndState) (l : EndLog) (turns : List Turn) : Type 0 where
+pub record Taking (role : Role) (slots : ℕ) (queue : List (List ℕ)) (s : NetEndState) (l : EndLog) (turns : List Utterance) : Type 0 where
   pub counts : EndCounts role slots queue s l
   pub stands : FramesStand s
   pub ends : EndStands role (net_core role s) turns
@@ -94,11 +86,11 @@ pub record Taking (role : Role) (slots : ℕ) (queue : List (List ℕ)) (s : Net
   pub listens : IfOpen s.session MayListen
 
 -- its counts after the packet; and no session opens where one is open
-pub record TookCounts (role : Role) (slots : ℕ) (queue : List (List ℕ)) (s t : NetEndState) (l : EndLog) (turns : List Turn) (packet : List ℕ) (opens : Bool) (sid : ℕ) : Type 0 where
+pub record TookCounts (role : Role) (slots : ℕ) (queue : List (List ℕ)) (s t : NetEndState) (l : EndLog) (turns : List Utterance) (packet : List ℕ) (opens : Bool) (sid : ℕ) : Type 0 where
   pub counts : EndCounts role slots queue t (opens_log opens sid (hears_log slots (ended_by (half_heard turns) packet) l))
   pub shut : (p : NetSession) → s.session ≡ Some p → opens ≡ false
 
-pub took_counts : (role : Role) (slots : ℕ) (queue : List (List ℕ)) (s t : NetEndState) (l : EndLog) (turns : List Turn) (memory packet : List ℕ) (opens : Bool) (new : List ℕ) (sid : ℕ)
+pub took_counts : (role : Role) (slots : ℕ) (queue : List (List ℕ)) (s t : NetEndState) (l : EndLog) (turns : List Utterance) (memory packet : List ℕ) (opens : Bool) (new : List ℕ) (sid : ℕ)
     → Taking role slots queue s l turns → NetTakes role s memory packet (GoesOn t opens new)
     → TookCounts role slots queue s t l turns packet opens sid
 took_counts role slots queue s t l turns memory packet opens new sid taking takes = by_link takes.link takes.takes takes.hears
@@ -115,26 +107,20 @@ took_counts role slots queue s t l turns memory packet opens new sid taking take
     -- the counts of the end with another link and handshake
     relinked : (u : NetEndState) → u.link.to_send ≡ [] → u.slots ≡ s.slots → u.frames ≡ s.frames → u.next_id ≡ s.next_id → u.groups ≡ s.groups → u.session ≡ s.session
         → EndCounts role slots queue u l
-    relinked u none same frames next groups session =
-        linked_counts role slots queue s u l taking.counts (empty_unsaid s empty) (empty_unsaid u none) same frames next groups session
+    relinked u none same frames next groups session = grind (arith, empty, linked_counts, empty_unsaid)
 
     -- where none opens
     goal_shut : (whole : Option (List ℕ)) → ended_by (half_heard turns) packet ≡ whole → opens ≡ false → EndCounts role slots queue t (hears_log slots whole l)
         → TookCounts role slots queue s t l turns packet opens sid
-    goal_shut whole ended shut counts = record {
-      counts = subst (λ (b : Bool). EndCounts role slots queue t (opens_log b sid (hears_log slots (ended_by (half_heard turns) packet) l))) (sym shut)
-          (subst (λ (x : Option (List ℕ)). EndCounts role slots queue t (hears_log slots x l)) (sym ended) counts);
-      shut = λ p is. shut;
-    }
+    goal_shut whole ended shut counts = grind arith
 
     none_whole : (k : LinkState) → LinkHeard s.link packet k → ended_by (half_heard turns) packet ≡ None → GoesOn t opens new ≡ GoesOn (after k) false memory
         → TookCounts role slots queue s t l turns packet opens sid
     none_whole k how ended is =
         let same : t ≡ after k = cc in
         let shut : opens ≡ false = cc in
-        goal_shut None ended shut
-        (subst (EndCounts role slots queue t) (sym (hears_none slots l))
-        (subst (λ (x : NetEndState). EndCounts role slots queue x l) (sym same) (relinked (after k) (heard_send s.link k packet how ∙ empty) refl refl refl refl refl)))
+        goal_shut None ended shut (subst (EndCounts role slots queue t) (sym (hears_none slots l))
+        (rw same (relinked (after k) (heard_send s.link k packet how ∙ empty) refl refl refl refl refl)))
 
     -- without a session
     shut_take : (k : LinkState) (bytes : List ℕ) → LinkHeard s.link packet k → ended_by (half_heard turns) packet ≡ Some bytes → s.session ≡ None → (take : HandshakeTake)
@@ -152,11 +138,7 @@ took_counts role slots queue s t l turns memory packet opens new sid taking take
 
         stays : (h : Handshake) → GoesOn t opens new ≡ GoesOn (with_shake h) false memory
             → TookCounts role slots queue s t l turns packet opens sid
-        stays h go =
-            let same : t ≡ with_shake h = cc in
-            let shut : opens ≡ false = cc in
-            goal_shut (Some bytes) ended shut
-            (subst (EndCounts role slots queue t) (sym (hears_shut slots (Some bytes) l gone.is)) (subst (λ (x : NetEndState). EndCounts role slots queue x l) (sym same) (here h)))
+        stays h go = grind (arith, gone, here, goal_shut, hears_shut)
 
         opened : (h : Handshake) → GoesOn t opens new ≡ GoesOn (opened_net_end (with_shake h)) true (cleared_ring s.slots memory)
             → TookCounts role slots queue s t l turns packet opens sid
@@ -173,14 +155,11 @@ took_counts role slots queue s t l turns memory packet opens new sid taking take
 
         by_role : (r : Role) (h : Handshake) → GoesOn t opens new ≡ opens_by_take r (with_shake h) memory
             → TookCounts role slots queue s t l turns packet opens sid
-        by_role Initiator h go = stays h go
-        by_role Responder h go = opened h go
+        by_role r h go = grind (arith, stays, opened)
 
         by_take : (x : HandshakeTake) → GoesOn t opens new ≡ by_handshake role (seen k) memory x
             → TookCounts role slots queue s t l turns packet opens sid
-        by_take (Goes h) go = stays h go
-        by_take (GoesOpen h) go = by_role role h go
-        by_take (Faults cause) go = absurd (cc go)
+        by_take x go = grind (arith, stays, by_role)
 
     -- in session
     open_take : (k : LinkState) (bytes : List ℕ) (m : Message) (p : NetSession) → LinkHeard s.link packet k → ended_by (half_heard turns) packet ≡ Some bytes → s.session ≡ Some p

@@ -6,7 +6,7 @@ use Rattle.ldc_link.specs.declared.phase.Role.{Role}
 use Rattle.ldc_link.specs.declared.phase.Role.TheVariants.{Initiator, Responder}
 use Rattle.ldc_link.specs.LinkState.{LinkState, cleared}
 use Rattle.ldc_link.specs.Taking.{Heard, LinkTake, Unheard}
-use Rattle.ldc_queue.specs.Transcript.{Turn}
+use Rattle.ldc_queue.specs.Transcript.{Utterance}
 use Rattle.vio_handshake.specs.declared.handshake.Handshake.{Handshake}
 use Rattle.vio_handshake.specs.Rules.{Faults, Goes, GoesOpen, HandshakeTake, handshake_take}
 use Rattle.vio_tag.specs.declared.cause.Cause.{Cause}
@@ -40,7 +40,7 @@ handshake_what role s memory k was (Goes h) none = Stays k h refl
 handshake_what role s memory k was (GoesOpen h) none = opens_what role s memory k h none
 handshake_what role s memory k was (Faults cause) none = Fails cause refl
 
-pub took_what : (role : Role) (s : NetEndState) (turns : List Turn) (memory packet : List ℕ) (take : NetTake) → EndStands role (net_core role s) turns → NetTakes role s memory packet take
+pub took_what : (role : Role) (s : NetEndState) (turns : List Utterance) (memory packet : List ℕ) (take : NetTake) → EndStands role (net_core role s) turns → NetTakes role s memory packet take
     → TookWhat role s memory take
 took_what role s turns memory packet take ends takes = by_link takes.link takes.hears
   where

@@ -1,5 +1,5 @@
 -- What is said and heard keeps what is on the way, whichever end says and hears it.
-use Rattle.std.proofs.Common.{◌≡◌, ℕ, ◌+◌, ◌-◌, ◌%◌, ◌<◌, ◌≤◌, ◌⊎◌, true, false, Option, Some, None, List, [], ◌∷◌, ◌++◌, inl, inr, refl, sym, ap, ◌∙◌, subst, arith, append_assoc}
+use Rattle.std.proofs.Common.{◌≡◌, ℕ, ◌+◌, ◌-◌, ◌%◌, ◌<◌, ◌≤◌, true, false, Option, Some, None, List, [], ◌∷◌, ◌++◌, inl, inr, refl, sym, ap, ◌∙◌, subst, arith, append_assoc}
 use Rattle.std.specs.Prelude.{⊤}
 use Rattle.std.proofs.lemmas.Bool.{cases_lt}
 use Rattle.std.proofs.lemmas.List.{append-nil, append_cancel_left}
@@ -71,18 +71,14 @@ pub record SameAnswers (v w : SessionLog) : Type 0 where
 pub way_as : (slots : ℕ) (v x w y : SessionLog) (infos infos_now acks acks_now : List (List ℕ)) → SameAsks v x → SameAnswers w y → infos_now ≡ infos → acks_now ≡ acks → Way slots v w infos acks
     → Way slots x y infos_now acks_now
 way_as slots v x w y infos infos_now acks acks_now one two i a (Rests asking asked acked answered taken none no_ack) =
-    let seen = one.seen in
-    let said = one.infos in
-    Rests (one.asking ∙ asking) (two.asked ∙ asked ∙ sym said) (two.acks ∙ acked ∙ sym said) (two.answered ∙ answered ∙ sym seen) (two.taken ∙ taken ∙ sym seen) (i ∙ none) (a ∙ no_ack)
+    grind (arith, one.seen, one.infos)
 way_as slots v x w y infos infos_now acks acks_now one two i a (Goes info asking asked acked answered taken some seq start end no_ack) =
     let seen = one.seen in
     let said = one.infos in
     Goes info (one.asking ∙ asking) (ap (λ (n : ℕ). n + 1) two.asked ∙ asked ∙ sym said) (two.acks ∙ acked ∙ sym two.asked) (two.answered ∙ answered ∙ sym seen) (two.taken ∙ taken ∙ sym seen) (i ∙ some)
     (seq ∙ ap wrapped (sym said)) (start ∙ ap (λ (n : ℕ). n % slots) (sym seen)) end (a ∙ no_ack)
 way_as slots v x w y infos infos_now acks acks_now one two i a (Works asking asked busy answered none no_ack) =
-    let seen = one.seen in
-    let said = one.infos in
-    Works (one.asking ∙ asking) (two.asked ∙ asked ∙ sym said) (two.asked ∙ busy ∙ ap (λ (n : ℕ). n + 1) (sym two.acks)) (two.answered ∙ answered ∙ sym seen) (i ∙ none) (a ∙ no_ack)
+    grind (arith, one.seen, one.infos)
 way_as slots v x w y infos infos_now acks acks_now one two i a (Comes ack asking asked acked answered some none one_ack start end) =
     let seen = one.seen in
     let said = one.infos in
@@ -111,36 +107,27 @@ swap_ways slots sa ha sb hb v w ways = record { going = ways.coming; coming = wa
 
 -- THE SLOTS OF AN ACK
 span_of : (n s d : ℕ) → 1 ≤ n → d < n → range_length n (s % n) ((s + d) % n) ≡ d + 1
-span_of n s d some small = by_wrap (cases_lt (s % n + d) n)
-  where
-    first : s % n < n
-    first = mod_below s n (omega (arith, some))
-
-    from : (s % n) % n ≡ s % n
-    from = mod-mod s n
-
-    last : (s + d) % n ≡ (s % n + d) % n
-    last = sym (mod-add-mod s n d)
-
-    by_wrap : (s % n + d < n) ⊎ (n ≤ s % n + d) → range_length n (s % n) ((s + d) % n) ≡ d + 1
-    by_wrap (inl within) =
-        let end : (s + d) % n ≡ s % n + d = last ∙ mod-eq_of_lt within in
-        let all : (s + d) % n + n - (s % n) % n ≡ d + n = omega (arith, end, from, first) in
-        ap (λ (m : ℕ). m % n + 1) all ∙ ap (λ (m : ℕ). m + 1) (add-mod_right d n ∙ mod-eq_of_lt small)
-    by_wrap (inr past) =
-        let rest : s % n + d ≡ s % n + d - n + n = omega (arith, past) in
-        let below : s % n + d - n < n = omega (arith, past, first, small) in
-        let end : (s + d) % n ≡ s % n + d - n = last ∙ ap (λ (m : ℕ). m % n) rest ∙ add-mod_right (s % n + d - n) n ∙ mod-eq_of_lt below in
-        let all : (s + d) % n + n - (s % n) % n ≡ d = omega (arith, end, from, first, past) in
-        ap (λ (m : ℕ). m % n + 1) all ∙ ap (λ (m : ℕ). m + 1) (mod-eq_of_lt small)
+span_of n s d some small =
+    let first : s % n < n = mod_below s n (omega (arith, some)) in
+    let from : (s % n) % n ≡ s % n = mod-mod s n in
+    let last : (s + d) % n ≡ (s % n + d) % n = sym (mod-add-mod s n d) in
+    elim (cases_lt (s % n + d) n) [
+      | inl within ↦
+          let end : (s + d) % n ≡ s % n + d = last ∙ mod-eq_of_lt within in
+          let all : (s + d) % n + n - (s % n) % n ≡ d + n = omega (arith, end, from, first) in
+          ap (λ (m : ℕ). m % n + 1) all ∙ ap (λ (m : ℕ). m + 1) (add-mod_right d n ∙ mod-eq_of_lt small)
+      | inr past ↦
+          let rest : s % n + d ≡ s % n + d - n + n = omega (arith, past) in
+          let below : s % n + d - n < n = omega (arith, past, first, small) in
+          let end : (s + d) % n ≡ s % n + d - n = last ∙ ap (λ (m : ℕ). m % n) rest ∙ add-mod_right (s % n + d - n) n ∙ mod-eq_of_lt below in
+          let all : (s + d) % n + n - (s % n) % n ≡ d = omega (arith, end, from, first, past) in
+          ap (λ (m : ℕ). m % n + 1) all ∙ ap (λ (m : ℕ). m + 1) (mod-eq_of_lt small)
+    ]
 
 pub span : (n seen taken : ℕ) (message : List ℕ) → 1 ≤ n → seen < taken → taken ≤ seen + n → start_of message ≡ seen % n → end_of message ≡ (taken - 1) % n → seen + range_of n message ≡ taken
 span n seen taken message some less turn start end =
     let last : taken - 1 ≡ seen + (taken - 1 - seen) = omega (arith, less) in
-    let long : range_of n message ≡ taken - 1 - seen + 1 =
-    ap (λ (m : ℕ). range_length n m (end_of message)) start ∙ ap (range_length n (seen % n)) (end ∙ ap (λ (m : ℕ). m % n) last)
-    ∙ span_of n seen (taken - 1 - seen) some (omega (arith, less, turn)) in
-    omega (arith, long, less)
+    let long : range_of n message ≡ taken - 1 - seen + 1 = grind (arith, span_of) in omega (arith, long, less)
 
 -- AN END SAYS a message of its session
 -- an INFO, where none was unanswered
@@ -184,8 +171,7 @@ plain_said slots v w now going coming message no_info no_ack asks answers mine t
 says_kind : (k : Spoken) (slots : ℕ) (v w : SessionLog) (groups going coming : List (List ℕ)) (message : List ℕ) → spoken message ≡ k → SaysRightly slots groups v message k
     → Way slots v w (infos_in going) (acks_in coming) → Way slots w v (infos_in coming) (acks_in going) → OneSaid slots v w (said_kind k message v) going coming message
 says_kind RangeInfo slots v w groups going coming message is right mine theirs =
-    let infos : infos_in (going ++ message ∷ []) ≡ infos_in going ++ message ∷ [] =
-    infos-append going (message ∷ []) ∙ ap (λ (k : Spoken). infos_in going ++ info_first k message []) is in
+    let infos = infos-append going (message ∷ []) ∙ ap (λ (k : Spoken). infos_in going ++ info_first k message []) is in
     let acks : acks_in (going ++ message ∷ []) ≡ acks_in going =
     acks-append going (message ∷ []) ∙ none_more (acks_in going) (acks_in (message ∷ [])) (ap (λ (k : Spoken). ack_first k message []) is) in
     let now : SessionLog = said_kind RangeInfo message v in
@@ -198,8 +184,7 @@ says_kind RangeInfo slots v w groups going coming message is right mine theirs =
 says_kind RangeAck slots v w groups going coming message is right mine theirs =
     let infos : infos_in (going ++ message ∷ []) ≡ infos_in going =
     infos-append going (message ∷ []) ∙ none_more (infos_in going) (infos_in (message ∷ [])) (ap (λ (k : Spoken). info_first k message []) is) in
-    let acks : acks_in (going ++ message ∷ []) ≡ acks_in going ++ message ∷ [] =
-    acks-append going (message ∷ []) ∙ ap (λ (k : Spoken). acks_in going ++ ack_first k message []) is in
+    let acks = acks-append going (message ∷ []) ∙ ap (λ (k : Spoken). acks_in going ++ ack_first k message []) is in
     let now : SessionLog = said_kind RangeAck message v in
     record {
       mine = way_as slots v now w w (infos_in going) (infos_in (going ++ message ∷ [])) (acks_in coming) (acks_in coming) (record { asking = refl; infos = refl; seen = refl }) (same_answers w) infos refl mine;
@@ -282,8 +267,7 @@ hears_kind RangeInfo slots v w going rest message is one turn mine theirs =
     record {
       mine = way_as slots v now w w (infos_in going) (infos_in going) (acks_in (message ∷ rest)) (acks_in rest) (record { asking = refl; infos = refl; seen = refl }) (same_answers w) refl
           (sym (ap (λ (k : Spoken). ack_first k message (acks_in rest)) is)) mine;
-      theirs = takes_info slots w v message (infos_in rest) (acks_in going)
-          (subst (λ (k : Spoken). Way slots w v (info_first k message (infos_in rest)) (acks_in going)) is theirs);
+      theirs = grind (arith, takes_info);
     }
 hears_kind RangeAck slots v w going rest message is one turn mine theirs =
     let now : SessionLog = heard_kind slots RangeAck message v in
@@ -319,10 +303,8 @@ pub hears_ways : (slots : ℕ) (o : Option (List ℕ)) (sa ha ha_now sb hb rest 
 hears_ways slots None sa ha ha_now sb hb rest v w one turn ways is front = same_heard slots sa ha ha_now sb hb v w ways is
 hears_ways slots (Some message) sa ha ha_now sb hb rest v w one turn ways is front =
     let came : ways.coming ≡ message ∷ rest = first_came slots ha ha_now sb ways.coming rest message ways.comes is front in
-    with_heard slots sa ha_now sb hb rest w (heard_kind slots (spoken message) message v) ways.going ways.goes front
-    (hears_kind (spoken message) slots v w ways.going rest message refl one turn
-    (subst (λ (xs : List (List ℕ)). Way slots v w (infos_in ways.going) (acks_in xs)) came ways.mine)
-    (subst (λ (xs : List (List ℕ)). Way slots w v (infos_in xs) (acks_in ways.going)) came ways.theirs))
+    with_heard _ _ _ _ _ _ w _ _ ways.goes front (hears_kind (spoken message) slots v w ways.going rest message refl one
+    turn (rw came at ways.mine) (rw came at ways.theirs))
 
 pub hears_plain : (slots : ℕ) (o : Option (List ℕ)) (sa ha ha_now sb hb rest : List (List ℕ)) (v w : SessionLog) → Ways slots sa ha sb hb v w → Grown o ha ha_now → sb ≡ ha_now ++ rest → Plain ha_now
     → Ways slots sa ha_now sb hb v w
@@ -332,10 +314,8 @@ hears_plain slots (Some message) sa ha ha_now sb hb rest v w ways is front plain
     let one : Plain (message ∷ []) = plain_rest ha (message ∷ []) (plain_as (ha ++ message ∷ []) ha_now is plain) in
     let no_info : infos_in (message ∷ rest) ≡ infos_in rest = infos-append (message ∷ []) rest ∙ ap (λ (xs : List (List ℕ)). xs ++ infos_in rest) one.infos in
     let no_ack : acks_in (message ∷ rest) ≡ acks_in rest = acks-append (message ∷ []) rest ∙ ap (λ (xs : List (List ℕ)). xs ++ acks_in rest) one.acks in
-    with_heard slots sa ha_now sb hb rest w v ways.going ways.goes front
-    (plain_heard slots v w v ways.going rest message no_info no_ack (same_asks v) (same_answers v)
-    (subst (λ (xs : List (List ℕ)). Way slots v w (infos_in ways.going) (acks_in xs)) came ways.mine)
-    (subst (λ (xs : List (List ℕ)). Way slots w v (infos_in xs) (acks_in ways.going)) came ways.theirs))
+    with_heard slots sa ha_now sb hb rest w v ways.going ways.goes front (plain_heard slots v w v ways.going rest
+    message no_info no_ack (same_asks v) (same_answers v) (rw came at ways.mine) (rw came at ways.theirs))
 
 -- IT PUBLISHES, or takes a frame while an INFO isn't answered
 pub published_ways : (slots : ℕ) (sa ha sb hb : List (List ℕ)) (v w : SessionLog) → Ways slots sa ha sb hb v w → Ways slots sa ha sb hb (more_published v) w

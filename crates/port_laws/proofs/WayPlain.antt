@@ -52,9 +52,7 @@ pub closed_plain : (asks answers : Offer) (role : Role) (s : Sides) → TwoEnds 
 closed_plain asks answers role s two_ends up shut = by_link (is_up s.mine.core.link) refl
   where
     by_link : (b : Bool) → is_up s.mine.core.link ≡ b → BothPlain (said s.mine.turns) (heard s.mine.turns)
-    by_link false down =
-        let below = two_ends.mine.below down in
-        record { said_plain = subst Plain (sym below.said_none) (record { infos = refl; acks = refl; low = tt }); heard_plain = subst Plain (sym below.heard_none) (record { infos = refl; acks = refl; low = tt }) }
+    by_link false down = grind arith
     by_link true link =
         let d = deal asks answers two_ends.meets.handshakes.sid in
         let at = mine_at asks answers role s two_ends up link in
@@ -79,5 +77,4 @@ open_heard asks answers role s two_ends up opened few =
     let d = deal asks answers two_ends.meets.handshakes.sid in
     let at = mine_at asks answers role s two_ends up (open_up role s.mine.core s.mine.turns two_ends.mine opened) in
     let last : at.place ≡ AllSaid = open_place true d role s.mine.core s.mine.turns two_ends.mine at opened in
-    all_plain d (other role) at.place at.theirs (heard s.mine.turns) at.heard_is
-    (none_behind (said_at true d (other role) at.place) at.theirs (heard s.mine.turns) at.heard_is (six_said d (other role) at.place last) few)
+    all_plain d _ _ _ _ at.heard_is (none_behind _ _ _ at.heard_is (six_said d _ _ last) few)

@@ -1,5 +1,5 @@
 -- Along every run of a port that nobody forged, what is on the way between its ends agrees with what both count.
-use Rattle.std.proofs.Common.{◌≡◌, ◌≢◌, ℕ, ◌+◌, ◌≤◌, Bool, true, false, Option, Some, None, List, [], ◌∷◌, length, refl, sym, ap, ◌∙◌, subst, arith}
+use Rattle.std.proofs.Common.{◌≡◌, ◌≢◌, ℕ, ◌+◌, ◌≤◌, true, false, Option, Some, None, List, [], ◌∷◌, length, refl, sym, ap, ◌∙◌, subst, arith}
 use Rattle.std.specs.Prelude.{is_some, ⊤}
 use Rattle.ldc_link.specs.declared.phase.Role.TheVariants.{Initiator, Responder}
 use Rattle.ldc_queue.specs.declared.end.ChannelState.{ChannelState}
@@ -7,7 +7,7 @@ use Rattle.ldc_queue.specs.declared.end.ChannelState.TheVariants.{Up}
 use Rattle.ldc_queue.specs.declared.end.End.{End}
 use Rattle.ldc_queue.specs.declared.end.End.TheVariants.{A, B}
 use Rattle.ldc_queue.specs.OneStream.{IsFront}
-use Rattle.ldc_queue.specs.Transcript.{Heard, Said, Turn}
+use Rattle.ldc_queue.specs.Transcript.{Heard, Said, Utterance}
 use Rattle.ldc_queue.specs.Wire.{peer_behind, peer_of, state_of}
 use Rattle.runs.specs.Lawful.{log_of, run_lawful}
 use Rattle.runs.specs.Run.{Run}
@@ -19,7 +19,6 @@ use Rattle.channel_model.specs.WireLog.{WireLog}
 use Rattle.channel_laws.specs.Sides.{sides_of, swapped}
 use Rattle.port_model.proofs.Refuting.{none_some, true_false}
 use Rattle.port_model.specs.EndLog.{EndLog, SessionLog, change, opened_log}
-use Rattle.port_model.specs.NetEndState.{NetSession}
 use Rattle.port_model.specs.NetEndStep.{Frame, Given, Joined, NetAnswer, NetLeft, Reset, Sent, Took}
 use Rattle.port_model.specs.NetEvent.{Asked, Gives, Injects, Loses, NetEvent, Pokes, Steps, Ticked, on_wire}
 use Rattle.port_model.specs.NetLaneState.{IsNetShape, NetLaneState, NetShape, memory_of, net_end, reach_of, role_at, seen_at}
@@ -27,14 +26,14 @@ use Rattle.port_model.specs.NetLaneStep.{EndSteps, NetLaneStep, moved_on}
 use Rattle.port_model.specs.PortLog.{PortLog, after, after_answer, after_given, log_of_end, no_events}
 use Rattle.port_model.specs.PortState.{OfQueue, OnLane, PortEvent, PortState, PortStep, Receives, before, fresh_port}
 use Rattle.port_laws.specs.NetCore.{lane_core}
-use Rattle.port_laws.specs.RingStands.{RingIn, taken_in}
+use Rattle.port_laws.specs.RingStands.{taken_in}
 use Rattle.port_laws.specs.WaysStand.{Ways, WaysStand, or_new}
 use Rattle.port_laws.proofs.EndCounting.{left_seen}
 use Rattle.port_laws.proofs.PortCounts.{PortCounts, before_queue, before_wire, queue_of}
 use Rattle.port_laws.proofs.PortTwoEnds.{PortTwoEnds, answers_of, asks_of, port_two_ends, six_open, up_open}
 use Rattle.port_laws.proofs.PutCounts.{SaidRight}
 use Rattle.port_laws.proofs.RingActs.{Acts, Finds, OpenBoth, acting_at, acts_shut, acts_up_at, open_both, ring_of_end, step_busy, step_now, turned_at}
-use Rattle.port_laws.proofs.RingEvents.{Active, Goes, peer_up, theirs_now, turns_at, turns_now, wire_now}
+use Rattle.port_laws.proofs.RingEvents.{Active, Goes, peer_up, theirs_now, turns_at, utterances_now, wire_now}
 use Rattle.port_laws.proofs.RingRuns.{Kept, finds_before, kept_step, fresh_kept, was_clean}
 use Rattle.port_laws.proofs.RingSteps.{opens_by}
 use Rattle.port_laws.proofs.RuleFrames.{both_open, end_acts, end_counted}
@@ -43,18 +42,15 @@ use Rattle.port_laws.proofs.StepCounts.{sent_right}
 use Rattle.port_laws.proofs.WayActs.{AnswerFits, ClosedFits, closed_acts, first_ways, open_acts}
 use Rattle.port_laws.proofs.WayMoves.{Plain, RightIn, swap_ways}
 use Rattle.port_laws.proofs.WayPlain.{BothPlain, closed_plain, open_heard, open_said}
+use Rattle.port_laws.proofs.ReadyFrames.{by_value}
 
 -- THE FRAMES THAT THE PEER TOOK are at most a turn of the ring
 pub new_taken : (log : Option SessionLog) → (or_new log).taken ≡ taken_in log
 new_taken log = grind arith
 
-turn_of : (slots taken seen : ℕ) (session : Option NetSession) (frames : List (List ℕ)) (memory : List ℕ) (p : NetSession) → session ≡ Some p → p.seen ≡ seen → RingIn slots taken session frames memory
-    → taken ≤ seen + slots
-turn_of slots taken seen session frames memory p is same ring = grind arith
-
 pub turn_at : (shape : NetShape) (e : End) (u : PortState) (l : PortLog) (v : SessionLog) → Finds shape u l → state_of e u.lane.wire.wire ≡ Up → state_of (peer_of e) u.lane.wire.wire ≡ Up
     → (log_of_end e l).session ≡ Some v → (or_new (log_of_end (peer_of e) l).session).taken ≤ v.seen + l.shape.slots
-turn_at shape e u l v finds up other is = grind (arith, both_open, end_counted, left_seen, turn_of, ring_of_end, new_taken)
+turn_at shape e u l v finds up other is = grind (arith, both_open, end_counted, left_seen, ring_of_end, new_taken)
 
 -- WHAT AN ANSWER FITS in a session
 right_in : (slots : ℕ) (groups : List (List ℕ)) (l : EndLog) (v : SessionLog) (ended : Option (List ℕ)) → l.session ≡ Some v
@@ -62,11 +58,8 @@ right_in : (slots : ℕ) (groups : List (List ℕ)) (l : EndLog) (v : SessionLog
 right_in slots groups l v None is right = tt
 right_in slots groups l v (Some message) is right = right message v refl is
 
-not_opens : (opens : Bool) → (opens ≡ true → ⊥) → opens ≡ false
-not_opens opens not = grind arith
-
 fits_at : (shape : NetShape) (e : End) (u t : PortState) (l : PortLog) (answer : NetAnswer) (left : NetLeft) (v : SessionLog) → Acts shape e u t l answer left → state_of (peer_of e) u.lane.wire.wire ≡ Up
-    → (log_of_end e l).session ≡ Some v → IsFront (heard (turns_now answer (transcript_of e l.transcript))) (said (transcript_of (peer_of e) l.transcript))
+    → (log_of_end e l).session ≡ Some v → IsFront (heard (utterances_now answer (transcript_of e l.transcript))) (said (transcript_of (peer_of e) l.transcript))
     → AnswerFits l.shape.slots (transcript_of e l.transcript) (transcript_of (peer_of e) l.transcript) v (or_new (log_of_end (peer_of e) l).session) answer
 fits_at shape e u t l answer left v acts other is front = by_answer answer acts front
   where
@@ -75,14 +68,14 @@ fits_at shape e u t l answer left v acts other is front = by_answer answer acts 
         let before = open_both (role_at e) shape.slots (queue_of e u) (net_end e u.lane) (log_of_end e l) (end_counted shape e u l moves.finds.ready) in
         none_some v (sym (before.none (acts_shut shape e u t l given left moves opened)) ∙ is)
 
-    by_answer : (given : NetAnswer) → Acts shape e u t l given left → IsFront (heard (turns_now given (transcript_of e l.transcript))) (said (transcript_of (peer_of e) l.transcript))
+    by_answer : (given : NetAnswer) → Acts shape e u t l given left → IsFront (heard (utterances_now given (transcript_of e l.transcript))) (said (transcript_of (peer_of e) l.transcript))
         → AnswerFits l.shape.slots (transcript_of e l.transcript) (transcript_of (peer_of e) l.transcript) v (or_new (log_of_end (peer_of e) l).session) given
     by_answer (Sent packet opens) moves ahead =
         let acting = acting_at shape e u l moves.finds (acts_up_at shape e u t l (Sent packet opens) left moves tt) in
         let right = sent_right (role_at e) shape.slots (queue_of e u) (net_end e u.lane) (log_of_end e l) (transcript_of e l.transcript) (seen_at e u.lane) (memory_of e u.lane) (reach_of e u.lane) packet opens
         left acting moves.step in
         let slots : shape.slots ≡ l.shape.slots = sym (ap (λ (z : NetShape). z.slots) moves.finds.ready.shape_is) in (
-          not_opens opens (never (Sent packet opens) moves),
+          by_value opens (never (Sent packet opens) moves),
           (
             moves.step.held.groups,
             subst (λ (n : ℕ). RightIn n moves.step.held.groups v (ended_by (half_said (transcript_of e l.transcript)) packet)) slots
@@ -90,7 +83,7 @@ fits_at shape e u t l answer left v acts other is front = by_answer answer acts 
           ),
         )
     by_answer (Took packet opens) moves ahead = (
-      not_opens opens (never (Took packet opens) moves),
+      by_value opens (never (Took packet opens) moves),
       ahead,
       turn_at shape e u l v moves.finds (acts_up_at shape e u t l (Took packet opens) left moves tt) other is,
     )
@@ -108,15 +101,15 @@ pub peer_was_up : (shape : NetShape) (e : End) (u t : PortState) (l : PortLog) (
 peer_was_up shape e u t l answer left acts goes up = grind (arith, wire_now, goes_theirs)
 
 -- A STEP OF THE GUEST
-pub guest_goes : (slots : ℕ) (turns : List Turn) (answer : NetAnswer) (l : EndLog) → (after_answer slots turns answer l).session ≢ None → Goes answer
+pub guest_goes : (slots : ℕ) (turns : List Utterance) (answer : NetAnswer) (l : EndLog) → (after_answer slots turns answer l).session ≢ None → Goes answer
 guest_goes slots turns answer l some = grind arith
 
 none_change : (f : SessionLog → SessionLog) (log : Option SessionLog) → log ≡ None → change f log ≡ None
 none_change f log is = ap (change f) is
 
 -- it opens by a packet that it says
-pub opening_sent : (slots : ℕ) (turns : List Turn) (answer : NetAnswer) (l : EndLog) → l.session ≡ None → (after_answer slots turns answer l).session ≢ None → length (said turns) ≤ 5
-    → 6 ≤ length (said (turns_now answer turns)) → (packet : List ℕ) × (answer ≡ Sent packet true)
+pub opening_sent : (slots : ℕ) (turns : List Utterance) (answer : NetAnswer) (l : EndLog) → l.session ≡ None → (after_answer slots turns answer l).session ≢ None → length (said turns) ≤ 5
+    → 6 ≤ length (said (utterances_now answer turns)) → (packet : List ℕ) × (answer ≡ Sent packet true)
 opening_sent slots turns (Sent packet true) l none some few many = (packet, refl)
 opening_sent slots turns (Sent packet false) l none some few many = absurd (some (none_change _ l.session none))
 opening_sent slots turns (Joined lost) l none some few many = absurd (some refl)
@@ -128,10 +121,10 @@ hub_none shape u l finds up none = grind (arith, open_both, none_some, six_open,
 
 open_step : (shape : NetShape) (e : End) (u t : PortState) (l : PortLog) (answer : NetAnswer) (left : NetLeft) (v : SessionLog) → Acts shape e u t l answer left → Goes answer
     → state_of (peer_of e) u.lane.wire.wire ≡ Up → (log_of_end e l).session ≡ Some v
-    → IsFront (heard (turns_now answer (transcript_of e l.transcript))) (said (transcript_of (peer_of e) l.transcript))
+    → IsFront (heard (utterances_now answer (transcript_of e l.transcript))) (said (transcript_of (peer_of e) l.transcript))
     → Ways l.shape.slots (said (transcript_of e l.transcript)) (heard (transcript_of e l.transcript)) (said (transcript_of (peer_of e) l.transcript)) (heard (transcript_of (peer_of e) l.transcript))
     v (or_new (log_of_end (peer_of e) l).session)
-    → Ways l.shape.slots (said (turns_now answer (transcript_of e l.transcript))) (heard (turns_now answer (transcript_of e l.transcript))) (said (transcript_of (peer_of e) l.transcript))
+    → Ways l.shape.slots (said (utterances_now answer (transcript_of e l.transcript))) (heard (utterances_now answer (transcript_of e l.transcript))) (said (transcript_of (peer_of e) l.transcript))
     (heard (transcript_of (peer_of e) l.transcript)) (or_new (after_answer l.shape.slots (transcript_of e l.transcript) answer (log_of_end e l)).session) (or_new (log_of_end (peer_of e) l).session)
 open_step shape e u t l answer left v acts goes other is front ways =
     let slots : l.shape.slots ≡ shape.slots = ap (λ (z : NetShape). z.slots) acts.finds.ready.shape_is in
@@ -144,10 +137,8 @@ guest_first : (shape : NetShape) (u t : PortState) (l : PortLog) (packet : List 
     → Ways l.shape.slots (said (Said packet ∷ l.transcript.client)) (heard l.transcript.client) (said l.transcript.server) (heard l.transcript.server)
     (opened_log (opening_sid (half_said l.transcript.client) packet)) (or_new l.hub.session)
 guest_first shape u t l packet left acts up other none =
-    let turned = turned_at shape A u t l (Sent packet true) left acts tt in
-    let few = turned.few none in
+    let few = (turned_at shape A u t l (Sent packet true) left acts tt).few none in
     let then_ = after l (OnLane (Steps A (Sent packet true))) in
-    let up_before = acts_up_at shape A u t l (Sent packet true) left acts tt in
     let other_before = peer_was_up shape A u t l (Sent packet true) left acts tt other in
     let hub_shut : l.hub.session ≡ None = hub_none shape u l acts.finds other_before none in
     let hub = open_both Responder shape.slots u.queue u.lane.hub l.hub acts.finds.ready.hub in
@@ -169,21 +160,17 @@ guest_ways shape u t l answer left acts ways up other some =
     then_ : PortLog
     then_ = after l (OnLane (Steps A answer))
 
-    Now : List Turn → List Turn → Option SessionLog → Type 0
+    Now : List Utterance → List Utterance → Option SessionLog → Type 0
     Now client server log = Ways l.shape.slots (said client) (heard client) (said server) (heard server) (or_new log) (or_new l.hub.session)
 
-    as_now : Now (turns_now answer l.transcript.client) l.transcript.server (after_answer l.shape.slots l.transcript.client answer l.guest).session
+    as_now : Now (utterances_now answer l.transcript.client) l.transcript.server (after_answer l.shape.slots l.transcript.client answer l.guest).session
         → Ways l.shape.slots (said then_.transcript.client) (heard then_.transcript.client) (said then_.transcript.server) (heard then_.transcript.server) (or_new then_.guest.session) (or_new then_.hub.session)
     as_now one =
-        let turns = turns_at A l.transcript answer in
-        subst (λ (xs : List Turn). Ways l.shape.slots (said xs) (heard xs) (said then_.transcript.server) (heard then_.transcript.server) (or_new then_.guest.session) (or_new then_.hub.session)) (sym turns.mine)
-        (subst (λ (xs : List Turn). Ways l.shape.slots (said (turns_now answer l.transcript.client)) (heard (turns_now answer l.transcript.client)) (said xs) (heard xs) (or_new then_.guest.session) (or_new then_.hub.session))
-        (sym turns.theirs) one)
+        let turns = turns_at A l.transcript answer in rw (turns.mine, turns.theirs) one
 
-    front : IsFront (heard (turns_now answer l.transcript.client)) (said l.transcript.server)
+    front : IsFront (heard (utterances_now answer l.transcript.client)) (said l.transcript.server)
     front =
-        let turns = turns_at A l.transcript answer in
-        subst (λ (xs : List Turn). IsFront (heard xs) (said l.transcript.server)) turns.mine (subst (λ (xs : List Turn). IsFront (heard then_.transcript.client) (said xs)) turns.theirs (acts.two_ends.front_a up))
+        let turns = turns_at A l.transcript answer in rw turns.mine at (rw turns.theirs at (acts.two_ends.front_a up))
 
     by_log : (log : Option SessionLog) → l.guest.session ≡ log → Goes answer
         → Ways l.shape.slots (said then_.transcript.client) (heard then_.transcript.client) (said then_.transcript.server) (heard then_.transcript.server) (or_new then_.guest.session) (or_new then_.hub.session)
@@ -196,8 +183,7 @@ guest_ways shape u t l answer left acts ways up other some =
         let turned = turned_at shape A u t l answer left acts goes in
         let opening = opening_sent l.shape.slots l.transcript.client answer l.guest is some (turned.few is) (turned.many some) in
         let same : answer ≡ Sent opening.0 true = opening.1 in
-        as_now (subst (λ (given : NetAnswer). Now (turns_now given l.transcript.client) l.transcript.server (after_answer l.shape.slots l.transcript.client given l.guest).session) (sym same)
-        (guest_first shape u t l opening.0 left (subst (λ (given : NetAnswer). Acts shape A u t l given left) same acts) up other is))
+        as_now (rw same (guest_first shape u t l opening.0 left (rw same at acts) up other is))
 
 -- A STEP OF THE SWITCH'S END
 pub hub_plain : (shape : NetShape) (u t : PortState) (l : PortLog) (answer : NetAnswer) (left : NetLeft) → Acts shape B u t l answer left → Goes answer → IsUp B t.lane.wire.wire → l.hub.session ≡ None
@@ -207,14 +193,14 @@ hub_plain shape u t l answer left acts goes up none = by_log then_.hub.session r
     then_ : PortLog
     then_ = after l (OnLane (Steps B answer))
 
-    now : then_.transcript.server ≡ turns_now answer l.transcript.server
+    now : then_.transcript.server ≡ utterances_now answer l.transcript.server
     now = (turns_at B l.transcript answer).mine
 
     theirs : then_.transcript.client ≡ l.transcript.client
     theirs = (turns_at B l.transcript answer).theirs
 
-    front : IsFront (heard (turns_now answer l.transcript.server)) (said l.transcript.client)
-    front = subst (λ (xs : List Turn). IsFront (heard xs) (said l.transcript.client)) now (subst (λ (xs : List Turn). IsFront (heard then_.transcript.server) (said xs)) theirs (acts.two_ends.front up))
+    front : IsFront (heard (utterances_now answer l.transcript.server)) (said l.transcript.client)
+    front = subst (λ (xs : List Utterance). IsFront (heard xs) (said l.transcript.client)) now (subst (λ (xs : List Utterance). IsFront (heard then_.transcript.server) (said xs)) theirs (acts.two_ends.front up))
 
     hub : OpenBoth t.lane.hub then_.hub
     hub = open_both Responder shape.slots t.queue t.lane.hub then_.hub acts.counts.hub
@@ -228,34 +214,27 @@ hub_plain shape u t l answer left acts goes up none = by_log then_.hub.session r
     was : BothPlain (said l.transcript.server) (heard l.transcript.server)
     was = closed_plain (asks_of shape) (answers_of shape) Responder (swapped (sides_of (lane_core u.lane) l.transcript)) (acts.finds.two_ends.two_ends B) up_before (hub_before.shut none)
 
-    heard_short : (given : NetAnswer) → length (heard l.transcript.server) ≤ 5 → length (heard (turns_now given l.transcript.server)) ≤ 6
+    heard_short : (given : NetAnswer) → length (heard l.transcript.server) ≤ 5 → length (heard (utterances_now given l.transcript.server)) ≤ 6
     heard_short (Took packet opens) few = omega (arith, few, grown_most _ (heard l.transcript.server) (heard (Heard packet ∷ l.transcript.server)) (heard_grown l.transcript.server packet))
     heard_short (Joined lost) few = omega arith
     heard_short (Reset cause packet lost) few = omega arith
     heard_short _ few = omega (arith, few)
 
-    said_same : (given : NetAnswer) → length (heard l.transcript.server) ≤ 5 → 6 ≤ length (heard (turns_now given l.transcript.server)) → Plain (said (turns_now given l.transcript.server))
-    said_same (Sent packet opens) few many = absurd (omega (arith, few, many))
-    said_same (Joined lost) few many = absurd (omega (arith, many))
-    said_same (Reset cause packet lost) few many = absurd (omega (arith, many))
-    said_same _ few many = was.said_plain
+    said_same : (given : NetAnswer) → length (heard l.transcript.server) ≤ 5 → 6 ≤ length (heard (utterances_now given l.transcript.server)) → Plain (said (utterances_now given l.transcript.server))
+    said_same given few many = grind (arith, was)
 
     by_log : (log : Option SessionLog) → then_.hub.session ≡ log → ClosedFits l.transcript.server l.transcript.client answer
     by_log None is =
         let plain = closed_plain (asks_of shape) (answers_of shape) Responder (swapped (sides_of (lane_core t.lane) then_.transcript)) (acts.two_ends.two_ends B) up (hub.shut is) in
-        record {
-          said_plain = subst (λ (xs : List Turn). Plain (said xs)) now plain.said_plain;
-          heard_plain = subst (λ (xs : List Turn). Plain (heard xs)) now plain.heard_plain;
-          front = front;
-        }
+        grind (arith, now, front)
     by_log (Some w) is =
         let some : then_.hub.session ≢ None = λ gone. none_some w (sym gone ∙ is) in
         let turned = turned_at shape B u t l answer left acts goes in
         let few = turned.few none in
         let many = turned.many some in
-        let short : length (heard then_.transcript.server) ≤ 6 = subst (λ (xs : List Turn). length (heard xs) ≤ 6) (sym now) (heard_short answer few) in
+        let short : length (heard then_.transcript.server) ≤ 6 = subst (λ (xs : List Utterance). length (heard xs) ≤ 6) (sym now) (heard_short answer few) in
         let plain = open_heard (asks_of shape) (answers_of shape) Responder (swapped (sides_of (lane_core t.lane) then_.transcript)) (acts.two_ends.two_ends B) up (hub.opened some) short in
-        record { said_plain = said_same answer few many; heard_plain = subst (λ (xs : List Turn). Plain (heard xs)) now plain; front = front }
+        record { said_plain = said_same answer few many; heard_plain = subst (λ (xs : List Utterance). Plain (heard xs)) now plain; front = front }
 
 -- an end in session has a peer that is up
 pub guest_open_up : (shape : NetShape) (u : PortState) (l : PortLog) → Finds shape u l → IsUp A u.lane.wire.wire → l.guest.session ≢ None → IsUp B u.lane.wire.wire
@@ -283,31 +262,30 @@ hub_ways shape u t l answer left acts ways other up some = by_log l.hub.session 
     up_before : IsUp B u.lane.wire.wire
     up_before = acts_up_at shape B u t l answer left acts goes
 
-    now : then_.transcript.server ≡ turns_now answer l.transcript.server
+    now : then_.transcript.server ≡ utterances_now answer l.transcript.server
     now = (turns_at B l.transcript answer).mine
 
     same : then_.transcript.client ≡ l.transcript.client
     same = (turns_at B l.transcript answer).theirs
 
-    front : IsFront (heard (turns_now answer l.transcript.server)) (said l.transcript.client)
-    front = subst (λ (xs : List Turn). IsFront (heard xs) (said l.transcript.client)) now (subst (λ (xs : List Turn). IsFront (heard then_.transcript.server) (said xs)) same (acts.two_ends.front up))
+    front : IsFront (heard (utterances_now answer l.transcript.server)) (said l.transcript.client)
+    front = subst (λ (xs : List Utterance). IsFront (heard xs) (said l.transcript.client)) now (subst (λ (xs : List Utterance). IsFront (heard then_.transcript.server) (said xs)) same (acts.two_ends.front up))
 
     v : SessionLog
     v = or_new l.guest.session
 
-    Now : List Turn → List Turn → Option SessionLog → Type 0
+    Now : List Utterance → List Utterance → Option SessionLog → Type 0
     Now client server log = Ways l.shape.slots (said server) (heard server) (said client) (heard client) (or_new log) v
 
     was : Now l.transcript.client l.transcript.server l.hub.session
     was = swap_ways l.shape.slots (said l.transcript.client) (heard l.transcript.client) (said l.transcript.server) (heard l.transcript.server) v (or_new l.hub.session) (ways other_before up_before some)
 
-    as_now : Now l.transcript.client (turns_now answer l.transcript.server) (after_answer l.shape.slots l.transcript.server answer l.hub).session
+    as_now : Now l.transcript.client (utterances_now answer l.transcript.server) (after_answer l.shape.slots l.transcript.server answer l.hub).session
         → Ways l.shape.slots (said then_.transcript.client) (heard then_.transcript.client) (said then_.transcript.server) (heard then_.transcript.server) (or_new then_.guest.session) (or_new then_.hub.session)
     as_now one =
-        swap_ways l.shape.slots (said then_.transcript.server) (heard then_.transcript.server) (said then_.transcript.client) (heard then_.transcript.client) (or_new then_.hub.session) (or_new then_.guest.session)
-        (subst (λ (xs : List Turn). Ways l.shape.slots (said xs) (heard xs) (said then_.transcript.client) (heard then_.transcript.client) (or_new then_.hub.session) (or_new then_.guest.session)) (sym now)
-        (subst (λ (xs : List Turn). Ways l.shape.slots (said (turns_now answer l.transcript.server)) (heard (turns_now answer l.transcript.server)) (said xs) (heard xs) (or_new then_.hub.session) (or_new then_.guest.session))
-        (sym same) one))
+        swap_ways l.shape.slots (said then_.transcript.server) (heard then_.transcript.server) (said
+        then_.transcript.client) (heard then_.transcript.client) (or_new then_.hub.session) (or_new then_.guest.session)
+        (rw (now, same) one)
 
     by_log : (log : Option SessionLog) → l.hub.session ≡ log
         → Ways l.shape.slots (said then_.transcript.client) (heard then_.transcript.client) (said then_.transcript.server) (heard then_.transcript.server) (or_new then_.guest.session) (or_new then_.hub.session)

@@ -2,7 +2,7 @@
 use Rattle.std.proofs.Common.{◌≡◌, ℕ, Bool, true, false, Option, List, ◌∷◌, refl, sym, subst, ap, ◌∙◌, arith}
 use Rattle.ldc_link.specs.declared.phase.Role.TheVariants.{Initiator, Responder}
 use Rattle.ldc_queue.specs.declared.end.End.{End}
-use Rattle.ldc_queue.specs.Transcript.{Heard, Said, Turn}
+use Rattle.ldc_queue.specs.Transcript.{Heard, Said, Utterance}
 use Rattle.runs.specs.Lawful.{Lawful, log_of}
 use Rattle.runs.specs.Run.{Run}
 use Rattle.channel_model.specs.HandshakeOrder.{HandshakeOrder}
@@ -63,7 +63,7 @@ turn_says e packet l = grind arith
 turn_hears : (e : End) (packet : List ℕ) (l : TranscriptLog) → transcript_of e (hears e packet l) ≡ Heard packet ∷ transcript_of e l
 turn_hears e packet l = grind arith
 
-order_in : (e : End) (turns now : List Turn) → turns ≡ now → HandshakeOrder true (role_at e) turns → HandshakeOrder true (role_at e) now
+order_in : (e : End) (turns now : List Utterance) → turns ≡ now → HandshakeOrder true (role_at e) turns → HandshakeOrder true (role_at e) now
 order_in e turns now is order = subst (HandshakeOrder true (role_at e)) is order
 
 says_order : (shape : NetShape) (events : List PortEvent) (s : PortState) (e : End) (packet : List ℕ) (opens : Bool) (t : PortState) → IsNetShape shape

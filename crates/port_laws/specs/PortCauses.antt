@@ -5,7 +5,7 @@ use Rattle.ldc_link.specs.declared.phase.Role.TheVariants.{Initiator, Responder}
 use Rattle.ldc_packet.specs.declared.packet.Subtype.{Subtype}
 use Rattle.ldc_packet.specs.declared.packet.Subtype.TheVariants.{Ack, Info, Nack}
 use Rattle.ldc_queue.specs.declared.end.End.{End}
-use Rattle.ldc_queue.specs.Transcript.{Turn}
+use Rattle.ldc_queue.specs.Transcript.{Utterance}
 use Rattle.vio_tag.specs.declared.cause.Cause.{Cause}
 use Rattle.vio_tag.specs.declared.cause.Cause.TheVariants as the_cause
 use Rattle.vio_tag.specs.declared.message.Message.{Message}
@@ -52,6 +52,6 @@ abbrev pub own_cause : Role → NetEndState → NetSession → List ℕ → Mess
 own_cause role s session memory message = session_cause role s session memory message.subtype message.body
 
 -- THE CAUSE that a packet has for an end in this session which said and heard this
-abbrev pub port_cause : NetLaneState → End → NetSession → List Turn → List ℕ → Option Cause
+abbrev pub port_cause : NetLaneState → End → NetSession → List Utterance → List ℕ → Option Cause
 port_cause s e session turns packet =
     packet_cause (own_cause (role_at e) (net_end e s) session (memory_of e s)) (net_end e s).handshake.draft.sid turns packet

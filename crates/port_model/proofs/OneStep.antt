@@ -1,12 +1,10 @@
 -- A step of an end is one: its answer, and what it leaves.
-use Rattle.std.proofs.Common.{◌≡◌, ℕ, Bool, true, false, Option, Some, None, List, refl, sym, subst, ap, ◌∙◌}
+use Rattle.std.proofs.Common.{◌≡◌, ℕ, Bool, true, false, Option, Some, None, List, sym, subst, ap, ◌∙◌, arith}
 use Rattle.std.specs.Prelude.{◌%◌, ◌+◌}
 use Rattle.ldc_link.specs.Calls.{Puts as PutsPacket}
 use Rattle.ldc_link.specs.declared.phase.Role.{Role}
-use Rattle.ldc_link.specs.LinkState.{LinkState, cleared}
-use Rattle.ldc_link.specs.Taking.{Heard, LinkTake, TakesBytes, Unheard, takes_decoded}
-use Rattle.ldc_packet.specs.declared.packet.Packet.{Packet}
-use Rattle.ldc_packet.specs.Spelling.{canonical as packet_bytes}
+use Rattle.ldc_link.specs.LinkState.{LinkState}
+use Rattle.ldc_link.specs.Taking.{Heard, LinkTake, TakesBytes, Unheard}
 use Rattle.ldc_packet.proofs.Reading.{one_result as one_packet}
 use Rattle.vio_tag.specs.declared.cause.Cause.{Cause}
 use Rattle.vio_tag.specs.declared.cause.Cause.TheVariants as the_cause
@@ -15,10 +13,10 @@ use Rattle.channel_model.specs.Seeing.{Seen}
 use Rattle.cookie_copy.specs.Reach.{Reach}
 use Rattle.port_model.specs.Fetching.{Fetched, IsFrame, NotReady, Refuses, fetched}
 use Rattle.port_model.specs.NetEndPutting.{answer, answers, cleared_by_put, holding_own, net_holds, net_opens, net_put}
-use Rattle.port_model.specs.NetEndRule.{Announces, Fetches, Idles, Joins, NetRule, Publishes, Puts, Replies, Says, Takes, Tells, port_rule}
+use Rattle.port_model.specs.NetEndRule.{Fetches, Idles, Joins, NetRule, Publishes, Takes, port_rule}
 use Rattle.port_model.specs.NetEndState.{Activity, NetEndState, NetSession, joined_net_end, unseen, with_session}
 use Rattle.port_model.specs.NetEndStep.{Blocked, FetchFails, Frame, Idle, Joined, NetAnswer, NetEndStep, NetFails, NetLeft, Published, Reset, Sent, Took, leaves, published, published_memory, taken}
-use Rattle.port_model.specs.NetEndTaking.{GoesOn, HearsLink, HearsWhole, NetTake, NetTakes, Resets, reads, risen}
+use Rattle.port_model.specs.NetEndTaking.{GoesOn, HearsLink, HearsWhole, NetTake, NetTakes, Resets, risen}
 use Rattle.port_model.proofs.Refuting.{false_true, none_some, true_false}
 
 -- what a step comes to: an answer, and what it leaves
@@ -71,48 +69,29 @@ of_some {X} P x y same holds = let is : y ≡ x = cc in subst P is holds
 
 slot_held : (role : Role) (room : Bool) (s : NetEndState) (memory : List ℕ) (reach : Reach) (p : NetSession) (activity : Activity) (last : Option ℕ) (found : Fetched) (held : NetEndState) (o : Outcome)
     → answers s p activity last found ≡ Some held → HeldComes role room s memory reach held o → SlotComes role room s memory reach p activity last found o
-slot_held role room s memory reach p activity (Some last) (NotReady state) held o same comes =
-    of_some (λ (x : NetEndState). HeldComes role room s memory reach x o) (holding_own (answer s activity last) (record p { active = None }) s) held same comes
-slot_held role room s memory reach p activity _ _ held o same comes = none_some held same
+slot_held role room s memory reach p activity last found held o same comes = grind (arith, of_some, none_some)
 
 rule_held : (role : Role) (rule : NetRule) (s : NetEndState) (at : Seen) (memory : List ℕ) (reach : Reach) (held : NetEndState) (o : Outcome)
     → net_holds rule s reach ≡ Some held → HeldComes role at.room s memory reach held o → RuleComes role rule s at memory reach o
-rule_held role (Fetches p activity) s at memory reach held o same comes =
-    slot_held role at.room s memory reach p activity activity.last (fetched s reach p.place) held o same comes
-rule_held role Joins s at memory reach held o same comes = none_some held same
-rule_held role (Takes packet) s at memory reach held o same comes = none_some held same
-rule_held role (Publishes p frame) s at memory reach held o same comes = none_some held same
-rule_held role Idles s at memory reach held o same comes = none_some held same
-rule_held role _ s at memory reach held o same comes = (held, same, comes)
+rule_held role rule s at memory reach held o same comes = grind (arith, slot_held, none_some)
 
 slot_fails : (role : Role) (room : Bool) (s : NetEndState) (memory : List ℕ) (reach : Reach) (p : NetSession) (activity : Activity) (last : Option ℕ) (found : Fetched) (cause : Cause) (o : Outcome)
     → activity.last ≡ last → FetchFails found activity p.place cause → o ≡ fails role s memory reach cause None → SlotComes role room s memory reach p activity last found o
-slot_fails role room s memory reach p activity last (IsFrame frame new) cause o is because comes = absurd because
-slot_fails role room s memory reach p activity None (NotReady state) cause o is because comes = comes ∙ ap (λ (x : Cause). fails role s memory reach x None) because.1
-slot_fails role room s memory reach p activity (Some last) (NotReady state) cause o is because comes = none_some last (sym because.0 ∙ is)
-slot_fails role room s memory reach p activity last (Refuses why) cause o is because comes = comes ∙ ap (λ (x : Cause). fails role s memory reach x None) because
+slot_fails role room s memory reach p activity last found cause o is because comes = grind (arith, none_some)
 
 rule_fails : (role : Role) (rule : NetRule) (s : NetEndState) (at : Seen) (memory : List ℕ) (reach : Reach) (cause : Cause) (packet : Option (List ℕ)) (o : Outcome)
     → NetFails role rule s memory reach cause packet → o ≡ fails role s memory reach cause packet → RuleComes role rule s at memory reach o
-rule_fails role (Takes bytes) s at memory reach cause packet o because comes =
-    (Resets cause, because.1, comes ∙ ap (λ (x : Option (List ℕ)). fails role s memory reach cause x) because.0)
-rule_fails role (Fetches p activity) s at memory reach cause packet o because comes =
-    slot_fails role at.room s memory reach p activity activity.last (fetched s reach p.place) cause o refl because.1
-    (comes ∙ ap (λ (x : Option (List ℕ)). fails role s memory reach cause x) because.0)
-rule_fails role _ s at memory reach cause packet o because comes = absurd because
+rule_fails role rule s at memory reach cause packet o because comes = grind (arith, slot_fails)
 
 room_held : (role : Role) (room : Bool) (s : NetEndState) (memory : List ℕ) (reach : Reach) (held : NetEndState) (bytes : List ℕ) (link : LinkState) (opens : Bool) (t : NetLeft)
     → room ≡ true → PutsPacket held.link bytes link → opens ≡ net_opens held
     → t ≡ leaves (net_put role held) (cleared_by_put role (net_opens held) s.slots memory) reach
     → HeldComes role room s memory reach held (out (Sent bytes opens) t)
-room_held role true s memory reach held bytes link opens t room puts opens_is is =
-    (bytes, link, puts, same_out (Sent bytes opens) (Sent bytes (net_opens held)) t _ (ap (Sent bytes) opens_is) is)
-room_held role false s memory reach held bytes link opens t room puts opens_is is = false_true room
+room_held role room s memory reach held bytes link opens t room_2 puts opens_is is = grind (arith, same_out, false_true)
 
 blocked_held : (role : Role) (room : Bool) (s : NetEndState) (memory : List ℕ) (reach : Reach) (t : NetLeft)
     → room ≡ false → t ≡ leaves t.end memory reach → HeldComes role room s memory reach t.end (out Blocked t)
-blocked_held role false s memory reach t room is = same_out Blocked Blocked t (leaves t.end memory reach) refl is
-blocked_held role true s memory reach t room is = true_false room
+blocked_held role room s memory reach t room_2 is = grind (arith, same_out, true_false)
 
 abbrev Comes : Role → NetEndState → Seen → List ℕ → Reach → Outcome → Type 0
 Comes role s at memory reach o = RuleComes role (port_rule role s at) s at memory reach o
@@ -121,58 +100,25 @@ by_rule : (role : Role) (s : NetEndState) (at : Seen) (memory : List ℕ) (reach
     → RuleComes role rule s at memory reach o → Comes role s at memory reach o
 by_rule role s at memory reach rule o is comes = subst (λ (x : NetRule). RuleComes role x s at memory reach o) (sym is) comes
 
-slot_frame : (role : Role) (room : Bool) (s : NetEndState) (memory : List ℕ) (reach : Reach) (p : NetSession) (activity : Activity) (last : Option ℕ) (found : Fetched) (frame new : List ℕ) (t : NetLeft)
-    → found ≡ IsFrame frame new → t ≡ record { end = record s { session = Some (taken s p activity); last = frame }; own = memory; peer = new }
-    → SlotComes role room s memory reach p activity last found (out (Frame frame) t)
-slot_frame role room s memory reach p activity last found frame new t found_is is =
-    subst (λ (x : Fetched). SlotComes role room s memory reach p activity last x (out (Frame frame) t)) (sym found_is) (same_out (Frame frame) (Frame frame) t _ refl is)
-
 step_comes : (role : Role) (s : NetEndState) (at : Seen) (memory : List ℕ) (reach : Reach) (a : NetAnswer) (t : NetLeft) → NetEndStep role s at memory reach a t
     → Comes role s at memory reach (out a t)
-step_comes role s at memory reach (Joined lost) t step =
-    by_rule role s at memory reach Joins (out (Joined lost) t) step.0 (same_out (Joined lost) (Joined (unseen s.session)) t _ (ap Joined step.1) step.2)
-step_comes role s at memory reach (Took packet opens) t step =
-    by_rule role s at memory reach (Takes packet) (out (Took packet opens) t) step.0
-    (GoesOn t.end opens t.own, step.1, same_out (Took packet opens) (Took packet opens) t _ refl (ap (λ (x : List ℕ). record { end = t.end; own = t.own; peer = x }) step.2))
 step_comes role s at memory reach (Sent packet opens) t step =
     rule_held role (port_rule role s at) s at memory reach step.held (out (Sent packet opens) t) step.holds
     (room_held role at.room s memory reach step.held packet t.end.link opens t step.room step.packet step.opens_is step.is)
 step_comes role s at memory reach Blocked t step =
     rule_held role (port_rule role s at) s at memory reach t.end (out Blocked t) step.0 (blocked_held role at.room s memory reach t step.1 step.2)
-step_comes role s at memory reach Idle t step =
-    by_rule role s at memory reach Idles (out Idle t) step.0 (same_out Idle Idle t _ refl step.1)
-step_comes role s at memory reach (Published id) t step =
-    by_rule role s at memory reach (Publishes step.session step.frame) (out (Published id) t) step.rule
-    (same_out (Published id) (Published (step.session.base + step.session.published)) t _ (ap Published step.id_is) step.is)
-step_comes role s at memory reach (Frame frame) t step =
-    by_rule role s at memory reach (Fetches step.session step.activity) (out (Frame frame) t) step.rule
-    (slot_frame role at.room s memory reach step.session step.activity step.activity.last (fetched s reach step.session.place) frame step.new t step.found step.is)
-step_comes role s at memory reach (Reset cause packet lost) t step =
-    rule_fails role (port_rule role s at) s at memory reach cause packet (out (Reset cause packet lost) t) step.0
-    (same_out (Reset cause packet lost) (Reset cause packet (unseen s.session)) t _ (ap (Reset cause packet) step.1) step.2)
+step_comes role s at memory reach a t step = grind (arith, by_rule, same_out, rule_fails)
 
 -- ONE OUTCOME
 puts_once : (k : LinkState) (one other : List ℕ) (behind past : LinkState) → PutsPacket k one behind → PutsPacket k other past → one ≡ other
-puts_once k one other behind past puts also =
-    let pair : (puts.packet, behind) ≡ (also.packet, past) = cc in
-    puts.spelled ∙ ap (λ (x : Packet × LinkState). packet_bytes x.0) pair ∙ sym also.spelled
+puts_once k one other behind past puts also = grind arith
 
 held_once : (role : Role) (room : Bool) (s : NetEndState) (memory : List ℕ) (reach : Reach) (held : NetEndState) (o u : Outcome)
     → HeldComes role room s memory reach held o → HeldComes role room s memory reach held u → o ≡ u
-held_once role true s memory reach held o u comes also =
-    comes.3 ∙ ap (sends role s memory reach held) (puts_once held.link comes.0 also.0 comes.1 also.1 comes.2 also.2) ∙ sym also.3
-held_once role false s memory reach held o u comes also = comes ∙ sym also
-
-holds_once : (role : Role) (room : Bool) (rule : NetRule) (s : NetEndState) (memory : List ℕ) (reach : Reach) (one other : NetEndState) (o u : Outcome)
-    → net_holds rule s reach ≡ Some one → net_holds rule s reach ≡ Some other
-    → HeldComes role room s memory reach one o → HeldComes role room s memory reach other u → o ≡ u
-holds_once role room rule s memory reach one other o u holds also comes past =
-    held_once role room s memory reach one o u comes
-    (of_some (λ (x : NetEndState). HeldComes role room s memory reach x u) one other (sym holds ∙ also) past)
+held_once role room s memory reach held o u comes also = grind (arith, puts_once)
 
 decoded_once : (role : Role) (s : NetEndState) (memory bytes : List ℕ) (one other : NetTake) → HearsWhole role s memory (Some bytes) one → HearsWhole role s memory (Some bytes) other → one ≡ other
-decoded_once role s memory bytes one other hears also =
-    hears.2 ∙ ap (reads role (record s { link = cleared s.link }) memory) (one_message bytes hears.0 also.0 hears.1 also.1) ∙ sym also.2
+decoded_once role s memory bytes one other hears also = grind (arith, one_message)
 
 whole_once : (role : Role) (s : NetEndState) (memory : List ℕ) (whole : Option (List ℕ)) (one other : NetTake) → HearsWhole role s memory whole one → HearsWhole role s memory whole other → one ≡ other
 whole_once role s memory None one other hears also = hears ∙ sym also
@@ -183,33 +129,21 @@ link_once role s memory (Heard k) one other hears also = whole_once role (record
 link_once role s memory (Unheard cause) one other hears also = hears ∙ sym also
 
 bytes_once : (k : LinkState) (bytes : List ℕ) (one other : LinkTake) → TakesBytes k bytes one → TakesBytes k bytes other → one ≡ other
-bytes_once k bytes one other takes also =
-    takes.is ∙ ap (takes_decoded k) (one_packet bytes takes.decoded also.decoded takes.unpacks also.unpacks) ∙ sym also.is
+bytes_once k bytes one other takes also = grind (arith, one_packet)
 
 takes_once : (role : Role) (s : NetEndState) (memory bytes : List ℕ) (one other : NetTake) → NetTakes role s memory bytes one → NetTakes role s memory bytes other → one ≡ other
 takes_once role s memory bytes one other takes also =
-    link_once role s memory takes.link one other takes.hears
-    (subst (λ (x : LinkTake). HearsLink role s memory x other) (sym (bytes_once s.link bytes takes.link also.link takes.takes also.takes)) also.hears)
+    link_once _ s _ _ _ _ takes.hears (rw (bytes_once _ _ _ _ takes.takes also.takes) also.hears)
 
 slot_once : (role : Role) (room : Bool) (s : NetEndState) (memory : List ℕ) (reach : Reach) (p : NetSession) (activity : Activity) (last : Option ℕ) (found : Fetched) (o u : Outcome)
     → SlotComes role room s memory reach p activity last found o → SlotComes role room s memory reach p activity last found u → o ≡ u
-slot_once role room s memory reach p activity last (IsFrame frame new) o u comes also = comes ∙ sym also
-slot_once role room s memory reach p activity None (NotReady state) o u comes also = comes ∙ sym also
-slot_once role room s memory reach p activity (Some last) (NotReady state) o u comes also =
-    held_once role room s memory reach (holding_own (answer s activity last) (record p { active = None }) s) o u comes also
-slot_once role room s memory reach p activity last (Refuses why) o u comes also = comes ∙ sym also
+slot_once role room s memory reach p activity last found o u comes also = grind (arith, held_once)
 
 rule_once : (role : Role) (rule : NetRule) (s : NetEndState) (at : Seen) (memory : List ℕ) (reach : Reach) (o u : Outcome)
     → RuleComes role rule s at memory reach o → RuleComes role rule s at memory reach u → o ≡ u
 rule_once role (Takes packet) s at memory reach o u comes also =
     comes.2 ∙ ap (took role s memory reach packet) (takes_once role s memory packet comes.0 also.0 comes.1 also.1) ∙ sym also.2
-rule_once role (Fetches p activity) s at memory reach o u comes also = slot_once role at.room s memory reach p activity activity.last (fetched s reach p.place) o u comes also
-rule_once role Puts s at memory reach o u comes also = holds_once role at.room Puts s memory reach comes.0 also.0 o u comes.1 also.1 comes.2 also.2
-rule_once role (Says message) s at memory reach o u comes also = holds_once role at.room (Says message) s memory reach comes.0 also.0 o u comes.1 also.1 comes.2 also.2
-rule_once role (Replies p reply) s at memory reach o u comes also = holds_once role at.room (Replies p reply) s memory reach comes.0 also.0 o u comes.1 also.1 comes.2 also.2
-rule_once role (Tells p) s at memory reach o u comes also = holds_once role at.room (Tells p) s memory reach comes.0 also.0 o u comes.1 also.1 comes.2 also.2
-rule_once role (Announces p) s at memory reach o u comes also = holds_once role at.room (Announces p) s memory reach comes.0 also.0 o u comes.1 also.1 comes.2 also.2
-rule_once role _ s at memory reach o u comes also = comes ∙ sym also
+rule_once role rule s at memory reach o u comes also = grind (arith, slot_once, held_once, of_some)
 
 -- two steps of one state have one answer, and leave the same
 pub step_once : (role : Role) (s : NetEndState) (at : Seen) (memory : List ℕ) (reach : Reach) (one other : NetAnswer) (t u : NetLeft)

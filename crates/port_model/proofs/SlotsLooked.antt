@@ -24,8 +24,7 @@ none_in_order slots memory number (suc count) i none within = by_test (slot_stat
         → (i : ℕ) → i < suc count → ((j : ℕ) → first_undone slots memory (number + 1) count ≡ None → j < count → slot_state ((number + 1 + j) % slots) memory ≡ 4)
         → slot_state ((number + i) % slots) memory ≡ 4
     by_test false test is i below rest = none_some _ (sym is)
-    by_test true test is zero below rest =
-        ap (λ (n : ℕ). slot_state (n % slots) memory) (front number) ∙ eqb-true (slot_state (number % slots) memory) 4 test
+    by_test true test is zero below rest = grind (arith, front, eqb-true)
     by_test true test is (suc j) below rest =
         ap (λ (n : ℕ). slot_state (n % slots) memory) (sym (behind number j)) ∙ rest j is (omega (arith, below))
 
@@ -54,12 +53,4 @@ first_in_order slots memory number (suc count) cause is = by_test (slot_state (n
         earlier : (turn : ℕ) → ((j : ℕ) → j < turn → slot_state ((number + 1 + j) % slots) memory ≡ 4) → (j : ℕ) → j < suc turn → slot_state ((number + j) % slots) memory ≡ 4
         earlier turn done zero below = at_front ∙ eqb-true (slot_state (number % slots) memory) 4 test
         earlier turn done (suc j) below = ap (λ (n : ℕ). slot_state (n % slots) memory) (sym (behind number j)) ∙ done j (omega (arith, below))
-    by_test false test here later =
-        of_some (FirstUndone slots memory number (suc count)) (the_cause.NotDone (number % slots) (slot_state (number % slots) memory)) cause here
-        (record {
-          turn = 0;
-          named = omega arith;
-          done = λ j below. absurd (omega (arith, below));
-          undone = λ four. true_false (sym (ap (λ (n : ℕ). n == 4) (sym at_front ∙ four)) ∙ test);
-          cause_is = ap (λ (n : ℕ). the_cause.NotDone (n % slots) (slot_state (n % slots) memory)) (sym (front number));
-        })
+    by_test false test here later = grind (arith, of_some, true_false, front)

@@ -1,10 +1,9 @@
 -- An end always has a next step.
-use Rattle.std.proofs.Common.{◌≡◌, ◌≢◌, ℕ, Bool, true, false, Option, Some, None, List, ◌∷◌, refl, sym, subst, ap, ◌∙◌}
+use Rattle.std.proofs.Common.{◌≡◌, ◌≢◌, ℕ, Bool, true, false, Option, Some, None, List, ◌∷◌, refl, sym, subst, ap, ◌∙◌, arith}
 use Rattle.std.specs.Prelude.{is_some, ◌+◌, ◌%◌}
 use Rattle.ldc_link.specs.declared.phase.LinkPhase.{LinkPhase}
 use Rattle.ldc_link.specs.declared.phase.LinkPhase.TheVariants as phase
 use Rattle.ldc_link.specs.declared.phase.Role.{Role}
-use Rattle.ldc_link.specs.declared.phase.Role.TheVariants.{Initiator}
 use Rattle.ldc_link.specs.LinkState.{LinkState, cleared, is_established, is_up, offered}
 use Rattle.ldc_link.specs.Putting.{behind_put, link_puts, owed_in, owed_packet, owes, with_link}
 use Rattle.ldc_link.specs.Taking.{Heard, LinkTake, Unheard, takes_decoded}
@@ -40,8 +39,7 @@ some_step answer left step = record { answer = answer; left = left; step = step 
 
 -- A LINK that holds a message, or owes a packet, has a packet to put
 established : (ph : LinkPhase) → is_established ph ≡ true → ph ≡ phase.Established
-established phase.Established is = refl
-established _ is = false_true is
+established ph is = grind (arith, false_true)
 
 pub record HasPacket (k : LinkState) : Type 0 where
   pub packet : Packet
@@ -78,8 +76,7 @@ puts_step role s at memory reach held holds owing true room =
     })
   where
     opened_link : (role : Role) (opens : Bool) (s : NetEndState) → (opened_by_put role opens s).link ≡ s.link
-    opened_link Initiator false s = refl
-    opened_link _ _ s = refl
+    opened_link role opens s = grind arith
 
     put_link : (role : Role) (held : NetEndState) → behind_put held.link ≡ (net_put role held).link
     put_link role held = sym (opened_link role (net_opens held) _)

@@ -1,5 +1,6 @@
 -- Where events of a port's frames may stand, after those before them, also where somebody forges packets and memory.
 use Rattle.std.specs.Prelude.{◌≡◌, ◌≢◌, ◌⊎◌, ℕ, ◌+◌, ◌-◌, ◌%◌, ◌<◌, ◌≤◌, Bool, true, false, List, length, Option, Some, None, ⊤}
+use Rattle.dring.specs.Slots.{done_state, ready_state}
 use Rattle.ldc_queue.specs.declared.end.End.{End}
 use Rattle.ldc_queue.specs.declared.end.End.TheVariants.{A, B}
 use Rattle.vio_tag.specs.declared.cause.Cause.{Cause}
@@ -162,7 +163,7 @@ AcknowledgesAt l (OnLane (Steps e (Sent packet opens))) =
 AcknowledgesAt l _ = ⊤
 
 abbrev pub SlotCause : (slots : ℕ) → Cause → SessionLog → Type 0
-SlotCause slots (the_cause.NotReady slot state) s = (slot ≡ s.taken % slots) × (s.taken ≡ s.answered) × (state ≢ 2)
+SlotCause slots (the_cause.NotReady slot state) s = (slot ≡ s.taken % slots) × (s.taken ≡ s.answered) × (state ≢ ready_state)
 SlotCause slots (the_cause.Frame size count) s = (size < 14) ⊎ ((1514 < size) ⊎ ((count < 1) ⊎ (3 < count)))
 SlotCause slots (the_cause.Copy fault) s = (1 ≤ fault) × (fault ≤ 6)
 SlotCause slots _ s = ⊥
@@ -179,14 +180,14 @@ OwnResetAt l (OnLane (Steps e (Reset cause packet lost))) = OwnReset l.shape.slo
 OwnResetAt l _ = ⊤
 
 -- An ACK for which an end resets itself begins at its first frame that isn't acknowledged and goes no further than what is
--- published. It names the slot, which isn't DONE, by one of its turns.
+-- published. It names the slot, which isn't DONE, by its place in that range.
 pub record NamesUndone (slots slot state : ℕ) (s : SessionLog) (message : List ℕ) : Type 0 where
   pub begins : start_of message ≡ s.seen % slots
   pub within : s.seen + range_of slots message ≤ s.published
   pub turn : ℕ
   pub named : turn < range_of slots message
   pub slot_is : slot ≡ (s.seen + turn) % slots
-  pub state_is : state ≢ 4
+  pub state_is : state ≢ done_state
 
 abbrev pub SomeMessage : Option (List ℕ) → (List ℕ → Type 0) → Type 0
 SomeMessage None Holds = ⊥

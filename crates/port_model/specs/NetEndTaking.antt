@@ -1,6 +1,6 @@
 -- What an end of a port makes of the packet that it takes.
 use Rattle.std.specs.Prelude.{◌≡◌, ℕ, zero, suc, ◌+◌, ◌*◌, ◌%◌, ◌==◌, Bool, true, false, ◌&&◌, not, nat_le, nat_lt, if◌then◌else◌, List, [], ◌∷◌, drop, slice_index, Option, Some, None, Result, Ok, Err}
-use Rattle.dring.specs.Slots.{free_state, range_length, slot_bytes}
+use Rattle.dring.specs.Slots.{done_state, free_state, range_length, slot_bytes}
 use Rattle.ldc_link.specs.declared.phase.Role.{Role}
 use Rattle.ldc_link.specs.declared.phase.Role.TheVariants.{Initiator, Responder}
 use Rattle.ldc_link.specs.LinkState.{LinkState, cleared}
@@ -65,7 +65,7 @@ slot_state slot memory = slice_index (slot_bytes 64 slot memory) 0
 abbrev pub first_undone : ℕ → List ℕ → (number count : ℕ) → Option Cause
 first_undone slots memory number zero = None
 first_undone slots memory number (suc count) =
-    if slot_state (number % slots) memory == 4 then first_undone slots memory (number + 1) count
+    if slot_state (number % slots) memory == done_state then first_undone slots memory (number + 1) count
     else Some (the_cause.NotDone (number % slots) (slot_state (number % slots) memory))
 
 abbrev pub freed : ℕ → (number count : ℕ) → List ℕ → List ℕ

@@ -2,7 +2,7 @@
 use Rattle.std.specs.Prelude.{ℕ, List, [], ◌∷◌, ◌++◌, Option, Some, None}
 use Rattle.ldc_queue.specs.declared.end.End.{End}
 use Rattle.ldc_queue.specs.declared.end.End.TheVariants.{A, B}
-use Rattle.ldc_queue.specs.Transcript.{Turn}
+use Rattle.ldc_queue.specs.Transcript.{Utterance}
 use Rattle.channel_model.specs.Messages.{ended_by, opening_sid}
 use Rattle.channel_model.specs.Sayings.{half_heard, half_said}
 use Rattle.channel_model.specs.TranscriptLog.{TranscriptLog, nothing_said, transcript_moved, transcript_of}
@@ -42,8 +42,8 @@ abbrev pub log_of_end : End → PortLog → EndLog
 log_of_end A l = l.guest
 log_of_end B l = l.hub
 
--- WHAT AN ANSWER is for its end, which said and heard these turns before
-abbrev pub after_answer : ℕ → List Turn → NetAnswer → EndLog → EndLog
+-- WHAT AN ANSWER is for its end, which said and heard these utterances before
+abbrev pub after_answer : ℕ → List Utterance → NetAnswer → EndLog → EndLog
 after_answer slots turns (Joined lost) l = ends_log lost l
 after_answer slots turns (Took packet opens) l =
     opens_log opens (opening_sid (half_heard turns) packet) (hears_log slots (ended_by (half_heard turns) packet) l)

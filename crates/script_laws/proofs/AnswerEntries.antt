@@ -159,10 +159,9 @@ lane_end x (OfPort k event) of_lane told = told.0
 lane_end x _ of_lane told = absurd of_lane
 
 unnamed_end : (x : Meaning) (m : SettleEntry) → LeavesNone m → Tells x m → is_name x ≡ false
-unnamed_end x (OfLane k event) leaves told = told.1
-unnamed_end x (OfPort k event) leaves told = told.1
-unnamed_end x Settled leaves told = told.1
-unnamed_end x _ leaves told = absurd leaves
+unnamed_end x (Unsettled k) leaves told = absurd leaves
+unnamed_end x (UnsettledPort k) leaves told = absurd leaves
+unnamed_end x _ leaves told = told.1
 
 as_up_to : (part : List Entry) → IsAnswer part → UpToAnswer part
 as_up_to [] answer = absurd answer

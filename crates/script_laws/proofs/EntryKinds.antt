@@ -29,7 +29,7 @@ use Rattle.domain_script.specs.declared.event.EndName.{EndName}
 use Rattle.ldc_queue.specs.declared.end.End.{End}
 use Rattle.ldc_queue.specs.declared.end.End.TheVariants.{A}
 use Rattle.world_parts.specs.domain_laws.Lines.{Asked, Call, Calls, DiskLane, Injects, Joins, LaneName, Line, Pokes, PortLane, Sends}
-use Rattle.ldom_report.specs.DiskEvents.{Defective, NoRoom, NotTaken, Nothing, OfDisk, Refusal, defect_of, not_taken_for, not_taken_on, refused, request_asked, said}
+use Rattle.ldom_report.specs.DiskEvents.{BecameOf, Defective, NoRoom, NotTaken, Nothing, Refusal, defect_of, not_taken_for, not_taken_on, refused, request_asked, said}
 use Rattle.ldom_report.specs.LaneEvents.{AtLane, AtPort, AtServer, AtWire, ChangesNothing, LeavesNothing, LeavesOver, Meaning, NoRoomFor, Publishes, Refuses, Switches, TakesFrame, meaning}
 use Rattle.world_parts.specs.WorldEvents.{at_disk, at_port, declined_at, full_call, full_event, if_so, is_end, is_lane, of_net, on_channel, port_declined, refused_asked, refused_call, refused_event, world_event}
 use Rattle.world_parts.specs.world_laws.Failures.{is_failed_done}
@@ -52,7 +52,7 @@ pub record AtDisk (entry : Entry) (means : SettleEntry) : Type 0 where
   pub event : DiskEvent
   pub seen : plain.ListEvent
   pub means_is : means ≡ OfLane disk event
-  pub said_is : said entry ≡ OfDisk disk seen
+  pub said_is : said entry ≡ BecameOf disk seen
   pub sees : request_event event ≡ Some seen
   pub keeps : kept seen ≡ Some seen
   pub failed : is_failed_done event ≡ has_failed seen

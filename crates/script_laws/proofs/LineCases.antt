@@ -1,7 +1,7 @@
 -- What each kind of line does: no other lemma lists the kinds.
 use Rattle.std.proofs.Common.{◌≡◌, ℕ, ◌<◌, true, false, List, [], length, refl, ap, arith, ◌⊎◌, inl, inr, IsTrue}
 use Rattle.vdisk_msg.specs.declared.request.Request.TheVariants.{Read, Write, Flush}
-use Rattle.domain_script.specs.Limits.{AreTurns}
+use Rattle.domain_script.specs.Limits.{AreRepeats}
 use Rattle.domain_script.specs.Words.{IsWithin}
 use Rattle.domain_script.specs.numbers.Bounds.TheVariants.{Between}
 use Rattle.domain_script.specs.declared.event.DiskDecl.{DiskDecl}
@@ -114,7 +114,7 @@ ends names e =
     by_line (λ (x : Event). is_opening x ≡ false → (noted names x).ended ≡ true) (λ other. absurd (cc other)) (λ disk other. absurd (cc other)) (λ port other. absurd (cc other))
     (λ x _ closes other. ap (λ (n : NamesState). n.ended) (closes names)) e
 
-turns : (count : ℕ) → IsWithin (Between 1 100) count → AreTurns count
+turns : (count : ℕ) → IsWithin (Between 1 100) count → AreRepeats count
 turns count is = (omega (arith, is.0), is.1)
 
 -- the memory that is poked
@@ -125,7 +125,8 @@ has_memory _ side of_disk = tt
 module _ (names : NamesState) (w : DomainState) (disks : length w.first.lanes ≡ length names.disks)
     (ports : length w.second ≡ length names.ports) where
   same_number : (kind : LaneKind) → number_of_kind kind w ≡ count_of kind names
-  same_number kind = grind arith
+  same_number kinds.Disk = disks
+  same_number _ = grind arith
 
   within : (kind : LaneKind) (k : ℕ) → k < count_of kind names → k < number_of_kind kind w
   within kind k less = omega (arith, less, same_number kind)

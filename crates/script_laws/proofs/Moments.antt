@@ -8,7 +8,7 @@ use Rattle.world_parts.specs.disk_model.LaneState.{IsShape, LaneState, Shape, fr
 use Rattle.world_parts.specs.disk_model.LaneStep.{LaneStep}
 use Rattle.world_parts.specs.channel_model.WireLog.{WireLog}
 use Rattle.world_parts.proofs.lane_laws.AgreementRuns.{run_agrees}
-use Rattle.world_parts.proofs.lane_laws.CountsTurn.{counts_in_turn}
+use Rattle.world_parts.proofs.lane_laws.CountsFollow.{counts_in_turn}
 use Rattle.world_parts.proofs.lane_laws.NearOrder.{near_in_order}
 use Rattle.world_parts.proofs.lane_laws.OneSession.{one_session}
 use Rattle.world_parts.proofs.lane_laws.SlotsAlong.{run_order}

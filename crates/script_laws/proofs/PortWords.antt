@@ -4,7 +4,7 @@ use Rattle.std.proofs.lemmas.Bool.{eq-eqb}
 use Rattle.std.specs.Prelude.{⊤}
 use Rattle.runs.specs.Lawful.{lawful_split, log_of}
 use Rattle.runs.specs.Run.{Run, run_push}
-use Rattle.ldc_queue.specs.Transcript.{Turn}
+use Rattle.ldc_queue.specs.Transcript.{Utterance}
 use Rattle.ldc_queue.specs.declared.end.End.{End}
 use Rattle.vio_tag.specs.declared.cause.Cause.{Cause}
 use Rattle.vio_tag.specs.declared.cause.Cause.TheVariants as the_cause
@@ -44,7 +44,7 @@ IsPortTold many (UnsettledPort k) = k < many
 IsPortTold many _ = ⊤
 
 -- ONE EVENT of a port that is reached
-cause_named : (slots : ℕ) (l : EndLog) (turns : List Turn) (cause : Cause) (packet : Option (List ℕ)) → OwnReset slots l cause packet
+cause_named : (slots : ℕ) (l : EndLog) (turns : List Utterance) (cause : Cause) (packet : Option (List ℕ)) → OwnReset slots l cause packet
     → ResetSays turns packet cause → NamesFault cause
 cause_named slots l turns cause packet own says = grind arith
 

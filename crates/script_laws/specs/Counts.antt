@@ -1,7 +1,6 @@
 -- How often the objects outside of a call failed, before it and after it.
 use Rattle.std.specs.Prelude.{◌≡◌, ◌≢◌, ℕ, ◌≤◌}
-use Rattle.vio_io.specs.Causes.{Rose}
-use Rattle.vio_io.specs.Causes.{Fails}
+use Rattle.vio_io.specs.Causes.{Fails, Rose}
 use Rattle.ldom_report.specs.declared.status.Status.{Status}
 use Rattle.ldom_report.specs.declared.status.Status.TheVariants.{HostFault, SinkFault, SourceFault}
 use Rattle.script_laws.specs.Clean.{StandsStill}
@@ -15,18 +14,16 @@ pub record Counts : Type 0 where
 abbrev pub counts : ℕ → ℕ → ℕ → Counts
 counts source host sink = record { source = source; host = host; sink = sink }
 
--- A fault of one of them is answered only where its count rose. Where another status is answered, it stays; a fault of
--- the sink, which comes last, may hide one of the others. No count falls.
+-- A fault of one of them is answered only where its count rose, the sink's by one. Where another status is answered, it
+-- stays; a fault of the sink, which comes last, may hide one of the others. No count falls.
 pub record FaultsTold (status : Status) (before now : Counts) : Type 0 where
   pub source_fault : status ≡ SourceFault → Rose before.source now.source
   pub host_fault : status ≡ HostFault → Rose before.host now.host
-  pub sink_fault : status ≡ SinkFault → Rose before.sink now.sink
   pub source_unfailed : status ≢ SourceFault → status ≢ SinkFault → now.source ≡ before.source
   pub host_unfailed : status ≢ HostFault → status ≢ SinkFault → now.host ≡ before.host
-  pub sink_unfailed : status ≢ SinkFault → now.sink ≡ before.sink
   pub source_count : before.source ≤ now.source
   pub host_count : before.host ≤ now.host
-  pub sink_count : before.sink ≤ now.sink
+  pub sink : Fails (status ≡ SinkFault) before.sink now.sink
 
 -- How a run ended before its report: for a fault of the source exactly where that failed, and for one of the host likewise.
 pub record RanTold (ran : Status) (before now : Counts) : Type 0 where

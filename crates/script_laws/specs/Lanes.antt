@@ -11,7 +11,7 @@ use Rattle.world_parts.specs.channel_model.Sayings.{heard, said}
 use Rattle.world_parts.specs.channel_model.TranscriptLog.{TranscriptLog, transcript_of}
 use Rattle.world_parts.specs.channel_model.WireAt.{IsUp}
 use Rattle.world_parts.specs.lane_laws.WorkLog.{ClientCounts, ServerCounts}
-use Rattle.world_parts.specs.lane_laws.CountsInTurn.{CountsInTurn}
+use Rattle.world_parts.specs.lane_laws.CountsOrdered.{CountsOrdered}
 use Rattle.world_parts.specs.lane_laws.OneSession.{AreOneSession}
 use Rattle.world_parts.specs.lane_laws.SlotsInOrder.{RingInOrder}
 use Rattle.world_parts.specs.world_laws.Along.{happened}
@@ -42,7 +42,7 @@ pub record HearsAFront (e : End) (transcript : TranscriptLog) : Type 0 where
 pub record StandsUnforged (s : LaneState) (l : DiskLog) : Type 0 where
   pub hears : (e : End) → IsUp e s.wire.wire → HearsAFront e l.transcript
   pub sessions : is_some s.client.session ≡ true → is_some s.server.session ≡ true → IsOneSession s
-  pub counts : (k : ClientCounts) (d : ServerCounts) → l.work.client ≡ Some k → l.work.server ≡ Some d → CountsInTurn k d
+  pub counts : (k : ClientCounts) (d : ServerCounts) → l.work.client ≡ Some k → l.work.server ≡ Some d → CountsOrdered k d
   pub slots : (k : ClientCounts) → l.work.client ≡ Some k → RingInOrder s l k
   pub near : NearInOrder l
 

@@ -27,9 +27,9 @@ abbrev pub most_of_a_piece : ℕ
 most_of_a_piece = 1540
 
 -- the steps of a line, and its rounds
-abbrev pub most_turns : ℕ
-most_turns = 100
+abbrev pub most_repeats : ℕ
+most_repeats = 100
 
 -- how many steps or rounds a line may ask for
-abbrev pub AreTurns : ℕ → Type 0
-AreTurns count = (0 < count) × (count ≤ most_turns)
+abbrev pub AreRepeats : ℕ → Type 0
+AreRepeats count = (0 < count) × (count ≤ most_repeats)

@@ -152,3 +152,43 @@ fn an_interrupted_call_is_tried_again_and_gives_up_at_last(rt: HostRuntime) {
         );
     }
 }
+
+/// A stream of std of which each other call moves no byte, the first one too, and each call after such a one moves one.
+#[derive(Drop)]
+struct Halting {
+    moves: bool,
+}
+
+impl Halting {
+    fn call(&mut self, room: usize) -> usize
+        ensures { result ≤ room }
+    {
+        let moved = if self.moves { room.min(1) } else { 0 };
+        self.moves = !self.moves;
+        moved
+    }
+}
+
+impl Read for Halting {
+    fn read(&mut self, buf: &mut [u8]) -> io::Result<usize> {
+        Ok(self.call(buf.len()))
+    }
+}
+
+impl Write for Halting {
+    fn write(&mut self, buf: &[u8]) -> io::Result<usize> {
+        Ok(self.call(buf.len()))
+    }
+
+    fn flush(&mut self) -> io::Result<()> {
+        Ok(())
+    }
+}
+
+#[test]
+fn an_end_is_no_fault_and_a_write_of_no_bytes_is_one(rt: HostRuntime) {
+    let mut source = StdSource::new(Halting { moves: false });
+    assert!(rt; reads(&mut source, 4, &[(Ok(0), b""), (Ok(1), b""), (Ok(0), b"")]));
+    let mut sink = StdSink::new(Halting { moves: false });
+    assert!(rt; writes(&mut sink, b"ab", &[Err(Failed), Ok(1), Err(Failed)]));
+}

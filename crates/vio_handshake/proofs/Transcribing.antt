@@ -307,28 +307,28 @@ transcript_takes both d r count mine theirs to_me to_them answer t after fits tr
     ] transcript.scene transcript.acts
 
 -- the other end's view
-pub record Turned (both : Bool) (d : Deal) (r : Role) (n : Place) (a : Ahead) (mine theirs : Handshake) (to_me to_them : List Message) : Type 0 where
+pub record Mirrored (both : Bool) (d : Deal) (r : Role) (n : Place) (a : Ahead) (mine theirs : Handshake) (to_me to_them : List Message) : Type 0 where
   pub ahead : Ahead
   pub scene : Scene both d r n ahead mine theirs to_me to_them
   pub acts : acts_left both n ahead ≡ acts_left both n a
 
-turn_scene : (both : Bool) (d : Deal) (r : Role) (n : Place) (a : Ahead) (mine theirs : Handshake) (to_me to_them : List Message)
-    → Scene both d r n a mine theirs to_me to_them → Turned both d (other r) n a theirs mine to_them to_me
-turn_scene both d Initiator n Level mine theirs to_me to_them scene = record { ahead = Level; scene = (scene.1, scene.0, scene.3, scene.2); acts = refl }
-turn_scene both d Responder n Level mine theirs to_me to_them scene = record { ahead = Level; scene = (scene.1, scene.0, scene.3, scene.2); acts = refl }
-turn_scene both d Initiator n MineOne mine theirs to_me to_them scene = record { ahead = TheirsOne; scene = (scene.1, scene.0, scene.3, scene.2, scene.4); acts = refl }
-turn_scene both d Responder n MineOne mine theirs to_me to_them scene = record { ahead = TheirsOne; scene = (scene.1, scene.0, scene.3, scene.2, scene.4); acts = refl }
-turn_scene both d Initiator n MineTwo mine theirs to_me to_them scene = record { ahead = TheirsTwo; scene = (scene.1, scene.0, scene.3, scene.2, scene.4, scene.5); acts = refl }
-turn_scene both d Responder n MineTwo mine theirs to_me to_them scene = record { ahead = TheirsTwo; scene = (scene.1, scene.0, scene.3, scene.2, scene.4, scene.5); acts = refl }
-turn_scene both d Initiator n TheirsOne mine theirs to_me to_them scene = record { ahead = MineOne; scene = (scene.1, scene.0, scene.3, scene.2, scene.4); acts = refl }
-turn_scene both d Responder n TheirsOne mine theirs to_me to_them scene = record { ahead = MineOne; scene = (scene.1, scene.0, scene.3, scene.2, scene.4); acts = refl }
-turn_scene both d Initiator n TheirsTwo mine theirs to_me to_them scene = record { ahead = MineTwo; scene = (scene.1, scene.0, scene.3, scene.2, scene.4, scene.5); acts = refl }
-turn_scene both d Responder n TheirsTwo mine theirs to_me to_them scene = record { ahead = MineTwo; scene = (scene.1, scene.0, scene.3, scene.2, scene.4, scene.5); acts = refl }
+mirror_scene : (both : Bool) (d : Deal) (r : Role) (n : Place) (a : Ahead) (mine theirs : Handshake) (to_me to_them : List Message)
+    → Scene both d r n a mine theirs to_me to_them → Mirrored both d (other r) n a theirs mine to_them to_me
+mirror_scene both d Initiator n Level mine theirs to_me to_them scene = record { ahead = Level; scene = (scene.1, scene.0, scene.3, scene.2); acts = refl }
+mirror_scene both d Responder n Level mine theirs to_me to_them scene = record { ahead = Level; scene = (scene.1, scene.0, scene.3, scene.2); acts = refl }
+mirror_scene both d Initiator n MineOne mine theirs to_me to_them scene = record { ahead = TheirsOne; scene = (scene.1, scene.0, scene.3, scene.2, scene.4); acts = refl }
+mirror_scene both d Responder n MineOne mine theirs to_me to_them scene = record { ahead = TheirsOne; scene = (scene.1, scene.0, scene.3, scene.2, scene.4); acts = refl }
+mirror_scene both d Initiator n MineTwo mine theirs to_me to_them scene = record { ahead = TheirsTwo; scene = (scene.1, scene.0, scene.3, scene.2, scene.4, scene.5); acts = refl }
+mirror_scene both d Responder n MineTwo mine theirs to_me to_them scene = record { ahead = TheirsTwo; scene = (scene.1, scene.0, scene.3, scene.2, scene.4, scene.5); acts = refl }
+mirror_scene both d Initiator n TheirsOne mine theirs to_me to_them scene = record { ahead = MineOne; scene = (scene.1, scene.0, scene.3, scene.2, scene.4); acts = refl }
+mirror_scene both d Responder n TheirsOne mine theirs to_me to_them scene = record { ahead = MineOne; scene = (scene.1, scene.0, scene.3, scene.2, scene.4); acts = refl }
+mirror_scene both d Initiator n TheirsTwo mine theirs to_me to_them scene = record { ahead = MineTwo; scene = (scene.1, scene.0, scene.3, scene.2, scene.4, scene.5); acts = refl }
+mirror_scene both d Responder n TheirsTwo mine theirs to_me to_them scene = record { ahead = MineTwo; scene = (scene.1, scene.0, scene.3, scene.2, scene.4, scene.5); acts = refl }
 
 pub turn_transcript : (both : Bool) (d : Deal) (r : Role) (count : ℕ) (mine theirs : Handshake) (to_me to_them : List Message)
     → Transcript both d r count mine theirs to_me to_them → Transcript both d (other r) count theirs mine to_them to_me
 turn_transcript both d r count mine theirs to_me to_them transcript =
-    let turned = turn_scene both d r transcript.place transcript.ahead mine theirs to_me to_them transcript.scene in
+    let turned = mirror_scene both d r transcript.place transcript.ahead mine theirs to_me to_them transcript.scene in
     record {
       place = transcript.place;
       ahead = turned.ahead;

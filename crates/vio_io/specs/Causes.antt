@@ -19,11 +19,12 @@ count_after (suc n) count = next_count (count_after n count)
 abbrev pub Rose : ℕ → ℕ → Type 0
 Rose before now = before < last_count → before < now
 
--- A CALL that failed exactly where this holds: then the count rose, and else it stayed.
+-- A CALL that failed exactly where this holds: then the count rose, once, and else it stayed.
 pub record Fails (failed : Type 0) (before now : ℕ) : Type 0 where
   pub unfailed : (failed → ⊥) → now ≡ before
   pub count : before ≤ now
   pub cause : failed → Rose before now
+  pub once : failed → now ≡ next_count before
 
 -- One that counts exactly one fault where it failed, and none else.
 abbrev pub FaultsAfter : Bool → ℕ → ℕ → Type 0

@@ -1,5 +1,5 @@
-ghost use Rattle.std.specs.Prelude.{◌≡◌, ◌↔◌, ◌≤◌, IsErr, IfOk, IsTrue, is_err};
-ghost use Rattle.vio_io.specs.Causes.{Fails, FaultsAfter, Rose, next_count};
+ghost use Rattle.std.specs.Prelude.{◌≡◌, ◌↔◌, IsErr, IfOk, IsTrue, is_err, ⊤};
+ghost use Rattle.vio_io.specs.Causes.{Fails, FaultsAfter, next_count};
 ghost use Rattle.vio_io.specs.FaultPlan.{Plan, after_call, fails_next, unused};
 
 use crate::{Failed, NoMemory};
@@ -51,8 +51,7 @@ impl FaultPlan {
     /// Counts a fault that is in no list.
     pub fn fail(&mut self)
         ensures after { self.new ≡ record self.old { faults = next_count self.old.faults } }
-        ensures count { self.old.faults ≤ self.new.faults }
-        ensures cause { Rose self.old.faults self.new.faults }
+        ensures faults { Fails ⊤ self.old.faults self.new.faults }
     {
         self.faults = self.faults.saturating_add(1);
     }

@@ -5,7 +5,7 @@ pub mod FetchEnds
 pub mod LinkTakes
 pub mod Heard
 pub mod Ruled
-pub mod Turned
+pub mod RuleChosen
 pub mod HeardWhole
 pub mod HandshakeKept
 pub mod KeptPuts

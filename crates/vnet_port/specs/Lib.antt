@@ -5,7 +5,7 @@ pub mod Putting
 pub mod Fetches
 pub mod Hearing
 pub mod Memberships
-pub mod NextTurn
+pub mod NextAct
 pub use Rattle.port_frames.specs.Memories
 pub use Rattle.channel_model.specs.Seeing
 pub use Rattle.channel_model.specs.WireEvent

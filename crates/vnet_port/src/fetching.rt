@@ -37,7 +37,7 @@ impl PortEnd {
     ghost use Rattle.vnet_port.specs.Putting.{CanSay};
     ghost use Rattle.vnet_port.specs.Standing.{Stands};
     ghost use Rattle.vnet_port.specs.Stepping.{Steps, rule_of};
-    ghost use Rattle.vnet_port.specs.NextTurn.{is_active};
+    ghost use Rattle.vnet_port.specs.NextAct.{is_active};
 
     /// The peer's ring.
     fn peer_ring(&self) -> PeerRing

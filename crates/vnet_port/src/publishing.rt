@@ -15,7 +15,7 @@ impl PortEnd {
     ghost use Rattle.port_model.specs.NetEndState.{NetSession, unseen_in};
     ghost use Rattle.vnet_port.specs.Standing.{IsSized};
     ghost use Rattle.vnet_port.specs.Stepping.{StepsAlone, rule_of};
-    ghost use Rattle.vnet_port.specs.NextTurn.{has_unpublished};
+    ghost use Rattle.vnet_port.specs.NextAct.{has_unpublished};
 
     /// Publishes the first frame that isn't published in this session.
     pub(crate) fn publish(&mut self, memory: &mut Memory, out: &mut NetOut)

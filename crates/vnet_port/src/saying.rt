@@ -37,7 +37,7 @@ impl PortEnd {
     ghost use Rattle.vnet_port.specs.Putting.{CanSay, MayOpen};
     ghost use Rattle.vnet_port.specs.Standing.{IsSized, SessionStands};
     ghost use Rattle.vnet_port.specs.Stepping.{StepsAlone, rule_of};
-    ghost use Rattle.vnet_port.specs.NextTurn.{is_to_announce, is_to_tell, owes_reply};
+    ghost use Rattle.vnet_port.specs.NextAct.{is_to_announce, is_to_tell, owes_reply};
 
     /// Puts the rest of what the link owes.
     pub(crate) fn put_rest(&mut self, channel: &mut Channel, memory: &mut Memory, out: &mut NetOut)

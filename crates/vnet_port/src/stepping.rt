@@ -23,7 +23,7 @@ impl PortEnd {
     ghost use Rattle.vnet_port.specs.Standing.{Stands};
     ghost use Rattle.port_frames.specs.Memories.{HoldsRing};
     ghost use Rattle.vnet_port.specs.Stepping.{Steps, StepsAlone, rule_of};
-    ghost use Rattle.vnet_port.specs.NextTurn.{offers};
+    ghost use Rattle.vnet_port.specs.NextAct.{offers};
 
     /// An end that isn't up joins; what the link owes is put, and what the handshake owes is said. In session an answer to
     /// groups is said, and the peer's ring is worked. A packet that waits is taken, and then the end goes on with its own.
@@ -120,7 +120,7 @@ impl PortEnd {
 impl PortEnd {
     ghost use Rattle.port_model.specs.FramesStand.{FramesStand};
     ghost use Rattle.vnet_port.specs.Calls.{role_of};
-    ghost use Rattle.vnet_port.specs.NextTurn.{has_unpublished, is_active, is_to_announce, is_to_tell, owes_reply};
+    ghost use Rattle.vnet_port.specs.NextAct.{has_unpublished, is_active, is_to_announce, is_to_tell, owes_reply};
 
     /// Whether an answer to groups is owed.
     fn owes_reply(&self) -> bool

@@ -5,7 +5,7 @@ use Rattle.runs.specs.Lawful.{lawful_split, log_of, run_lawful}
 use Rattle.runs.specs.Run.{Run, run_push}
 use Rattle.ldc_queue.specs.declared.end.End.{End}
 use Rattle.ldc_queue.specs.declared.end.End.TheVariants.{A, B}
-use Rattle.ldc_queue.specs.Transcript.{Turn}
+use Rattle.ldc_queue.specs.Transcript.{Utterance}
 use Rattle.vdisk_msg.specs.declared.request.Request.{Request}
 use Rattle.vdisk_msg.specs.declared.request.Request.TheVariants.{Flush, Read, Write}
 use Rattle.vdisk_msg.specs.Requests.{BadCount, Defect, defect, given_count, operation_of}
@@ -75,7 +75,7 @@ joined_none : (e : End) (s : LaneState) (lost : ℕ) (t : LaneState) → EndOnWi
 joined_none A s lost t step = step.step.1
 joined_none B s lost t step = step.1.step.1.1
 
-cause_named : (l : DiskLog) (turns : List Turn) (e : End) (cause : Cause) (packet : Option (List ℕ)) → ResetOf l e cause packet → ResetSays turns packet cause → NamesFault cause
+cause_named : (l : DiskLog) (turns : List Utterance) (e : End) (cause : Cause) (packet : Option (List ℕ)) → ResetOf l e cause packet → ResetSays turns packet cause → NamesFault cause
 cause_named l turns e cause packet own says = grind arith
 
 reset_words : (l : DiskLog) (e : End) (cause : Cause) (packet : Option (List ℕ)) (lost : ℕ) → May l (OnWire (Reset e cause packet lost)) → HasWords (OnWire (Reset e cause packet lost))

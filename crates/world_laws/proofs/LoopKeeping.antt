@@ -17,7 +17,7 @@ use Rattle.disk_model.specs.ClientState.{ClientSession, ClientState}
 use Rattle.disk_model.specs.ClientTaking as taking
 use Rattle.disk_model.specs.DiskEvent.{Accepted, Admitted, Asks, Calm, DiskEvent, Full, Off, OnWire, Refused, Calms, Started, Stopped, Switched, Switches, Worked, Works}
 use Rattle.disk_model.specs.LaneState.{LaneState}
-use Rattle.disk_model.specs.LaneStep.{EndOnWire, LaneStep, ResetBy, CalmStep, TurnStep, WireStep, WorkStep}
+use Rattle.disk_model.specs.LaneStep.{EndOnWire, LaneStep, ResetBy, CalmStep, SwitchedStep, WireStep, WorkStep}
 use Rattle.channel_model.specs.Seeing.{seen}
 use Rattle.lane_laws.proofs.Requesting.{held_kept, sent_kept}
 use Rattle.lane_laws.proofs.RingPages.{same_pages}
@@ -106,7 +106,7 @@ next_on_wire s event t step = grind (arith, next_joined, next_took, next_sent, n
 next_works : (s : LaneState) (event : Worked) (t : LaneState) → WorkStep s event t → t.client.next_id ≡ s.client.next_id
 next_works s event t step = grind arith
 
-next_turns : (s : LaneState) (event : Switched) (t : LaneState) → TurnStep s event t → t.client.next_id ≡ s.client.next_id
+next_turns : (s : LaneState) (event : Switched) (t : LaneState) → SwitchedStep s event t → t.client.next_id ≡ s.client.next_id
 next_turns s Stopped t step = ap (λ (x : LaneState). x.client.next_id) step.1
 next_turns s Started t step = ap (λ (x : LaneState). x.client.next_id) step.1
 next_turns s Off t step = ap (λ (x : LaneState). x.client.next_id) step.1

@@ -12,7 +12,7 @@ use Rattle.domain_script.specs.declared.fields.LaneKind.{LaneKind}
 use Rattle.domain_script.specs.declared.fields.LaneKind.TheVariants as kinds
 use Rattle.domain_script.specs.Addresses.{IsGroup}
 use Rattle.domain_script.specs.Fills.{IsPiece}
-use Rattle.domain_script.specs.Limits.{AreTurns}
+use Rattle.domain_script.specs.Limits.{AreRepeats}
 use Rattle.domain_laws.specs.world_laws.Settle.{SettleEntry}
 use Rattle.domain_laws.specs.Domain.{DomainState}
 use Rattle.domain_laws.specs.Lines.{Asked, Calls, DiskLane, Injects, Joins, LaneName, Line, LineBegins, LineMoves, Loses, Nothing, Pokes, Resets, Restarts, Rounds, Sends, Settles, Starts, Steps, Stops, Ticks}
@@ -68,8 +68,8 @@ abbrev pub IsForLanes : DomainState → Event → Type 0
 IsForLanes w (event.Issue disk request) = (disk < length w.first.lanes) × IsRequest request
 IsForLanes w (event.Send port frame) = (port < length w.second) × IsPiece frame
 IsForLanes w (event.Join port address) = (port < length w.second) × IsGroup address
-IsForLanes w (event.Step end count) = IsLaneOf w end.lane × AreTurns count
-IsForLanes w (event.Round count) = AreTurns count
+IsForLanes w (event.Step end count) = IsLaneOf w end.lane × AreRepeats count
+IsForLanes w (event.Round count) = AreRepeats count
 IsForLanes w (event.Reset end) = IsLaneOf w end.lane
 IsForLanes w (event.Restart end) = IsLaneOf w end.lane × (end.lane.kind ≡ kinds.Disk) × (end.side ≡ Server)
 IsForLanes w (event.Stop disk) = disk < length w.first.lanes

@@ -1,4 +1,4 @@
-use Rattle.dring.proofs.Turning.{behind_put, one_slot_put, slot_put}
+use Rattle.dring.proofs.Laps.{behind_put, one_slot_put, slot_put}
 use Rattle.dring.proofs.laws.one_slot_at_a_time.Goals as goal
 
 pub returns : goal.returns

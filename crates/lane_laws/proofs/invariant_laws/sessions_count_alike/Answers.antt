@@ -1,5 +1,5 @@
 use Rattle.lane_laws.proofs.Agreeing.{always_agree, client_counts, server_counts}
-use Rattle.lane_laws.proofs.CountsTurn.{counts_in_turn}
+use Rattle.lane_laws.proofs.CountsFollow.{counts_in_turn}
 use Rattle.lane_laws.proofs.invariant_laws.sessions_count_alike.Goals as goal
 
 pub returns : goal.returns

@@ -1,4 +1,4 @@
-use Rattle.lane_laws.proofs.FallsInTurn.{many_fall, took_falls}
+use Rattle.lane_laws.proofs.FallsByTaking.{many_fall, took_falls}
 use Rattle.lane_laws.proofs.RemainingBounds.{fresh_remains}
 use Rattle.lane_laws.proofs.RemainingRuns.{resets_fall, resets_remain, steps_fall}
 use Rattle.lane_laws.proofs.invariant_laws.what_remains_falls_by_what_an_end_does.Goals as goal

@@ -14,10 +14,10 @@ returns-clause-dumps g c =
 pub returns-clause-source_fault : goal.returns-clause-source_fault
 returns-clause-source_fault g c = search rules
 
-pub returns-clause-sink_fault : goal.returns-clause-sink_fault
-returns-clause-sink_fault g c = search rules
+pub returns-clause-sink : goal.returns-clause-sink
+returns-clause-sink g c = record { unfailed = search rules; count = search rules; cause = search rules; once = search rules }
 
 pub returns-clause-complete : goal.returns-clause-complete
 returns-clause-complete g c bytes is whole source sink =
     completes (g.S.Source.left c.args.script.now) (g.S.Source.left c.dump_all-ended.new.source) c.finish.result (g.K.Sink.written c.args.out.now) (g.K.Sink.written c.finish.new.out) bytes _ _ _ _ (returns-clause-dumps g c) is whole
-    (λ was. source (returns-clause-source_fault g c was)) (λ was. sink (returns-clause-sink_fault g c was))
+    (λ was. source (returns-clause-source_fault g c was)) (λ was. sink ((returns-clause-sink g c).cause was))

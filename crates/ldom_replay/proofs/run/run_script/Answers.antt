@@ -52,8 +52,8 @@ returns-in_default g c =
       sized = sized_as g.H.Disk.Store.size gives why c.into_run.result.status read.names c.into_run.result.names None c.into_run.result.image
           (c.into_run.ensures.status ∙ c.status-status.ensures) c.into_run.ensures.names c.into_run.ensures.image
           (sized_none g.H.Disk.Store.size why (512 * blocks_of read.names.disks) (gives (512 * blocks_of read.names.disks)) (readers_of c.in-Err-read_opening.stop read.lines.number));
-      source = record { unfailed = search rules; count = search rules; cause = search rules };
-      host = record { unfailed = search rules; count = omega arith; cause = search rules };
+      source = record { unfailed = search rules; count = search rules; cause = search rules; once = search rules };
+      host = record { unfailed = search rules; count = omega arith; cause = search rules; once = search rules };
       image = gave_as _ _ None c.into_run.result.image c.into_run.ensures.image refl;
       ends = subst (λ (w : Status). EndsTold w base (g.S.Source.ends c.read_opening.new.source)) (sym (c.into_run.ensures.status ∙ c.status-status.ensures))
           (ends_told c.in-Err-read_opening.stop read.lines.number read.lines.stop base (g.S.Source.ends c.read_opening.new.source)

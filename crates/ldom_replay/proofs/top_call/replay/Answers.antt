@@ -113,7 +113,7 @@ returns-in-Some-Sample-clause-samples_whole g c number asks host sink store =
     subst (λ (j : JournalState). EndsClean c.report_run-in-Some-Sample.result.status j.entries) (sym c.report_run-in-Some-Sample.ensures.journal)
     (completes _ _ _ _ _ _ _ _ _ _ c.run_sample.ensures.replayed.replayed c.report_run-in-Some-Sample.result.status (g.K.Sink.written c.args.out.now) (g.K.Sink.written c.report_run-in-Some-Sample.new.out) _
     (sample_text c.in-Some-Sample.number) c.report_run-in-Some-Sample.ensures.reports refl (sample_clean c.in-Some-Sample.number)
-    (λ ran. c.run_sample.ensures.source ran) (λ ran. still _ _ host (c.run_sample.ensures.host.cause ran)) (λ told ran. still _ _ sink (c.report_run-in-Some-Sample.ensures.sink_fault told ran))
+    (λ ran. c.run_sample.ensures.source ran) (λ ran. still _ _ host (c.run_sample.ensures.host.cause ran)) (λ told ran. still _ _ sink ((c.report_run-in-Some-Sample.ensures.sink ran).cause told))
     (subst (λ (i : Option g.row.H-Disk.Denot). IfSome i (λ disk. g.H.Disk.Store.faults disk ≡ 0)) c.report_run-in-Some-Sample.ensures.image store)
     g.H.Disk.Store.size c.run_sample.ensures.sized (codes "-") (λ is n. g.met.H.Host.dash c.args.host.now n) (λ other. absurd (other refl)))
 
@@ -230,7 +230,7 @@ returns-in-Some-Script-clause-complete g c shown image asks bytes known clean st
     let named : image ≡ c.in-Some-Script.image.now = (one_asked words c.in-Some-Script.mode shown c.in-Some-Script.image.now image own asks).1 in
     subst (λ (j : JournalState). EndsClean c.report_run.result.status j.entries) (sym c.report_run.ensures.journal)
     (completes _ _ _ _ _ _ _ _ _ _ c.run_script.ensures.replayed c.report_run.result.status (g.K.Sink.written c.args.out.now) (g.K.Sink.written c.report_run.new.out) _ bytes c.report_run.ensures.reports known clean
-    (λ ran. still _ _ still_all.source (c.run_script.ensures.source.cause ran)) (λ ran. still _ _ still_all.host (c.run_script.ensures.host.cause ran)) (λ told ran. still _ _ still_all.sink (c.report_run.ensures.sink_fault told ran))
+    (λ ran. still _ _ still_all.source (c.run_script.ensures.source.cause ran)) (λ ran. still _ _ still_all.host (c.run_script.ensures.host.cause ran)) (λ told ran. still _ _ still_all.sink ((c.report_run.ensures.sink ran).cause told))
     (subst (λ (i : Option g.row.H-Disk.Denot). IfSome i (λ disk. g.H.Disk.Store.faults disk ≡ 0)) c.report_run.ensures.image store)
     g.H.Disk.Store.size c.run_script.ensures.sized c.in-Some-Script.image.now (λ is n. subst (λ (name : List ℕ). g.H.Host.gives c.args.host.now name n ≡ Some (replicate n 0)) (sym is) (g.met.H.Host.dash c.args.host.now n))
     (λ other. subst (λ (i : Option g.row.H-Disk.Denot). IfSome i (λ disk. 512 * blocks_of clean.names.disks ≤ g.H.Disk.Store.size disk)) c.report_run.ensures.image (long (λ same. other (sym named ∙ same)))))

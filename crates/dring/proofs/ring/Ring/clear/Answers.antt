@@ -1,6 +1,6 @@
 use Rattle.std.proofs.Common.{ℕ, ◌*◌, List, ◌∙◌, ap}
 use Rattle.vio_bytes.specs.Place.{put_at}
-use Rattle.dring.proofs.Turning.{clear_more}
+use Rattle.dring.proofs.Laps.{clear_more}
 use Rattle.dring.proofs.ring.Ring.clear.Goals as goal
 
 pub loop-slot-preserved : goal.loop-slot-preserved

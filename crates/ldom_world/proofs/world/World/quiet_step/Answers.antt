@@ -7,12 +7,12 @@ use Rattle.ldom_world.proofs.world.World.quiet_step.Goals as goal
 
 pub returns-in-Disk-clause-made : goal.returns-in-Disk-clause-made
 returns-in-Disk-clause-made g c =
-    let step = c.quiet_step_disk in
+    let step = c.quiet_step in
     subst (λ (kind : LaneKind). IfOk step.result (λ (calm : Bool). MakesQuiet kind c.args.lane.number (end_of c.args.side) c.args.self.now
-    c.args.journal.now.entries step.new.journal.entries calm step.new.self)) (sym c.in-Disk.is) step.ensures.made
+    c.args.journal.now.entries step.new.journal.entries calm step.new.world)) (sym c.in-Disk.is) step.ensures.made
 
 pub returns-in-Port-clause-made : goal.returns-in-Port-clause-made
 returns-in-Port-clause-made g c =
-    let step = c.quiet_step_port in
+    let step = c.quiet_step-in-Port in
     subst (λ (kind : LaneKind). IfOk step.result (λ (calm : Bool). MakesQuiet kind c.args.lane.number (end_of c.args.side) c.args.self.now
-    c.args.journal.now.entries step.new.journal.entries calm step.new.self)) (sym c.in-Port.is) step.ensures.made
+    c.args.journal.now.entries step.new.journal.entries calm step.new.world)) (sym c.in-Port.is) step.ensures.made

@@ -3,18 +3,18 @@ use Rattle.ldom_world.proofs.SettlingAdds.{count_at, count_below, ended_fits, na
 use Rattle.ldom_world.specs.SettleParts.{marks_of}
 use Rattle.ldom_world.proofs.world.World.settle.Goals as goal
 
-pub returns-in_err-settle_turn-clause-so_far : goal.returns-in_err-settle_turn-clause-so_far
-returns-in_err-settle_turn-clause-so_far g c =
+pub returns-in_err-settle_pass-clause-so_far : goal.returns-in_err-settle_pass-clause-so_far
+returns-in_err-settle_pass-clause-so_far g c =
     let few = count_below c.loop.counter c.most_rounds-end.result _ c.loop-test.true c.most_rounds-end.ensures.most in
-    on_err c.from_residual.result (c.in_err-settle_turn.ensures.breaks c.args.self.now c.loop.counter
+    on_err c.from_residual.result (c.in_err-settle_pass.ensures.breaks c.args.self.now c.loop.counter
     c.args.journal.now.entries c.loop.invariant.gone few)
 
 pub returns-then-branch-clause-fits : goal.returns-then-branch-clause-fits
 returns-then-branch-clause-fits g c =
     let few = count_below c.loop.counter c.most_rounds-end.result _ c.loop-test.true c.most_rounds-end.ensures.most in
-    ended_fits c.in_ok-settle_turn.field-0 c.args.self.now c.loop.self c.settle_turn.new.self c.loop.counter
-    c.args.journal.now.entries c.loop.journal.entries c.settle_turn.new.journal.entries
-    (marks_of c.loop.had) _ (marks_of c.loop.quiet) _ c.if-branch.true c.in_ok-settle_turn.ensures.turned c.loop.invariant.gone few
+    ended_fits c.in_ok-settle_pass.field-0 c.args.self.now c.loop.self c.settle_pass.new.self c.loop.counter
+    c.args.journal.now.entries c.loop.journal.entries c.settle_pass.new.journal.entries
+    (marks_of c.loop.had) _ (marks_of c.loop.quiet) _ c.if-branch.true c.in_ok-settle_pass.ensures.turned c.loop.invariant.gone few
 
 pub returns-clause-fits : goal.returns-clause-fits
 returns-clause-fits g c =

@@ -1,7 +1,7 @@
 use Rattle.std.proofs.Common.{sym, ◌∙◌, refl, List, ℕ, Option}
 use Rattle.map_table.specs.declared.table.Entry.{Entry}
 use Rattle.port_model.specs.NetEndState.{NetSession}
-use Rattle.vnet_port.proofs.Turned.{announces_in, idles_in, publishes_in, tells_in}
+use Rattle.vnet_port.proofs.RuleChosen.{announces_in, idles_in, publishes_in, tells_in}
 use Rattle.vnet_port.specs.Calls.{role_of}
 use Rattle.vnet_port.specs.Stepping.{rule_of}
 use Rattle.vnet_port.proofs.port_end.PortEnd.offer_next.Goals as goal

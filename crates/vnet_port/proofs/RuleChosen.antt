@@ -6,7 +6,7 @@ use Rattle.ldc_link.specs.declared.phase.Role.TheVariants.{Initiator, Responder}
 use Rattle.channel_model.specs.Seeing.{Seen}
 use Rattle.port_model.specs.NetEndRule.{Announces, Fetches, Idles, NetRule, Replies, Tells, fetches_first, in_session, publishes, replies_first, takes_first}
 use Rattle.port_model.specs.NetEndState.{Activity, GroupsReply, NetEndState, NetSession, unseen_in}
-use Rattle.vnet_port.specs.NextTurn.{has_unpublished, is_active, is_to_announce, is_to_tell, offers, owes_reply}
+use Rattle.vnet_port.specs.NextAct.{has_unpublished, is_active, is_to_announce, is_to_tell, offers, owes_reply}
 
 none_of : {A : Type 0} → (o : Option A) → is_some o ≡ false → o ≡ None
 none_of None none = refl

@@ -3,7 +3,7 @@ use Rattle.std.proofs.Common.{◌≡◌, ℕ, ◌+◌, ◌-◌, ◌*◌, ◌/◌
 use Rattle.std.proofs.lemmas.Bool.{cases_lt}
 use Rattle.std.proofs.lemmas.Nat.{mod_below}
 use Rattle.std.proofs.Math.Nat.{add-mod-mod, add-mul-mod_self_right, mod-add-div', mod-mod}
-use Rattle.dring.proofs.Turning.{one_turn}
+use Rattle.dring.proofs.Laps.{one_turn}
 use Rattle.dring.specs.Slots.{range_length}
 
 -- what leads from the slot of one number to that of another leads from the one to the other

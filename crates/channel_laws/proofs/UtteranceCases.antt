@@ -5,7 +5,7 @@ use Rattle.std.proofs.lemmas.List.{length-take, take-append-le, take_all}
 use Rattle.ldc_packet.specs.declared.packet.Subtype.TheVariants.{Info}
 use Rattle.ldc_packet.specs.Spelling.{canonical}
 use Rattle.ldc_queue.specs.Fragments.{Fragment, fragment_at, is_part}
-use Rattle.ldc_queue.specs.Transcript.{Heard, Said, Turn}
+use Rattle.ldc_queue.specs.Transcript.{Heard, Said, Utterance}
 use Rattle.ldc_link.proofs.Saying.{first_form}
 use Rattle.ldc_link.proofs.Spelled.{has_part, spelled_fragment, spelled_part}
 use Rattle.ldc_link.specs.Following.{Follows}
@@ -17,7 +17,7 @@ use Rattle.channel_model.specs.Sayings.{half_heard, half_past, half_said, heard,
 use Rattle.channel_laws.proofs.LinkCases.{IsPacket, LinkHeard, canonical_is}
 
 -- A PACKET THAT IS NO PART says nothing of a message
-pub record SaysNothing (turns : List Turn) (bytes : List ℕ) : Type 0 where
+pub record SaysNothing (turns : List Utterance) (bytes : List ℕ) : Type 0 where
   pub messages : said (Said bytes ∷ turns) ≡ said turns
   pub half : half_said (Said bytes ∷ turns) ≡ half_said turns
 
@@ -25,7 +25,7 @@ past_none : (b : Bool) (part : Fragment) (half : List ℕ) (messages : List (Lis
 past_none false part half messages is = (refl, refl)
 past_none true part half messages is = absurd (cc is)
 
-pub says_nothing : (turns : List Turn) (bytes : List ℕ) → is_part bytes ≡ false → SaysNothing turns bytes
+pub says_nothing : (turns : List Utterance) (bytes : List ℕ) → is_part bytes ≡ false → SaysNothing turns bytes
 says_nothing turns bytes is =
     let past = past_none (is_part bytes) (fragment_at bytes) (half_said turns) (said turns) is in record { messages = past.0; half = past.1 }
 
@@ -43,7 +43,7 @@ first_bytes message =
     take-append-le (min (length message) 56) (take 56 message) (replicate (56 - length message) 0) (omega (arith, long))
     ∙ take_all (min (length message) 56) (take 56 message) (omega (arith, long))
 
-pub says_part : (k : LinkState) (turns : List Turn) (bytes : List ℕ) → Follows k turns → 1 ≤ length k.to_send → bytes ≡ canonical (first_part k) → SaysPart k bytes
+pub says_part : (k : LinkState) (turns : List Utterance) (bytes : List ℕ) → Follows k turns → 1 ≤ length k.to_send → bytes ≡ canonical (first_part k) → SaysPart k bytes
 unfolding has_part
 says_part k turns bytes follows some is =
     let packet : IsPacket bytes Info (first_part k).body =
@@ -58,13 +58,13 @@ says_part k turns bytes follows some is =
     }
 
 -- a part that goes on, and the last one, with which the message is whole
-pub record SaysMore (k : LinkState) (turns : List Turn) (bytes : List ℕ) : Type 0 where
+pub record SaysMore (k : LinkState) (turns : List Utterance) (bytes : List ℕ) : Type 0 where
   pub part : SaysPart k bytes
   pub long : nat_le (length k.to_send) 56 ≡ false
   pub messages : said (Said bytes ∷ turns) ≡ said turns
   pub half : half_said (Said bytes ∷ turns) ≡ half_said turns ++ take 56 k.to_send
 
-pub record SaysLast (k : LinkState) (turns : List Turn) (bytes : List ℕ) : Type 0 where
+pub record SaysLast (k : LinkState) (turns : List Utterance) (bytes : List ℕ) : Type 0 where
   pub part : SaysPart k bytes
   pub short : nat_le (length k.to_send) 56 ≡ true
   pub some : 1 ≤ length k.to_send
@@ -80,10 +80,10 @@ past_part true stop part half more messages is stops carries = (
 )
 past_part false stop part half more messages is stops carries = absurd (cc is)
 
-pub says_more : (k : LinkState) (turns : List Turn) (bytes : List ℕ) → SaysPart k bytes → nat_le (length k.to_send) 56 ≡ false → SaysMore k turns bytes
+pub says_more : (k : LinkState) (turns : List Utterance) (bytes : List ℕ) → SaysPart k bytes → nat_le (length k.to_send) 56 ≡ false → SaysMore k turns bytes
 says_more k turns bytes part long = search
 
-pub says_last : (k : LinkState) (turns : List Turn) (bytes : List ℕ) → SaysPart k bytes → 1 ≤ length k.to_send → length k.to_send ≤ 56 → nat_le (length k.to_send) 56 ≡ true
+pub says_last : (k : LinkState) (turns : List Utterance) (bytes : List ℕ) → SaysPart k bytes → 1 ≤ length k.to_send → length k.to_send ≤ 56 → nat_le (length k.to_send) 56 ≡ true
     → SaysLast k turns bytes
 says_last k turns bytes part some few short =
     let past = past_part (is_part bytes) true (fragment_at bytes) (half_said turns) k.to_send (said turns) part.part (part.stops ∙ short)
@@ -96,20 +96,20 @@ with_whole None messages = messages
 with_whole (Some message) messages = messages ++ message ∷ []
 
 -- the message is what had come of it with the bytes of the packet, which ends it
-pub record EndsBy (turns : List Turn) (bytes message : List ℕ) : Type 0 where
+pub record EndsBy (turns : List Utterance) (bytes message : List ℕ) : Type 0 where
   pub part : is_part bytes ≡ true
   pub stop : (fragment_at bytes).stop ≡ true
   pub is : message ≡ half_heard turns ++ (fragment_at bytes).bytes
 
-abbrev pub EndsWhole : List Turn → List ℕ → Option (List ℕ) → Type 0
+abbrev pub EndsWhole : List Utterance → List ℕ → Option (List ℕ) → Type 0
 EndsWhole turns bytes None = Unit {0}
 EndsWhole turns bytes (Some message) = EndsBy turns bytes message
 
-pub record HearsOn (turns : List Turn) (bytes : List ℕ) (whole : Option (List ℕ)) : Type 0 where
+pub record HearsOn (turns : List Utterance) (bytes : List ℕ) (whole : Option (List ℕ)) : Type 0 where
   pub messages : heard (Heard bytes ∷ turns) ≡ with_whole whole (heard turns)
   pub ends : EndsWhole turns bytes whole
 
-pub hears_on : (k m : LinkState) (turns : List Turn) (bytes : List ℕ) → k.whole ≡ None → Follows k turns → LinkHeard k bytes m → HearsOn turns bytes m.whole
+pub hears_on : (k m : LinkState) (turns : List Utterance) (bytes : List ℕ) → k.whole ≡ None → Follows k turns → LinkHeard k bytes m → HearsOn turns bytes m.whole
 hears_on k m turns bytes none follows heard_holds = grind (arith, half_heard_is)
 
 -- THE MESSAGE that a packet ends is the one that the turns have more
@@ -137,14 +137,14 @@ none_with true true f half messages stop is =
 none_with true false f half messages stop is = refl
 none_with false c f half messages stop is = refl
 
-pub heard_none : (turns : List Turn) (packet : List ℕ) → heard (Heard packet ∷ turns) ≡ heard turns → ended_by (half_heard turns) packet ≡ None
+pub heard_none : (turns : List Utterance) (packet : List ℕ) → heard (Heard packet ∷ turns) ≡ heard turns → ended_by (half_heard turns) packet ≡ None
 heard_none turns packet is = none_with (is_part packet) (fragment_at packet).stop (fragment_at packet) (half_heard turns) (heard turns) refl is
 
-pub heard_some : (turns : List Turn) (packet bytes : List ℕ) → heard (Heard packet ∷ turns) ≡ heard turns ++ bytes ∷ [] → ended_by (half_heard turns) packet ≡ Some bytes
+pub heard_some : (turns : List Utterance) (packet bytes : List ℕ) → heard (Heard packet ∷ turns) ≡ heard turns ++ bytes ∷ [] → ended_by (half_heard turns) packet ≡ Some bytes
 heard_some turns packet bytes is = ended_with (is_part packet) (fragment_at packet).stop (fragment_at packet) (half_heard turns) (heard turns) bytes refl is
 
-pub said_none : (turns : List Turn) (packet : List ℕ) → said (Said packet ∷ turns) ≡ said turns → ended_by (half_said turns) packet ≡ None
+pub said_none : (turns : List Utterance) (packet : List ℕ) → said (Said packet ∷ turns) ≡ said turns → ended_by (half_said turns) packet ≡ None
 said_none turns packet is = none_with (is_part packet) (fragment_at packet).stop (fragment_at packet) (half_said turns) (said turns) refl is
 
-pub said_some : (turns : List Turn) (packet bytes : List ℕ) → said (Said packet ∷ turns) ≡ said turns ++ bytes ∷ [] → ended_by (half_said turns) packet ≡ Some bytes
+pub said_some : (turns : List Utterance) (packet bytes : List ℕ) → said (Said packet ∷ turns) ≡ said turns ++ bytes ∷ [] → ended_by (half_said turns) packet ≡ Some bytes
 said_some turns packet bytes is = ended_with (is_part packet) (fragment_at packet).stop (fragment_at packet) (half_said turns) (said turns) bytes refl is

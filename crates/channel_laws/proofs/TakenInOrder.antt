@@ -21,7 +21,7 @@ use Rattle.ldc_queue.specs.Messages.{AllMayCome, MayCome, half_in, half_with, is
 use Rattle.ldc_queue.specs.Numbered.{is_numbered, numbered}
 use Rattle.ldc_queue.specs.OneStream.{OneWay}
 use Rattle.ldc_queue.specs.QueueLog.{WaitsLongest}
-use Rattle.ldc_queue.specs.Transcript.{Turn, numbered_heard}
+use Rattle.ldc_queue.specs.Transcript.{Utterance, numbered_heard}
 use Rattle.vio_tag.specs.declared.cause.Cause.{Cause}
 use Rattle.vio_tag.specs.declared.cause.Cause.TheVariants as the_cause
 use Rattle.channel_laws.proofs.Apart.{true_is_false}
@@ -68,7 +68,7 @@ takes_may : (k : LinkState) (part : Fragment) → k.phase ≡ phase.Established 
 takes_may k part at may = part_taken k part (is_up k) (may_come k.half_heard part) the_cause.Fragment the_cause.Unexpected (ap is_established at) (may_so k.half_heard part may)
 
 -- WHAT A LINK MAKES of a packet with a number: a gap, or what comes after it, which it takes where the packet is the next
-pub record Turned (k : LinkState) (said heard : List (List ℕ)) (packet : List ℕ) : Type 0 where
+pub record InOrder (k : LinkState) (said heard : List (List ℕ)) (packet : List ℕ) : Type 0 where
   pub number : ℕ
   pub behind : LinkTake
   pub seqid : seqid_at packet ≡ number
@@ -84,8 +84,8 @@ part_answer : (k : LinkState) (packet : List ℕ) (part : IsPartOf packet) (answ
 part_answer k packet part answer takes =
     takes_packet k answer part.packet packet part.formed part.widths part.is takes ∙ data_turned k part.packet.subtype part.packet.seqid part.packet.body part.carries
 
-pub part_turned : (k : LinkState) (turns : List Turn) (said : List (List ℕ)) (packet : List ℕ) → k.phase ≡ phase.Established → Follows k turns → AllMayCome [] (fragments_in said) → IsPartOf packet
-    → Turned k said (numbered_heard turns) packet
+pub part_turned : (k : LinkState) (turns : List Utterance) (said : List (List ℕ)) (packet : List ℕ) → k.phase ≡ phase.Established → Follows k turns → AllMayCome [] (fragments_in said) → IsPartOf packet
+    → InOrder k said (numbered_heard turns) packet
 part_turned k turns said packet at follows all part =
     let carried : Fragment = fragment_of part.packet.body in
     let fragment : fragment_at packet ≡ carried = spelled_fragment packet part.packet part.carries part.formed (part_spells packet part) in
@@ -108,7 +108,7 @@ unfolding has_part
 ready_only packet ready part =
     true_is_false (sym (part_is packet part) ∙ spelled_part packet (control Info ready.number Rdx) (ready_spells packet ready))
 
-pub part_early : (k : LinkState) (said heard : List (List ℕ)) (packet : List ℕ) → heard ≡ [] → ReadyFirst said → IsPartOf packet → Turned k said heard packet
+pub part_early : (k : LinkState) (said heard : List (List ℕ)) (packet : List ℕ) → heard ≡ [] → ReadyFirst said → IsPartOf packet → InOrder k said heard packet
 part_early k said heard packet none ready part = record {
   number = part.packet.seqid;
   behind = takes_part k (fragment_of part.packet.body);
@@ -119,7 +119,7 @@ part_early k said heard packet none ready part = record {
       absurd (ready_only packet (subst ReadyFirst first ready).0 part);
 }
 
-pub ready_turned : (k : LinkState) (said heard : List (List ℕ)) (packet : List ℕ) → k.phase ≡ phase.AwaitsRdx → IsReady packet → Turned k said heard packet
+pub ready_turned : (k : LinkState) (said heard : List (List ℕ)) (packet : List ℕ) → k.phase ≡ phase.AwaitsRdx → IsReady packet → InOrder k said heard packet
 ready_turned k said heard packet at ready = record {
   number = ready.number;
   behind = goes_to k (phase_behind_rdx k.phase Info);
@@ -137,9 +137,9 @@ heard_is : (b : Bool) (m : LinkState) (next number : ℕ) (cause : Cause) → b 
 heard_is true m next number cause yes_one is = let never : Unheard cause ≡ Heard (counted m) = is in cc never
 heard_is false m next number cause yes_one is = cc yes_one
 
-pub turned_own : (lossy : Bool) (k : LinkState) (turns : List Turn) (said waiting : List (List ℕ)) (packet : List ℕ) (lost : ℕ) (cause : Cause) → Follows k turns → WaitsLongest packet waiting
+pub turned_own : (lossy : Bool) (k : LinkState) (turns : List Utterance) (said waiting : List (List ℕ)) (packet : List ℕ) (lost : ℕ) (cause : Cause) → Follows k turns → WaitsLongest packet waiting
     → OneWay said (numbered_heard turns) (numbered waiting) lost → lost < 4294967296 → (lossy ≡ false → lost ≡ 0) → is_numbered packet ≡ true
-    → Turned k said (numbered_heard turns) packet → TakesBytes k packet (Unheard cause) → IsGapBehindLoss lossy cause
+    → InOrder k said (numbered_heard turns) packet → TakesBytes k packet (Unheard cause) → IsGapBehindLoss lossy cause
 turned_own lossy k turns said waiting packet lost cause follows first way few whole has turned takes = by_test (nat_eq turned.number k.take_next) refl
   where
     answer : Unheard cause ≡ in_turn k turned.number turned.behind

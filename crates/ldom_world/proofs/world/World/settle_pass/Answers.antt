@@ -4,7 +4,7 @@ use Rattle.ldom_entries.specs.declared.entry.Entry.TheVariants as entry
 use Rattle.ldom_world.proofs.SettlingAdds.{on_err, turn_settles, turn_wants_answer, turn_wants_in_round, turn_wants_in_ticks}
 use Rattle.ldom_world.proofs.SettlingLanes.{counted_stays}
 use Rattle.ldom_world.specs.SettleParts.{marks_of}
-use Rattle.ldom_world.proofs.world.World.settle_turn.Goals as goal
+use Rattle.ldom_world.proofs.world.World.settle_pass.Goals as goal
 
 pub returns-in_err-settle_round-clause-breaks : goal.returns-in_err-settle_round-clause-breaks
 returns-in_err-settle_round-clause-breaks g c =

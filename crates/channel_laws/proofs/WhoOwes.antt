@@ -5,7 +5,7 @@ use Rattle.std.specs.Prelude.{is_some}
 use Rattle.ldc_link.specs.declared.phase.Role.{Role}
 use Rattle.ldc_link.specs.declared.phase.Role.TheVariants.{Initiator, Responder}
 use Rattle.ldc_queue.specs.OneStream.{IsFront}
-use Rattle.ldc_queue.specs.Transcript.{Turn}
+use Rattle.ldc_queue.specs.Transcript.{Utterance}
 use Rattle.vio_handshake.specs.declared.handshake.Handshake.{Handshake}
 use Rattle.vio_handshake.proofs.Places.{AllSaid, Deal, IsPlace, Place, owner}
 use Rattle.channel_model.specs.Sayings.{heard, said}
@@ -59,12 +59,12 @@ record Counts (both : Bool) (d : Deal) (mine theirs : Role) (n : Place) (told ta
   told_is : n ≢ AllSaid → told ≡ length (said_at both d mine n)
   taken_is : n ≢ AllSaid → taken ≡ length (said_at both d theirs n)
 
-counts : (both : Bool) (d : Deal) (r : Role) (h : Handshake) (turns : List Turn) → (at : AtPlace both d r h turns)
+counts : (both : Bool) (d : Deal) (r : Role) (h : Handshake) (turns : List Utterance) → (at : AtPlace both d r h turns)
     → Counts both d r (other r) at.place (length (said turns)) (length (heard turns))
 counts both d r h turns at = grind arith
 
 -- WHO OWES a message says the next, and who owes none waits for the other or is through
-owes_nothing : (both : Bool) (d : Deal) (r : Role) (h : Handshake) (turns : List Turn) → (at : AtPlace both d r h turns) → h.owed ≡ None
+owes_nothing : (both : Bool) (d : Deal) (r : Role) (h : Handshake) (turns : List Utterance) → (at : AtPlace both d r h turns) → h.owed ≡ None
     → (owner at.place ≡ Some (other r)) ⊎ (at.place ≡ AllSaid)
 owes_nothing both d r h turns at none = grind arith
 
@@ -72,17 +72,17 @@ both_own : (n m : Place) → n ≡ m → owner n ≡ Some Initiator → owner m 
 both_own n m same one other = let wrong : Some Initiator ≡ Some Responder = sym one ∙ ap owner same ∙ other in cc wrong
 
 -- NEVER DO BOTH owe one, where each heard a front of what the other said
-pub never_both : (both : Bool) (d : Deal) (h g : Handshake) (mine theirs : List Turn) → (at : AtPlace both d Initiator h mine) → (there : AtPlace both d Responder g theirs)
+pub never_both : (both : Bool) (d : Deal) (h g : Handshake) (mine theirs : List Utterance) → (at : AtPlace both d Initiator h mine) → (there : AtPlace both d Responder g theirs)
     → is_some h.owed ≡ true → (is_some g.owed ≡ true) ⊎ (there.place ≡ AllSaid) → IsFront (heard theirs) (said mine) → IsFront (heard mine) (said theirs) → ⊥
 never_both both d h g mine theirs at there owed owing to_there to_here = grind arith
 
 -- THE INITIATOR HAS SAID ALL where a responder that heard a front of it has: the last message is the initiator's
-pub initiator_done : (both : Bool) (d : Deal) (h g : Handshake) (mine theirs : List Turn) → (at : AtPlace both d Initiator h mine) → (there : AtPlace both d Responder g theirs)
+pub initiator_done : (both : Bool) (d : Deal) (h g : Handshake) (mine theirs : List Utterance) → (at : AtPlace both d Initiator h mine) → (there : AtPlace both d Responder g theirs)
     → there.place ≡ AllSaid → IsFront (heard theirs) (said mine) → at.place ≡ AllSaid
 initiator_done both d h g mine theirs at there last front = grind arith
 
 -- BOTH HAVE SAID ALL where neither owes one and each heard all
-pub both_done : (both : Bool) (d : Deal) (h g : Handshake) (mine theirs : List Turn) → (at : AtPlace both d Initiator h mine) → (there : AtPlace both d Responder g theirs)
+pub both_done : (both : Bool) (d : Deal) (h g : Handshake) (mine theirs : List Utterance) → (at : AtPlace both d Initiator h mine) → (there : AtPlace both d Responder g theirs)
     → h.owed ≡ None → g.owed ≡ None → said mine ≡ heard theirs → said theirs ≡ heard mine → (at.place ≡ AllSaid) × (there.place ≡ AllSaid)
 both_done both d h g mine theirs at there none_h none_g to_there to_here =
     by_waiting (owes_nothing both d Initiator h mine at none_h) (owes_nothing both d Responder g theirs there none_g)

@@ -14,13 +14,13 @@ use Rattle.lane_laws.proofs.Agreeing.{always_agree, client_some, server_open}
 use Rattle.lane_laws.proofs.LaneCounting.{Knows, run_knows}
 use Rattle.lane_laws.proofs.SlotsAlong.{announced_in}
 use Rattle.lane_laws.proofs.SlotsStepping.{if_server, work_first}
-use Rattle.lane_laws.specs.CountsInTurn.{CountsInTurn}
+use Rattle.lane_laws.specs.CountsOrdered.{CountsOrdered}
 use Rattle.lane_laws.specs.RingAgreed.{OneRing}
 use Rattle.lane_laws.proofs.HeardFront.{both_up}
 
 pub counts_in_turn : (shape : Shape) (events : List DiskEvent) (s : LaneState) (k : ClientCounts) (d : ServerCounts) → IsShape shape
     → Run LaneStep (fresh shape) events s → (log_of after (nothing_yet shape) events).wire.forged ≡ false
-    → (log_of after (nothing_yet shape) events).work.client ≡ Some k → (log_of after (nothing_yet shape) events).work.server ≡ Some d → CountsInTurn k d
+    → (log_of after (nothing_yet shape) events).work.client ≡ Some k → (log_of after (nothing_yet shape) events).work.server ≡ Some d → CountsOrdered k d
 counts_in_turn shape events s k d sound run clean client server =
     let l : DiskLog = log_of after (nothing_yet shape) events in
     let knows : Knows s l = run_knows shape events s sound run in

@@ -5,7 +5,7 @@ use Rattle.runs.specs.Run.{Run, run_push}
 use Rattle.ldc_queue.specs.declared.end.ChannelState.TheVariants.{Up}
 use Rattle.ldc_queue.specs.declared.end.End.{End}
 use Rattle.ldc_queue.specs.declared.end.End.TheVariants.{A, B}
-use Rattle.ldc_queue.specs.Transcript.{Heard as Heard_, Turn}
+use Rattle.ldc_queue.specs.Transcript.{Heard as Heard_, Utterance}
 use Rattle.channel_model.specs.Seeing.{seen}
 use Rattle.channel_model.specs.WireAt.{IsUp}
 use Rattle.channel_model.specs.WireEvent.{Took}
@@ -39,7 +39,7 @@ use Rattle.lane_laws.proofs.ServerCounting.{no_work, opens_new}
 use Rattle.lane_laws.proofs.ServerTaken.{ServerAsked, ServerTook, server_took_what}
 use Rattle.lane_laws.specs.ChannelEnds.{core_event, core_of}
 use Rattle.lane_laws.specs.Remaining.{asked_in, remaining}
-use Rattle.lane_laws.specs.RemainingSteps.{AllDo, DoesSomething, ServerTurn, total_at}
+use Rattle.lane_laws.specs.RemainingSteps.{AllDo, DoesSomething, ServerHeard, total_at}
 use Rattle.lane_laws.specs.RuleFacts.{ServerMay}
 
 -- WHAT ITS END HAS STILL TO PUT doesn't grow
@@ -51,13 +51,13 @@ took_packets shape events s e packet opens t sound run clean step =
     (lane_steps shape events s (OnWire (Took e packet opens)) t sound run step)
 
 -- THE CLIENT
-took_spends : (s t : ClientState) (turns : List Turn) (packet : List ℕ) → ClientTook s turns packet t → ClientSpends 0 0 s t
+took_spends : (s t : ClientState) (turns : List Utterance) (packet : List ℕ) → ClientTook s turns packet t → ClientSpends 0 0 s t
 took_spends s t turns packet took = grind arith
 
 pub client_takes : (shape : Shape) (events : List DiskEvent) (s : LaneState) (packet : List ℕ) (opens : Bool) (t : LaneState) → IsShape shape → Run LaneStep (fresh shape) events s → s.wire.forged ≡ false
     → LaneStep s (OnWire (Took A packet opens)) t → ClientFalls 0 0 s.client t.client
 client_takes shape events s packet opens t sound run clean step =
-    let turns : List Turn = (log_of after (nothing_yet shape) events).transcript.client in
+    let turns : List Utterance = (log_of after (nothing_yet shape) events).transcript.client in
     let knows = run_knows shape events s sound run in
     record {
       own = 0;
@@ -75,7 +75,7 @@ client_falls shape events s packet opens t sound run clean step =
 abbrev AsksMore : LaneState → LaneState → Type 0
 AsksMore s t = (asked_in s.server.session < asked_in t.server.session) × (asked_in t.server.session ≤ total_at s.wire.wire.end_a s.client)
 
-asks_more : (s t : LaneState) (l next : DiskLog) (turns : List Turn) (packet : List ℕ) (opens : Bool) → (asks : ServerAsked s.server turns packet t.server opens) → l.transcript.server ≡ turns → next.transcript.server ≡ Heard_ packet ∷ turns
+asks_more : (s t : LaneState) (l next : DiskLog) (turns : List Utterance) (packet : List ℕ) (opens : Bool) → (asks : ServerAsked s.server turns packet t.server opens) → l.transcript.server ≡ turns → next.transcript.server ≡ Heard_ packet ∷ turns
     → next.shape.slots ≡ l.shape.slots → t.client ≡ s.client → t.wire.wire.end_a ≡ s.wire.wire.end_a → AskedWithin s l asks.info.session
     → AskedWithin t next (behind_ask s.server asks.info.session asks.info.range)
     → AsksMore s t
@@ -96,7 +96,7 @@ by_asked shape events s packet opens t sound run clean up step asks =
     (asked_within shape events s asks.info.session sound run clean up asks.info.session_is) (subst (λ (x : DiskLog). AskedWithin t x (behind_ask s.server asks.info.session asks.info.range)) behind now)
 
 pub server_takes : (shape : Shape) (events : List DiskEvent) (s : LaneState) (packet : List ℕ) (opens : Bool) (t : LaneState) → IsShape shape → Run LaneStep (fresh shape) events s → s.wire.forged ≡ false
-    → LaneStep s (OnWire (Took B packet opens)) t → ServerTurn (total_at s.wire.wire.end_a s.client) s.server t.server
+    → LaneStep s (OnWire (Took B packet opens)) t → ServerHeard (total_at s.wire.wire.end_a s.client) s.server t.server
 server_takes shape events s packet opens t sound run clean step =
     let l = log_of after (nothing_yet shape) events in
     let at = seen B s.shape.entries s.wire.wire in

@@ -1,5 +1,0 @@
-use Rattle.dring.proofs.Turning.{one_turn, slots_same}
-use Rattle.dring.proofs.laws.one_turn_of_a_ring.Goals as goal
-
-pub returns : goal.returns
-returns c = record { apart = one_turn; stays = slots_same }
