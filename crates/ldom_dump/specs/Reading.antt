@@ -1,5 +1,5 @@
 -- Why no further line of a dump is decoded.
-use Rattle.std.specs.Prelude.{◌≡◌, ℕ, ◌+◌, ◌≤◌, List, length, Option}
+use Rattle.std.specs.Prelude.{◌≡◌, ℕ, ◌+◌, ◌≤◌, List, [], length, Option}
 use Rattle.std.specs.Io.KnownBytes.{IsAtEnd, Keeps, prepend_known}
 use Rattle.domain_script.specs.declared.event.LineFault.{LineFault}
 use Rattle.domain_script.specs.declared.event.LineFault.TheVariants.{Hex}
@@ -30,14 +30,15 @@ pub record IsNoDigits (rest left : Option (List ℕ)) (fault : LineFault) : Type
   pub hex : fault ≡ Hex
 
 -- Why no further line is decoded after so many: `rest` is to come after them, and then `held` and what the source has
--- left. Where the source failed, no line is whole in what is held, and no limit is met; where the sink did, one more line was read.
+-- left. Where the source failed, no line is whole in what is held, and no limit is met; where the sink did, one more line was
+-- read. Memory is wanted before a byte is taken.
 abbrev pub DumpStopsAt : Status → Option (List ℕ) → List ℕ → Option (List ℕ) → ℕ → Type 0
 DumpStopsAt (status.Script at fault) rest held now count = (at ≡ count + 1) × (at ≤ most_lines) × IsNoDigits rest (prepend_known held now) fault
 DumpStopsAt (status.Limit at kind) rest held now count = (at ≡ count + 1) × IsPast kind rest count × Keeps rest (prepend_known held now)
 DumpStopsAt status.Done rest held now count = IsAtEnd rest × Keeps rest (prepend_known held now)
 DumpStopsAt status.SourceFault rest held now count = DecidesNothing count held × Keeps rest (prepend_known held now)
 DumpStopsAt status.SinkFault rest held now count = (line : List ℕ) × TakesLine rest (prepend_known held now) line
-DumpStopsAt status.NoMemory rest held now count = Keeps rest (prepend_known held now)
+DumpStopsAt status.NoMemory rest held now count = (count ≡ 0) × (held ≡ []) × Keeps rest (prepend_known held now)
 DumpStopsAt status.StoreFault rest held now count = ⊥
 DumpStopsAt (status.ImageSize need have) rest held now count = ⊥
 DumpStopsAt status.HostFault rest held now count = ⊥

@@ -1,5 +1,5 @@
 -- One line of a script after another, and why no further one is taken up.
-use Rattle.std.specs.Prelude.{◌≡◌, ℕ, ◌+◌, ◌<◌, ◌≤◌, List, length, Option, Some, ⊤}
+use Rattle.std.specs.Prelude.{◌≡◌, ◌⊎◌, ℕ, ◌+◌, ◌<◌, ◌≤◌, true, List, [], length, Option, Some}
 use Rattle.std.specs.Io.KnownBytes.{IsAtEnd, Keeps, prepend_known}
 use Rattle.domain_script.specs.declared.event.Event.{Event}
 use Rattle.domain_script.specs.declared.event.LineFault.{LineFault}
@@ -13,7 +13,7 @@ use Rattle.ldom_report.specs.declared.status.LimitKind.TheVariants as limit
 use Rattle.ldom_report.specs.declared.status.Status.{Status}
 use Rattle.ldom_report.specs.declared.status.Status.TheVariants as status
 use Rattle.script_reader.specs.declared.lines.LinesStop.{LinesStop}
-use Rattle.script_reader.specs.LinesState.{LineEnds}
+use Rattle.script_reader.specs.LinesState.{LineEnds, most_of_a_read}
 use Rattle.domain_script.specs.Limits.{most_line_bytes, most_lines}
 
 -- the next line spells this event, and ended as the reader behind it says
@@ -39,8 +39,18 @@ pub record IsRead (rest left : Option (List ℕ)) : Type 0 where
   pub taken : TakesLine rest left text
   pub short : length text ≤ most_line_bytes
 
+-- THE DECLARATIONS ARE BEHIND: a line that isn't one was taken up, behind which no more is held than one read gave; or
+-- nothing is to come
+abbrev pub IsDeclaredOut : Option (List ℕ) → List ℕ → NamesState → Type 0
+IsDeclaredOut rest held names = ((names.ended ≡ true) × (length held ≤ most_of_a_read)) ⊎ IsAtEnd rest
+
+-- Memory was wanted before a byte was taken, or behind the declarations.
+abbrev pub WantsMemory : Option (List ℕ) → List ℕ → NamesState → ℕ → Type 0
+WantsMemory rest held names count = ((count ≡ 0) × (held ≡ [])) ⊎ IsDeclaredOut rest held names
+
 -- WHY no line is taken up after so many, where the journal has so many entries: `rest` is to come, of which `left` is
--- left. Where the source failed, no line is whole in what it gave and is in no line, and no limit is met.
+-- left. Where the source failed, no line is whole in what it gave and is in no line, and no limit is met. The image is
+-- attached, and found too short, behind the declarations.
 abbrev pub HasReason : Status → Option (List ℕ) → Option (List ℕ) → List ℕ → NamesState → ℕ → ℕ → Type 0
 HasReason (status.Script at fault) rest left held names count entries = (at ≡ count + 1) × (at ≤ most_lines) × (entries < most_entries) × IsFaulty rest left names fault
 HasReason (status.Limit at limit.Entries) rest left held names count entries = (at ≡ count + 1) × (at ≤ most_lines) × (most_entries ≤ entries)
@@ -48,9 +58,11 @@ HasReason (status.Limit at kind) rest left held names count entries = (at ≡ co
 HasReason status.Done rest left held names count entries = IsAtEnd rest
 HasReason status.StoreFault rest left held names count entries = IsAtEnd rest
 HasReason status.SourceFault rest left held names count entries = DecidesNothing count held
+HasReason status.HostFault rest left held names count entries = IsDeclaredOut rest held names
+HasReason (status.ImageSize need have) rest left held names count entries = IsDeclaredOut rest held names
+HasReason status.NoMemory rest left held names count entries = WantsMemory rest held names count
 HasReason status.Usage rest left held names count entries = ⊥
 HasReason status.SinkFault rest left held names count entries = ⊥
-HasReason _ rest left held names count entries = ⊤
 
 -- WHAT IS LEFT: a line with a fault, or one that begins with too many entries, was taken; else all stays to come
 abbrev pub Leaves : Status → Option (List ℕ) → Option (List ℕ) → Type 0

@@ -10,6 +10,10 @@ use Rattle.domain_script.specs.Pieces.{DecidesNothing}
 use Rattle.domain_script.specs.ScriptLines.{TakesLine, BeginsWithLonger, fed}
 use Rattle.domain_script.specs.Limits.{most_line_bytes, most_lines}
 
+-- the most bytes that one read asks for
+abbrev pub most_of_a_read : ℕ
+most_of_a_read = 4096
+
 pub record LinesState : Type 0 where
   -- bytes taken from the source and not yet given in a line
   pub held : List ℕ
@@ -51,6 +55,8 @@ pub record GivesLine (rest left : Option (List ℕ)) (before after : LinesState)
   pub count : after.number ≡ before.number + 1
   pub few : after.number ≤ most_lines
   pub ends : LineEnds after.stop rest left after.line
+  -- behind a line no more is held than one read gave
+  pub held : length after.held ≤ most_of_a_read
 
 -- no line was given, and all that was taken is kept
 pub record GivesNone (rest left : Option (List ℕ)) (before after : LinesState) (why : LinesStop) : Type 0 where

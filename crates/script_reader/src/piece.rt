@@ -2,6 +2,7 @@ ghost use Rattle.std.specs.Prelude.{◌≡◌, ◌≢◌, ◌↔◌, ℕ, ◌<�
 ghost use Rattle.vio_io.specs.Causes.{Fails};
 ghost use Rattle.vio_io.specs.Ends.{SaysEnd};
 ghost use Rattle.std.specs.Io.KnownBytes.{IsAtEnd, Keeps, prepend_known};
+ghost use Rattle.script_reader.specs.LinesState.{most_of_a_read};
 
 use std::alloc::Global;
 use std::marker::Model;
@@ -21,12 +22,13 @@ pub struct Piece {
 
 impl Model for Piece {
     ghost use Rattle.std.specs.Prelude.{◌≡◌, ℕ, ◌≤◌, List, length, slice_range};
+    ghost use Rattle.script_reader.specs.LinesState.{most_of_a_read};
 
     ghost Value = { List ℕ };
 
     ghost view = { λ p. slice_range p.bytes.items p.start p.end };
 
-    ghost invariant = { λ p. (length p.bytes.items ≡ 4096) × (p.start ≤ p.end) × (p.end ≤ 4096) };
+    ghost invariant = { λ p. (length p.bytes.items ≡ most_of_a_read) × (p.start ≤ p.end) × (p.end ≤ most_of_a_read) };
 }
 
 impl Piece {
@@ -44,7 +46,7 @@ impl Piece {
     /// The bytes that are left.
     pub fn rest(&self) -> &[u8]
         ensures value { result.now ≡ self.now }
-        ensures short { length self.now ≤ 4096 }
+        ensures short { length self.now ≤ most_of_a_read }
     {
         &self.bytes[self.start..self.end]
     }
@@ -58,7 +60,8 @@ impl Piece {
     /// Takes the first n bytes.
     pub fn skip(&mut self, n: usize)
         requires { n ≤ length self.old }
-        ensures { self.new ≡ drop n self.old }
+        ensures value { self.new ≡ drop n self.old }
+        ensures short { length self.new ≤ most_of_a_read }
     {
         self.start += n;
     }

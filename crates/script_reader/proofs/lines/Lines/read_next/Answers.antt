@@ -29,6 +29,7 @@ returns-in-Ok-true-clause-reads g c =
       few = omega (arith, ap (λ (s : LinesState). s.number) c.self.view_is);
       ends = subst (λ (stop : LinesStop). LineEnds stop (to_come c.args.self.now left) after line) going
           (subst (λ (rest : Option (List ℕ)). HasFeed rest after line) is reads.1);
+      held = search rules;
     }
 
 pub returns-then-is_empty-clause-reads : goal.returns-then-is_empty-clause-reads
@@ -67,6 +68,7 @@ returns-else-is_empty-clause-reads g c =
       count = ap (λ (s : LinesState). s.number + 1) c.self.view_is;
       few = omega (arith, ap (λ (s : LinesState). s.number) c.self.view_is);
       ends = subst (λ (all : Option (List ℕ)). LineEnds Ended all rest line) is (is_all begun after line c.read_line.new.piece reads.0 reads.1 reads.2);
+      held = search rules;
     }
 
 pub returns-in-Err-Long-clause-reads : goal.returns-in-Err-Long-clause-reads
