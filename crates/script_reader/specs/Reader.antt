@@ -1,5 +1,5 @@
 -- What a reader of lines keeps, and how it is seen.
-use Rattle.std.specs.Prelude.{◌≡◌, ◌≤◌, true, false, [], ◌++◌, length, if◌then◌else◌, vec_capacity}
+use Rattle.std.specs.Prelude.{◌≡◌, ◌≤◌, false, [], ◌++◌, length, if◌then◌else◌, vec_capacity}
 use Rattle.script_reader.specs.declared.lines.LinesStop.TheVariants.{TooLong, TooMany}
 use Rattle.script_reader.specs.declared.lines.Lines.TheInside.{Inside}
 use Rattle.script_reader.specs.LinesState.{LinesState}

@@ -35,7 +35,7 @@ returns-in_ok-extend-in-Some-clause-moves c =
     let moved : MovesPart rest c.args.line.now.items (Ok true) (drop (n + 1) rest) c.extend.new.line.items =
     part_moved rest c.args.line.now.items c.extend.new.line.items n c.in-Some.ensures.0.high c.in-Some.ensures.1
     c.in-Some.ensures.0.before c.requires.no_feed c.in_ok-extend-in-Some.ensures.extends in
-    let after : drop (n + 1) rest ≡ c.skip.new.self = ap (λ (l : List ℕ). drop (n + 1) l) c.rest-rest.ensures.value ∙ sym c.skip.ensures in
+    let after : drop (n + 1) rest ≡ c.skip.new.self = ap (λ (l : List ℕ). drop (n + 1) l) c.rest-rest.ensures.value ∙ sym c.skip.ensures.value in
     subst (λ (l : List ℕ). MovesPart l c.args.line.now.items (Ok true) c.skip.new.self c.extend.new.line.items) c.rest-rest.ensures.value
     (subst (λ (l : List ℕ). MovesPart rest c.args.line.now.items (Ok true) l c.extend.new.line.items) after moved)
 
