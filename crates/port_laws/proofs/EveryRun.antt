@@ -12,7 +12,7 @@ use Rattle.port_model.specs.PortState.{PortEvent, PortState, PortStep, fresh_por
 use Rattle.port_model.specs.RestLaws.{IdleAt, TwoIdleAt, UnforgedAt}
 use Rattle.port_laws.proofs.GroupsAgree.{port_joins}
 use Rattle.port_laws.proofs.NoRefusal.{port_unforged_wire}
-use Rattle.port_laws.proofs.PortResets.{port_gaps_say, port_resets_say}
+use Rattle.port_laws.proofs.PortResets.{port_resets_so}
 use Rattle.port_laws.proofs.PortRuns.{lawful_along}
 use Rattle.port_laws.proofs.RuleAsks.{port_asks, port_undone}
 use Rattle.port_laws.proofs.RuleFrames.{port_acknowledges, port_admits, port_announces, port_lost, port_published, port_sees, port_takes}
@@ -39,8 +39,8 @@ every_run shape events s is run =
       answers = last (λ (x : PortLog) (event : PortEvent). OfWire (WireAnswersAt (sizes_in x) x.wire) event) shape before event (port_answers shape events t is whole);
       said = last (λ (x : PortLog) (event : PortEvent). OfWire (WireSaidAt x.transcript) event) shape before event (port_says shape events t is whole);
       heard = last (λ (x : PortLog) (event : PortEvent). OfWire (WireHeardAt x.transcript) event) shape before event (port_hears shape events t is whole);
-      gap = last (λ (x : PortLog) (event : PortEvent). OfWire (WireGapAt x.transcript) event) shape before event (port_gaps_say shape events t is whole);
-      reset_says = last (λ (x : PortLog) (event : PortEvent). OfWire (WireResetAt x.transcript) event) shape before event (port_resets_say shape events t is whole);
+      gap = last (λ (x : PortLog) (event : PortEvent). OfWire (WireGapAt x.transcript) event) shape before event (port_resets_so WireGapAt (λ l x both. both.1) shape events t is whole);
+      reset_says = last (λ (x : PortLog) (event : PortEvent). OfWire (WireResetAt x.transcript) event) shape before event (port_resets_so WireResetAt (λ l x both. both.0) shape events t is whole);
       unforged_wire = last (λ (x : PortLog) (event : PortEvent). OfWire (WireUnforgedAt x.wire) event) shape before event (port_unforged_wire shape events t is whole);
       works = last WorksAt shape before event (port_works shape events t is whole);
       admission = last AdmissionAt shape before event (port_admits shape events t is whole);

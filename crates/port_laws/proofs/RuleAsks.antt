@@ -45,7 +45,7 @@ use Rattle.port_model.specs.FrameLaws.{Asks, AsksAt, InSession, IsActive, NamesU
 use Rattle.port_model.specs.NetEndRule.{NetRule, Takes, port_rule}
 use Rattle.port_model.specs.NetEndState.{NetEndState, NetSession}
 use Rattle.port_model.specs.NetEndStep.{NetFails, Reset, Took}
-use Rattle.port_model.specs.NetEndTaking.{GoesOn, first_undone}
+use Rattle.port_model.specs.NetEndTaking.{GoesOn, Resets, first_undone}
 use Rattle.port_model.specs.NetEvent.{NetEvent, Steps}
 use Rattle.port_model.specs.NetLaneState.{IsNetShape, NetLaneState, NetShape, memory_of, net_end, reach_of, role_at, seen_at}
 use Rattle.port_model.specs.Offers.{port_offer}
@@ -64,7 +64,7 @@ use Rattle.port_laws.proofs.MessageDoes.{not_other}
 use Rattle.port_laws.proofs.CoreLaws.{sizes_fit}
 use Rattle.port_laws.proofs.Fitting.{BothFit}
 use Rattle.port_laws.proofs.LaneMoves.{event_core_step}
-use Rattle.port_laws.proofs.PortCauses.{fails_with, take_cause}
+use Rattle.port_laws.proofs.PortCauses.{cause_before, fails_takes, moves_before}
 use Rattle.port_laws.proofs.PortResets.{opened_is}
 use Rattle.port_laws.proofs.PortCounts.{Ready, port_counts, queue_of, ready_before}
 use Rattle.port_laws.proofs.PortRuns.{by_option, before_core, before_fits, fresh_port_core, lawful_on_lane, port_fits_behind, spoken_behind}
@@ -275,15 +275,8 @@ module _ (shape : NetShape) (is : IsNetShape shape) (events : List PortEvent) (s
   abbrev l : PortLog
   l = log_of after (no_events shape) events
 
-  moves_run : Run CoreStep (fresh_net_core shape) (port_events events) (lane_core u.lane)
-  moves_run = subst (Run CoreStep (fresh_net_core shape) (port_events events)) (sym (before_core event s)) (fresh_port_core shape events s run)
-
   ready : Ready shape u l
   ready = ready_before shape s l event is (port_counts shape events s is run)
-
-  cause_here : (e : End) (p : NetSession) (packet : List ℕ) (answer : Option Cause) → port_cause u.lane e p (transcript_of e (transcript_behind (port_events events))) packet ≡ answer
-      → port_cause u.lane e p (transcript_of e l.transcript) packet ≡ answer
-  cause_here e p packet answer here = subst (λ (x : TranscriptLog). port_cause u.lane e p (transcript_of e x) packet ≡ answer) (spoken_behind shape events) here
 
 asks_event : (shape : NetShape) (is : IsNetShape shape) (events : List PortEvent) (s : PortState) (event : NetEvent) (t : NetLaneState) → Run PortStep (fresh_port shape) events s
     → NetLaneStep (before event s).lane event t → AsksAt (log_of after (no_events shape) events) (OnLane event)
@@ -296,7 +289,7 @@ asks_event shape is events s (Steps e (Took packet opens)) t run step =
     if_session (log_of_end e v_l).session _ (λ v log.
     let both = both_open (role_at e) shape.slots (queue_of e w) (net_end e w.lane) (log_of_end e v_l) v (end_counted shape e w v_l known) log in
     let acting = end_acts shape e w v_l known says.0.up in
-    let none = cause_here shape is events s event run e both.p packet None (sym (take_cause shape (port_events events) w.lane is (moves_run shape is events s event run) e both.p packet (GoesOn step.left.end opens step.left.own) both.is step.step.1)) in
+    let none = cause_before shape events s is run event e both.p packet (GoesOn step.left.end opens step.left.own) both.is step.step.1 in
     if_range 1 (ended_by (half_heard (transcript_of e v_l.transcript)) packet) (Asks v_l.shape.slots v) (λ message ended kind.
     subst (λ (x : NetShape). Asks x.slots v message) (sym known.shape_is)
     (asks_here (role_at e) (net_end e w.lane) both.p (memory_of e w.lane) (net_end e w.lane).handshake.draft.sid shape.slots (transcript_of e v_l.transcript) packet message v
@@ -329,13 +322,12 @@ module _ (shape : NetShape) (is : IsNetShape shape) (events : List PortEvent) (s
       (λ p some.
       let here = open_counts (role_at e) shape.slots (queue_of e w) own (log_of_end e log) p (end_counted shape e w log known) some in
       let v : SessionLog = here.of_log in
-      let cause = cause_here shape is events s (for_slot (Some bytes)) run e p bytes (Some (the_cause.NotDone slot state))
-      (fails_with shape (port_events events) w.lane is (moves_run shape is events s (for_slot (Some bytes)) run) e p (the_cause.NotDone slot state) bytes some step.step.0) in
+      let cause = cause_before shape events s is run (for_slot (Some bytes)) e p bytes (Resets (the_cause.NotDone slot state)) some (fails_takes _ _ _ _ _ _ bytes step.step.0) in
       let rule : port_rule (role_at e) own (seen_at e w.lane) ≡ Takes bytes = takes_rule (role_at e) (port_rule (role_at e) own (seen_at e w.lane)) own (memory_of e w.lane) (reach_of e w.lane) (the_cause.NotDone slot state) bytes step.step.0 in
       rw (here.is, known.shape_is) (undone_here (role_at e) own p (memory_of e w.lane) own.handshake.draft.sid
       shape.slots (transcript_of e log.transcript) bytes v slot state (end_counted shape e w log known).slots_is
       (listens shape e w log bytes p v known rule some here.is) cause))
-      (λ none. never_shut shape is (port_events events) w.lane t (moves_run shape is events s (for_slot (Some bytes)) run)
+      (λ none. never_shut shape is (port_events events) w.lane t (moves_before shape events s is run (for_slot (Some bytes)))
       (before_fits (for_slot (Some bytes)) s (port_fits_behind shape events s run)) e slot state bytes lost none step)
 
   undone_by : (packet : Option (List ℕ)) → NetLaneStep (before (for_slot packet) s).lane (for_slot packet) t → UndoneAt log (OnLane (for_slot packet))

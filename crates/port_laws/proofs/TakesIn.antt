@@ -84,51 +84,19 @@ wrong {X} b one two = let never : true ≡ false = sym one ∙ two in absurd (cc
 of_session : {X : Type 0} (s : Subtype) (b : MsgBody) → IsOfSession b → is_declined s b ≡ true → X
 of_session {X} s b of is = grind arith
 
+guest_noted : (s t n : NetEndState) (p q : NetSession) (m : List ℕ) → t ≡ n → n.session ≡ Some q → n.groups ≡ s.groups → n.handshake ≡ s.handshake → n.link.to_send ≡ s.link.to_send
+    → q.reply ≡ p.reply → q.untold ≡ p.untold → (is_groups m ≡ true → q.telling ≡ false) → (is_groups m ≡ false → q.telling ≡ p.telling) → GuestNotes s t p q m
+guest_noted s t n p q m is session groups handshake sends reply untold told same = grind arith
+
 pub guest_notes : (s t : NetEndState) (p : NetSession) (memory new m : List ℕ) (message : Message) → IsOfSession message.body → SpellsMessage m message
     → MessageDoes Initiator s p memory message.subtype message.body t new → (q : NetSession) × GuestNotes s t p q m
 guest_notes s t p memory new m message of spells (Asks seq ident start end state info body place same is) =
-    let range : envelope_at m ≡ 0x0042 = spells.envelope ∙ ap envelope_code body in (
-      active p seq start,
-      record {
-        session = ap (λ (x : NetEndState). x.session) is;
-        groups = ap (λ (x : NetEndState). x.groups) is;
-        handshake = ap (λ (x : NetEndState). x.handshake) is;
-        sends = ap (λ (x : NetEndState). x.link.to_send) is;
-        reply = refl;
-        untold = refl;
-        told = λ one. wrong (is_groups m) one (range_groups m range);
-        same = λ none. refl;
-      },
-    )
+    (_, guest_noted s t _ p (active p seq start) m is refl refl refl refl refl refl (λ one. wrong (is_groups m) one (range_groups m (spells.envelope ∙ ap envelope_code body))) (λ none. refl))
 guest_notes s t p memory new m message of spells (Acks seq ident start end state ack body begins inside within done same is) =
-    let range : envelope_at m ≡ 0x0042 = spells.envelope ∙ ap envelope_code body in (
-      _,
-      record {
-        session = ap (λ (x : NetEndState). x.session) is;
-        groups = ap (λ (x : NetEndState). x.groups) is;
-        handshake = ap (λ (x : NetEndState). x.handshake) is;
-        sends = ap (λ (x : NetEndState). x.link.to_send) is;
-        reply = refl;
-        untold = refl;
-        told = λ one. wrong (is_groups m) one (range_groups m range);
-        same = λ none. refl;
-      },
-    )
+    (_, guest_noted s t _ p _ m is refl refl refl refl refl refl (λ one. wrong (is_groups m) one (range_groups m (spells.envelope ∙ ap envelope_code body))) (λ none. refl))
 guest_notes s t p memory new m message of spells (Names set count addresses groups reply answers role info body same is) = absurd (cc role)
 guest_notes s t p memory new m message of spells (Told set count addresses role ack body telling same is) =
-    let groups : envelope_at m ≡ 0x0101 = spells.envelope ∙ ap envelope_code body in (
-      record p { telling = false },
-      record {
-        session = ap (λ (x : NetEndState). x.session) is;
-        groups = ap (λ (x : NetEndState). x.groups) is;
-        handshake = ap (λ (x : NetEndState). x.handshake) is;
-        sends = ap (λ (x : NetEndState). x.link.to_send) is;
-        reply = refl;
-        untold = refl;
-        told = λ one. refl;
-        same = λ none. wrong (is_groups m) (groups_groups m groups) none;
-      },
-    )
+    (_, guest_noted s t _ p (record p { telling = false }) m is refl refl refl refl refl refl (λ one. refl) (λ none. wrong (is_groups m) (groups_groups m (spells.envelope ∙ ap envelope_code body)) none))
 guest_notes s t p memory new m message of spells (Declines h declined same is) = of_session message.subtype message.body of declined
 
 -- WHAT THE SWITCH'S END NOTES of a range
@@ -151,9 +119,9 @@ pub record HubLearns (s t : NetEndState) (q : NetSession) (m : List ℕ) : Type 
   pub reply : q.reply ≡ Some answer
   pub agrees : ReplyAgrees answer
 
-range_notes : (s t : NetEndState) (p q : NetSession) (m : List ℕ) → envelope_at m ≡ 0x0042 → q.reply ≡ p.reply → t.session ≡ Some q → t.handshake ≡ s.handshake → t.link.to_send ≡ s.link.to_send
-    → t.groups ≡ s.groups → HubNotes s t p q m
-range_notes s t p q m range reply session handshake sends groups = grind (arith, range_groups)
+range_notes : (s t n : NetEndState) (p q : NetSession) (m : List ℕ) → envelope_at m ≡ 0x0042 → t ≡ n → q.reply ≡ p.reply → n.session ≡ Some q → n.handshake ≡ s.handshake
+    → n.link.to_send ≡ s.link.to_send → n.groups ≡ s.groups → HubNotes s t p q m
+range_notes s t n p q m range is reply session handshake sends groups = grind (arith, range_groups)
 
 addresses_long : (n at : ℕ) (bytes : List ℕ) → at + 6 * n ≤ length bytes → length (flat_map (λ (address : List ℕ). address) (addresses_at at n bytes)) ≡ 6 * n
 addresses_long zero at bytes within = omega arith
@@ -166,16 +134,10 @@ pub hub_notes : (s t : NetEndState) (p : NetSession) (memory new m : List ℕ) (
     → (envelope_at m ≡ 0x0101 → groups_after (set_of m) (count_of m) (seven_of m) s.groups ≡ Some (addresses_of m))
     → GoesOn t opens new ≡ in_session Responder s p memory message message.subtype message.body → MessageDoes Responder s p memory message.subtype message.body t new
     → (q : NetSession) × (HubNotes s t p q m ⊎ HubLearns s t q m)
-hub_notes s t p memory new m message opens of spells long learns goes (Asks seq ident start end state info body place same is) = (
-  active p seq start,
-  inl (range_notes s t p (active p seq start) m (spells.envelope ∙ ap envelope_code body) refl (ap (λ (x : NetEndState). x.session) is) (ap (λ (x : NetEndState). x.handshake) is)
-      (ap (λ (x : NetEndState). x.link.to_send) is) (ap (λ (x : NetEndState). x.groups) is)),
-)
-hub_notes s t p memory new m message opens of spells long learns goes (Acks seq ident start end state ack body begins inside within done same is) = (
-  _,
-  inl (range_notes s t p _ m (spells.envelope ∙ ap envelope_code body) refl (ap (λ (x : NetEndState). x.session) is) (ap (λ (x : NetEndState). x.handshake) is)
-      (ap (λ (x : NetEndState). x.link.to_send) is) (ap (λ (x : NetEndState). x.groups) is)),
-)
+hub_notes s t p memory new m message opens of spells long learns goes (Asks seq ident start end state info body place same is) =
+    (_, inl (range_notes s t _ p (active p seq start) m (spells.envelope ∙ ap envelope_code body) is refl refl refl refl refl))
+hub_notes s t p memory new m message opens of spells long learns goes (Acks seq ident start end state ack body begins inside within done same is) =
+    (_, inl (range_notes s t _ p _ m (spells.envelope ∙ ap envelope_code body) is refl refl refl refl refl))
 hub_notes s t p memory new m message opens of spells long learns goes (Names set count addresses groups reply answers role info body same is) =
     let named : envelope_at m ≡ 0x0101 = spells.envelope ∙ ap envelope_code body in
     let fields : SpellsBody m (Mcast set count addresses) = subst (SpellsBody m) body spells.body in
