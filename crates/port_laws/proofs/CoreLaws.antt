@@ -136,22 +136,6 @@ pub order_at : (e : End) (s : NetLaneState) (turns : List Utterance) → Handsha
 order_at A s turns order = order
 order_at B s turns order = order
 
-pub opens_said : (shape : NetShape) (events : List NetEvent) (s : NetLaneState) (e : End) (packet : List ℕ) (t : NetLaneState) → IsNetShape shape
-    → Run NetLaneStep (fresh_net shape) events s → NetLaneStep s (Steps e (Sent packet true)) t
-    → HandshakeOrder true (role_at e) (Said packet ∷ transcript_of e (transcript_behind (core_events events)))
-opens_said shape events s e packet t is run step =
-    order_at e s (Said packet ∷ transcript_of e (transcript_behind (core_events events)))
-    (opens_saying shape.entries (port_offer Initiator shape.address shape.slots) (port_offer Responder shape.address shape.slots) (core_events events) (lane_core s) e packet (lane_core t)
-    (sizes_fit shape is) (fresh_run_core shape events s run) (event_core_step s (Steps e (Sent packet true)) t (fits_behind shape events s run) step))
-
-pub opens_heard : (shape : NetShape) (events : List NetEvent) (s : NetLaneState) (e : End) (packet : List ℕ) (t : NetLaneState) → IsNetShape shape
-    → Run NetLaneStep (fresh_net shape) events s → NetLaneStep s (Steps e (Took packet true)) t
-    → HandshakeOrder true (role_at e) (Heard packet ∷ transcript_of e (transcript_behind (core_events events)))
-opens_heard shape events s e packet t is run step =
-    order_at e s (Heard packet ∷ transcript_of e (transcript_behind (core_events events)))
-    (opens_hearing shape.entries (port_offer Initiator shape.address shape.slots) (port_offer Responder shape.address shape.slots) (core_events events) (lane_core s) e packet (lane_core t)
-    (sizes_fit shape is) (fresh_run_core shape events s run) (event_core_step s (Steps e (Took packet true)) t (fits_behind shape events s run) step))
-
 pub port_resets_unforged : (shape : NetShape) (events : List PortEvent) (s : PortState) (e : End) (cause : Cause) (packet : Option (List ℕ)) (lost : ℕ) (t : PortState) → IsNetShape shape
     → Run PortStep (fresh_port shape) events s → s.lane.wire.forged ≡ false → PortStep s (OnLane (Steps e (Reset cause packet lost))) t
     → IsOwnReset s.lane.wire cause ⊎ LiesInSession (end_of e (port_core s)) packet

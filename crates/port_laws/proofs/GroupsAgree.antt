@@ -23,7 +23,7 @@ use Rattle.port_laws.specs.NetFits.{NetFits}
 use Rattle.port_laws.proofs.EndMoves.{packet_goes}
 use Rattle.port_laws.proofs.Fitting.{BothFit}
 use Rattle.port_laws.proofs.LaneMoves.{fresh_fits}
-use Rattle.port_laws.proofs.PortRuns.{PortFits, before_fits, port_fits}
+use Rattle.port_laws.proofs.PortRuns.{PortFits, before_fits, before_guest, port_fits}
 
 -- A STEP of a guest leaves them
 abbrev Same : NetEndState → NetEndState → Type 0
@@ -67,11 +67,8 @@ record Agrees (s : PortState) (l : PortLog) : Type 0 where
   fits : PortFits s
   groups : GroupsAre s.lane l.members
 
-before_groups : (event : NetEvent) (s : PortState) → (before event s).lane.guest ≡ s.lane.guest
-before_groups event s = before_keeps (λ (x : PortState). x.lane.guest ≡ s.lane.guest) event s (λ frame frames. refl) refl
-
 port_joins_step : (s : PortState) (l : PortLog) (event : PortEvent) (t : PortState) → Agrees s l → PortStep s event t → JoiningAt l event × Agrees t (after l event)
-port_joins_step s l event t agrees step = grind (arith, may_join, port_fits, event_groups, before_fits, before_groups)
+port_joins_step s l event t agrees step = grind (arith, may_join, port_fits, event_groups, before_fits, before_guest)
 
 pub port_joins : (shape : NetShape) (events : List PortEvent) (s : PortState) → Run PortStep (fresh_port shape) events s → Lawful JoiningAt after (no_events shape) events
 port_joins shape events s run =

@@ -72,6 +72,7 @@ use Rattle.port_laws.proofs.TookCounts.{free_empty, session_up}
 use Rattle.port_laws.proofs.WayMoves.{first_came, span, swap_ways}
 use Rattle.port_laws.proofs.WayRuns.{guest_open_up, new_taken, turn_at, ways_before}
 use Rattle.channel_laws.proofs.NextHeard.{own_gap}
+use Rattle.port_laws.proofs.PortCauses.{fails_takes, takes_rule}
 
 -- BOTH DIRECTIONS, as an end has them
 abbrev WaysAt : End → NetLaneState → PortLog → Type 0
@@ -229,19 +230,11 @@ hub_resets shape u l cause packet q finds ways exchange parts session rule takes
     ]
 
 -- A STEP'S RESET
-takes_it : (e : End) (u : NetLaneState) (cause : Cause) (packet : List ℕ) (rule : NetRule) → port_rule (role_at e) (net_end e u) (seen_at e u) ≡ rule
-    → NetFails (role_at e) rule (net_end e u) (memory_of e u) (reach_of e u) cause (Some packet)
-    → (port_rule (role_at e) (net_end e u) (seen_at e u) ≡ Takes packet) × NetTakes (role_at e) (net_end e u) (memory_of e u) packet (Resets cause)
-takes_it e u cause packet (Takes bytes) is fails =
-    let same : bytes ≡ packet = cc fails.0 in (is ∙ ap (λ (xs : List ℕ). Takes xs) same, subst (λ (xs : List ℕ). NetTakes (role_at e) (net_end e u) (memory_of e u) xs (Resets cause)) same fails.1)
-takes_it e u cause packet (Fetches p activity) is fails = absurd (cc fails.0)
-takes_it e u cause packet _ is fails = absurd fails
-
 end_resets : (shape : NetShape) (e : End) (u : PortState) (l : PortLog) (cause : Cause) (packet : List ℕ) (p : NetSession) → Finds shape u l → WaysStand u.lane l → ExchangeStands u.lane l
-    → ((d : End) → PartsSaid (transcript_of d l.transcript)) → (net_end e u.lane).session ≡ Some p → (port_rule (role_at e) (net_end e u.lane) (seen_at e u.lane) ≡ Takes packet)
-    × NetTakes (role_at e) (net_end e u.lane) (memory_of e u.lane) packet (Resets cause) → IsGapBehindLoss u.lane.wire.lossy cause
-end_resets shape A u l cause packet p finds ways exchange parts session it = guest_resets shape u l cause packet p finds ways exchange (parts B) session it.0 it.1
-end_resets shape B u l cause packet p finds ways exchange parts session it = hub_resets shape u l cause packet p finds ways exchange (parts A) session it.0 it.1
+    → ((d : End) → PartsSaid (transcript_of d l.transcript)) → (net_end e u.lane).session ≡ Some p → port_rule (role_at e) (net_end e u.lane) (seen_at e u.lane) ≡ Takes packet
+    → NetTakes (role_at e) (net_end e u.lane) (memory_of e u.lane) packet (Resets cause) → IsGapBehindLoss u.lane.wire.lossy cause
+end_resets shape A u l cause packet p finds ways exchange parts session rule takes = guest_resets shape u l cause packet p finds ways exchange (parts B) session rule takes
+end_resets shape B u l cause packet p finds ways exchange parts session rule takes = hub_resets shape u l cause packet p finds ways exchange (parts A) session rule takes
 
 pub parts_at : (shape : NetShape) (s : PortState) (l : PortLog) (e : End) → IsNetShape shape → PortCounts shape s l → PartsSaid (transcript_of e l.transcript)
 parts_at shape s l A is counts =
@@ -275,9 +268,9 @@ step_resets shape s t l e cause packet lost is had clean step = by_packet packet
 
     in_session : (bytes : List ℕ) → packet ≡ Some bytes → (p : NetSession) → (net_end e u.lane).session ≡ Some p → IsOwnReset l.wire cause
     in_session bytes carried p session =
+        let fails = subst (NetFails (role_at e) (port_rule (role_at e) (net_end e u.lane) (seen_at e u.lane)) (net_end e u.lane) (memory_of e u.lane) (reach_of e u.lane) cause) carried step.step.0 in
         own_gap l.wire u.lane.wire.lossy cause lossy (end_resets shape e u l cause bytes p finds ways exchange (λ d. parts_at shape s l d is had.ways.kept.counts) session
-        (takes_it e u.lane cause bytes (port_rule (role_at e) (net_end e u.lane) (seen_at e u.lane)) refl
-        (subst (NetFails (role_at e) (port_rule (role_at e) (net_end e u.lane) (seen_at e u.lane)) (net_end e u.lane) (memory_of e u.lane) (reach_of e u.lane) cause) carried step.step.0)))
+        (takes_rule _ _ _ _ _ _ bytes fails) (fails_takes _ _ _ _ _ _ bytes fails))
 
     wire_clean : u.lane.wire.forged ≡ false
     wire_clean = ap (λ (x : WireLog). x.forged) finds.ready.wire ∙ clean

@@ -108,6 +108,9 @@ fails_takes role (Takes bytes) s memory reach cause packet fails =
 fails_takes role (Fetches p activity) s memory reach cause packet fails = absurd (cc fails.0)
 fails_takes role _ s memory reach cause packet fails = absurd fails
 
+pub takes_rule : (role : Role) (rule : NetRule) (s : NetEndState) (memory : List ℕ) (reach : Reach) (cause : Cause) (packet : List ℕ) → NetFails role rule s memory reach cause (Some packet) → rule ≡ Takes packet
+takes_rule role rule s memory reach cause packet fails = grind arith
+
 -- BEHIND EVENTS of a channel that led to a lane
 module _ (shape : NetShape) (moves : List CoreEvent) (s : NetLaneState) (is : IsNetShape shape) (run : Run CoreStep (fresh_net_core shape) moves (lane_core s)) where
   pub take_cause : (e : End) (session : NetSession) (packet : List ℕ) (take : NetTake) → (net_end e s).session ≡ Some session → NetTakes (role_at e) (net_end e s) (memory_of e s) packet take

@@ -39,7 +39,7 @@ use Rattle.port_laws.proofs.GroupsAgree.{event_groups}
 use Rattle.channel_laws.proofs.HandshakeFitting.{EndFits, fits_run}
 use Rattle.port_laws.proofs.HeldCounts.{SlotsFit}
 use Rattle.port_laws.proofs.OwedSays.{EndOwes, owes_run}
-use Rattle.port_laws.proofs.PortRuns.{before_core, before_fits, fresh_port_core, port_fits_behind, spoken_behind}
+use Rattle.port_laws.proofs.PortRuns.{before_core, before_fits, before_guest, fresh_port_core, port_fits_behind, spoken_behind}
 use Rattle.port_laws.proofs.StepCounts.{Acting, begins_counts, step_counts}
 
 abbrev pub queue_of : End → PortState → List (List ℕ)
@@ -92,9 +92,6 @@ moves_ready false queue slots s l takes is counts stands = record { counts = cou
 pub hub_ready : (slots : ℕ) (event : NetEvent) (s : PortState) (l : EndLog) → EndCounts Responder slots s.queue s.lane.hub l → FramesStand s.lane.hub → HubReady slots (before event s) l
 hub_ready slots (Steps B answer) s l counts stands = moves_ready (takes_more s.lane.hub) s.queue slots s l refl refl counts stands
 hub_ready slots _ s l counts stands = record { counts = counts; stands = stands }
-
-pub before_guest : (event : NetEvent) (s : PortState) → (before event s).lane.guest ≡ s.lane.guest
-before_guest event s = before_keeps (λ (x : PortState). x.lane.guest ≡ s.lane.guest) event s (λ frame frames. refl) refl
 
 pub before_wire : (event : NetEvent) (s : PortState) → (before event s).lane.wire ≡ s.lane.wire
 before_wire event s = before_keeps (λ (x : PortState). x.lane.wire ≡ s.lane.wire) event s (λ frame frames. refl) refl

@@ -64,7 +64,7 @@ use Rattle.port_laws.proofs.MessageDoes.{not_other}
 use Rattle.port_laws.proofs.CoreLaws.{sizes_fit}
 use Rattle.port_laws.proofs.Fitting.{BothFit}
 use Rattle.port_laws.proofs.LaneMoves.{event_core_step}
-use Rattle.port_laws.proofs.PortCauses.{cause_before, fails_takes, moves_before}
+use Rattle.port_laws.proofs.PortCauses.{cause_before, fails_takes, moves_before, takes_rule}
 use Rattle.port_laws.proofs.PortResets.{opened_is}
 use Rattle.port_laws.proofs.PortCounts.{Ready, port_counts, queue_of, ready_before}
 use Rattle.port_laws.proofs.PortRuns.{by_option, before_core, before_fits, fresh_port_core, lawful_on_lane, port_fits_behind, spoken_behind}
@@ -255,10 +255,7 @@ undone_here role s p memory sid slots turns packet v slot state same listening i
         ap (λ (n : ℕ). range_length slots n (end_of message)) (sym fields.2) ∙ ap (λ (n : ℕ). range_length slots ack.start n) (sym fields.3) ∙ ap (λ (n : ℕ). range_length n ack.start ack.end) (sym same) in
         grind (arith, with_range, not_other)
 
--- a reset that carries a packet is one of what the end takes; without a session no slot is looked at
-takes_rule : (role : Role) (rule : NetRule) (s : NetEndState) (memory : List ℕ) (reach : Reach) (cause : Cause) (packet : List ℕ) → NetFails role rule s memory reach cause (Some packet) → rule ≡ Takes packet
-takes_rule role rule s memory reach cause packet fails = grind arith
-
+-- without a session no slot is looked at
 never_shut : {X : Type 0} (shape : NetShape) (is : IsNetShape shape) (moves : List CoreEvent) (u t : NetLaneState) (run : Run CoreStep (fresh_net_core shape) moves (lane_core u)) (fits : BothFit u) (e : End)
     (slot state : ℕ) (packet : List ℕ) (lost : ℕ) → (net_end e u).session ≡ None → NetLaneStep u (Steps e (Reset (the_cause.NotDone slot state) (Some packet) lost)) t → X
 never_shut {X} shape is moves u t run fits e slot state packet lost none step =

@@ -176,15 +176,10 @@ taking_event shape u l _ t ready step = tt
 
 -- 1. A FRAME THAT IS SENT
 pub held_frames : (role : Role) (slots : ℕ) (queue : List (List ℕ)) (s : NetEndState) (l : EndLog) → EndCounts role slots queue s l → held l ≡ length s.frames + length queue
-held_frames role slots queue s l counts =
-    let long : length (s.frames ++ queue) ≡ length (drop l.gone l.given) = ap length counts.frames in
-    omega (arith, long, length-append s.frames queue, length-drop l.gone l.given)
+held_frames role slots queue s l counts = omega (arith, ap length counts.frames, length-append s.frames queue, length-drop l.gone l.given)
 
-pub none_more : (n : ℕ) → n + 0 ≡ n
-none_more n = omega arith
-
-guest_held : (slots : ℕ) (s : NetEndState) (l : EndLog) → EndCounts Initiator slots [] s l → held l ≡ length s.frames
-guest_held slots s l counts = held_frames Initiator slots [] s l counts ∙ none_more (length s.frames)
+pub guest_held : (slots : ℕ) (s : NetEndState) (l : EndLog) → EndCounts Initiator slots [] s l → held l ≡ length s.frames
+guest_held slots s l counts = omega (arith, held_frames Initiator slots [] s l counts)
 
 -- ALONG EVERY RUN
 pub along : (shape : NetShape) (May : PortLog → PortEvent → Type 0) → IsNetShape shape
