@@ -23,11 +23,7 @@ use Rattle.port_laws.proofs.RuleTable.{port_answers, port_table}
 use Rattle.port_laws.proofs.RuleTwoIdle.{port_two_idle}
 use Rattle.port_laws.proofs.RuleUnforged.{port_unforged}
 use Rattle.port_laws.proofs.WireLaws.{port_hears, port_opens, port_says}
-
--- what is lawful along a run with one event more is so at that event
-last : (May : PortLog → PortEvent → Type 0) (shape : NetShape) (events : List PortEvent) (event : PortEvent) → Lawful May after (no_events shape) (events ++ event ∷ [])
-    → May (log_of after (no_events shape) events) event
-last May shape events event lawful = (lawful_split May after (no_events shape) events (event ∷ []) lawful).1.0
+use Rattle.port_laws.proofs.LastEvent.{last_lawful}
 
 pub every_run : (shape : NetShape) (events : List PortEvent) (s : PortState) → IsNetShape shape → Run PortStep (fresh_port shape) events s → IsLawfulPort shape events
 every_run shape events s is run =
@@ -35,30 +31,30 @@ every_run shape events s is run =
     let events : List PortEvent = before ++ event ∷ [] in
     let whole : Run PortStep (fresh_port shape) events t = run_push PortStep (fresh_port shape) s t before event run step in
     record {
-      table = last (λ (x : PortLog) (event : PortEvent). OfWire (WireTableAt (sizes_in x) x.wire) event) shape before event (port_table shape events t is whole);
-      answers = last (λ (x : PortLog) (event : PortEvent). OfWire (WireAnswersAt (sizes_in x) x.wire) event) shape before event (port_answers shape events t is whole);
-      said = last (λ (x : PortLog) (event : PortEvent). OfWire (WireSaidAt x.transcript) event) shape before event (port_says shape events t is whole);
-      heard = last (λ (x : PortLog) (event : PortEvent). OfWire (WireHeardAt x.transcript) event) shape before event (port_hears shape events t is whole);
-      gap = last (λ (x : PortLog) (event : PortEvent). OfWire (WireGapAt x.transcript) event) shape before event (port_resets_so WireGapAt (λ l x both. both.1) shape events t is whole);
-      reset_says = last (λ (x : PortLog) (event : PortEvent). OfWire (WireResetAt x.transcript) event) shape before event (port_resets_so WireResetAt (λ l x both. both.0) shape events t is whole);
-      unforged_wire = last (λ (x : PortLog) (event : PortEvent). OfWire (WireUnforgedAt x.wire) event) shape before event (port_unforged_wire shape events t is whole);
-      works = last WorksAt shape before event (port_works shape events t is whole);
-      admission = last AdmissionAt shape before event (port_admits shape events t is whole);
-      joining = last JoiningAt shape before event (port_joins shape events t whole);
-      tick = last TickAt shape before event (port_ticks shape events t is whole);
-      openings = last OpeningsAt shape before event (port_opens shape events t is whole);
-      published = last PublishedAt shape before event (port_published shape events t is whole);
-      lost = last LostAt shape before event (port_lost shape events t is whole);
-      announces = last AnnouncesAt shape before event (port_announces shape events t is whole);
-      sees = last SeesAt shape before event (port_sees shape events t is whole);
-      asks = last AsksAt shape before event (port_asks shape events t is whole);
-      taking = last TakingAt shape before event (port_takes shape events t is whole);
-      acknowledges = last AcknowledgesAt shape before event (port_acknowledges shape events t is whole);
-      own_resets = last OwnResetAt shape before event (port_resets shape events t is whole);
-      undone = last UndoneAt shape before event (port_undone shape events t is whole);
-      groups_said = last GroupsSaidAt shape before event (port_groups_said shape events t is whole);
-      idle = last IdleAt shape before event (port_idle shape events t is whole);
-      unforged = last UnforgedAt shape before event (port_unforged shape events t is whole);
-      two_idle = last TwoIdleAt shape before event (port_two_idle shape events t is whole);
+      table = last_lawful shape (λ (x : PortLog) (event : PortEvent). OfWire (WireTableAt (sizes_in x) x.wire) event) before event (port_table shape events t is whole);
+      answers = last_lawful shape (λ (x : PortLog) (event : PortEvent). OfWire (WireAnswersAt (sizes_in x) x.wire) event) before event (port_answers shape events t is whole);
+      said = last_lawful shape (λ (x : PortLog) (event : PortEvent). OfWire (WireSaidAt x.transcript) event) before event (port_says shape events t is whole);
+      heard = last_lawful shape (λ (x : PortLog) (event : PortEvent). OfWire (WireHeardAt x.transcript) event) before event (port_hears shape events t is whole);
+      gap = last_lawful shape (λ (x : PortLog) (event : PortEvent). OfWire (WireGapAt x.transcript) event) before event (port_resets_so WireGapAt (λ l x both. both.1) shape events t is whole);
+      reset_says = last_lawful shape (λ (x : PortLog) (event : PortEvent). OfWire (WireResetAt x.transcript) event) before event (port_resets_so WireResetAt (λ l x both. both.0) shape events t is whole);
+      unforged_wire = last_lawful shape (λ (x : PortLog) (event : PortEvent). OfWire (WireUnforgedAt x.wire) event) before event (port_unforged_wire shape events t is whole);
+      works = last_lawful shape WorksAt before event (port_works shape events t is whole);
+      admission = last_lawful shape AdmissionAt before event (port_admits shape events t is whole);
+      joining = last_lawful shape JoiningAt before event (port_joins shape events t whole);
+      tick = last_lawful shape TickAt before event (port_ticks shape events t is whole);
+      openings = last_lawful shape OpeningsAt before event (port_opens shape events t is whole);
+      published = last_lawful shape PublishedAt before event (port_published shape events t is whole);
+      lost = last_lawful shape LostAt before event (port_lost shape events t is whole);
+      announces = last_lawful shape AnnouncesAt before event (port_announces shape events t is whole);
+      sees = last_lawful shape SeesAt before event (port_sees shape events t is whole);
+      asks = last_lawful shape AsksAt before event (port_asks shape events t is whole);
+      taking = last_lawful shape TakingAt before event (port_takes shape events t is whole);
+      acknowledges = last_lawful shape AcknowledgesAt before event (port_acknowledges shape events t is whole);
+      own_resets = last_lawful shape OwnResetAt before event (port_resets shape events t is whole);
+      undone = last_lawful shape UndoneAt before event (port_undone shape events t is whole);
+      groups_said = last_lawful shape GroupsSaidAt before event (port_groups_said shape events t is whole);
+      idle = last_lawful shape IdleAt before event (port_idle shape events t is whole);
+      unforged = last_lawful shape UnforgedAt before event (port_unforged shape events t is whole);
+      two_idle = last_lawful shape TwoIdleAt before event (port_two_idle shape events t is whole);
     } in
     lawful_along shape PortMay each events s run

@@ -155,10 +155,6 @@ own_read d bytes own small long =
     own_body d.sid bytes own.message.subtype own.message.body own.body small long
     (own.is ∙ ap (λ (n : ℕ). canonical (record { subtype = own.message.subtype; sid = n; body = own.message.body })) own.sid)
 
-pub decodes_as : (bytes : List ℕ) (m : Message) (decoded : Result Message TagFault) → IsWellFormed m → SpellsMessage bytes m → Decodes bytes decoded → decoded ≡ Ok m
-decodes_as bytes m (Ok d) form spells decodes = ap Ok (spelled_once bytes d m decodes.message.0 form decodes.message.1 spells)
-decodes_as bytes m (Err fault) form spells decodes = grind (arith, spelled_no_fault)
-
 -- THE HANDSHAKE of an end in session: both rings have the session's number
 pub record AllAgreed (h : Handshake) (sid : ℕ) : Type 0 where
   pub knows : h.sid ≡ Some sid

@@ -40,7 +40,7 @@ use Rattle.port_laws.proofs.PortCounts.{Ready, port_counts, queue_of, ready_befo
 use Rattle.port_laws.proofs.RemainingEnds.{Lowers, blocks_lower, publishes_lower, sends_lower, up_left}
 use Rattle.port_laws.proofs.RuleFrames.{end_acts}
 use Rattle.port_laws.proofs.LaneMoves.{holds_up, up_of, not_up}
-use Rattle.port_laws.proofs.RuleUnforged.{reach_memory}
+use Rattle.port_laws.proofs.RingActs.{reach_memory}
 
 -- THE FRAME THAT MOVES from the queue counts as before
 moved_end : (x : ChannelState) (memory : List ℕ) (s : NetEndState) (frame : List ℕ) (more queued : ℕ) → length (s.frames ++ frame ∷ []) + more ≡ length s.frames + queued

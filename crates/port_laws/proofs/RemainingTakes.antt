@@ -49,8 +49,8 @@ use Rattle.port_laws.proofs.RemainingSteps.{left_at, more_at, ready_here, room_a
 use Rattle.port_laws.proofs.RuleFrames.{end_acts}
 use Rattle.port_laws.proofs.TookWhat.{Fails, Opens, Reads, Stays, TookWhat, took_what}
 use Rattle.port_laws.proofs.EndMoves.{one_most}
-use Rattle.port_laws.proofs.RuleUnforged.{reach_memory}
 use Rattle.port_laws.proofs.StepCounts.{counts_stand}
+use Rattle.port_laws.proofs.RingActs.{reach_memory}
 
 -- WHAT AN END MAY OWE for a packet that it takes: the switch's end an answer to groups
 abbrev slack : Role → ℕ

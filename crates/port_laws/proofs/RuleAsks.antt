@@ -151,9 +151,6 @@ record Listens (slots : ℕ) (p : NetSession) (v : SessionLog) : Type 0 where
   seen : v.seen ≡ p.seen
   all : v.published ≡ p.published
 
-same_log : (log : Option SessionLog) (v w : SessionLog) → log ≡ Some v → log ≡ Some w → v ≡ w
-same_log log v w one two = let both : Some v ≡ Some w = sym one ∙ two in cc both
-
 listens : (shape : NetShape) (e : End) (u : PortState) (l : PortLog) (packet : List ℕ) (p : NetSession) (v : SessionLog) → Ready shape u l → port_rule (role_at e) (net_end e u.lane) (seen_at e u.lane) ≡ Takes packet
     → (net_end e u.lane).session ≡ Some p → (log_of_end e l).session ≡ Some v → Listens shape.slots p v
 listens shape e u l packet p v ready rule session log =
@@ -164,7 +161,7 @@ listens shape e u l packet p v ready rule session log =
     let here : OpenCounts (role_at e) shape.slots s.groups (log_of_end e l).published (log_of_end e l).gone None s.link.begun p (log_of_end e l).session =
     open_empty (role_at e) shape.slots (queue_of e u) s (log_of_end e l) p (end_counted shape e u l ready) session empty in
     let may : MayListen p = subst (λ (x : Option NetSession). IfOpen x MayListen) session says.2 in
-    grind (arith, same_log)
+    grind arith
 
 asks_here : (role : Role) (s : NetEndState) (p : NetSession) (memory : List ℕ) (sid slots : ℕ) (turns : List Utterance) (packet message : List ℕ) (v : SessionLog) → s.handshake.draft.peer_slots ≡ slots → Listens slots p v
     → packet_cause (own_cause role s p memory) sid turns packet ≡ None → ended_by (half_heard turns) packet ≡ Some message → spoken message ≡ RangeInfo → Asks slots v message

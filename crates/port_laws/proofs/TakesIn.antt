@@ -27,11 +27,13 @@ use Rattle.port_model.specs.Groups.{groups_after}
 use Rattle.port_model.specs.NetEndState.{GroupsReply, NetEndState, NetSession, with_session}
 use Rattle.port_model.specs.NetEndTaking.{GoesOn, NetTake, active, hears_message, in_session, replying}
 use Rattle.port_model.specs.Spoken.{addresses_of, count_of, set_of, seven_of}
-use Rattle.port_laws.proofs.HearsIn.{HearsOne, OwnRead, decodes_as, own_read}
+use Rattle.port_laws.proofs.HearsIn.{HearsOne, OwnRead, own_read}
 use Rattle.port_laws.proofs.MessageDoes.{Acks, Asks, MessageDoes, Names, Told, Declines}
 use Rattle.port_laws.proofs.Outbox.{MessageFits, is_groups}
 use Rattle.port_laws.proofs.PeerOpens.{TwoEnds}
 use Rattle.port_laws.proofs.GroupsExchanged.{ReplyAgrees}
+use Rattle.vio_tag.proofs.Reading.{only_spelled}
+use Rattle.port_model.proofs.Refuting.{true_false}
 
 -- THE NEXT MESSAGE is one of the session, and is read as that
 pub next_is_own : (asks answers : Offer) (role : Role) (s : Sides) (bytes : List ℕ) → (two_ends : TwoEnds asks answers role s) → s.mine.state ≡ Up → s.mine.core.is_open ≡ true → s.theirs.state ≡ Up
@@ -59,7 +61,7 @@ pub record InSession (role : Role) (s : NetEndState) (p : NetSession) (memory : 
 
 pub in_own_session : (role : Role) (s : NetEndState) (p : NetSession) (memory packet : List ℕ) (turns : List Utterance) (take : NetTake) (sid : ℕ) → (one : HearsOne role s memory turns packet take)
     → s.session ≡ Some p → s.handshake.sid ≡ Some sid → (own : OwnRead one.bytes sid) → InSession role (record s { link = one.link }) p memory own.message take
-in_own_session role s p memory packet turns take sid one session knows own = grind (arith, decodes_as, eq-eqb)
+in_own_session role s p memory packet turns take sid one session knows own = grind (arith, only_spelled, eq-eqb)
 
 -- WHAT THE GUEST NOTES
 pub record GuestNotes (s t : NetEndState) (p q : NetSession) (m : List ℕ) : Type 0 where
@@ -78,9 +80,6 @@ range_groups m is = ap (λ (n : ℕ). n == 0x0101) is
 groups_groups : (m : List ℕ) → envelope_at m ≡ 0x0101 → is_groups m ≡ true
 groups_groups m is = ap (λ (n : ℕ). n == 0x0101) is
 
-wrong : {X : Type 0} (b : Bool) → b ≡ true → b ≡ false → X
-wrong {X} b one two = let never : true ≡ false = sym one ∙ two in absurd (cc never)
-
 of_session : {X : Type 0} (s : Subtype) (b : MsgBody) → IsOfSession b → is_declined s b ≡ true → X
 of_session {X} s b of is = grind arith
 
@@ -91,12 +90,12 @@ guest_noted s t n p q m is session groups handshake sends reply untold told same
 pub guest_notes : (s t : NetEndState) (p : NetSession) (memory new m : List ℕ) (message : Message) → IsOfSession message.body → SpellsMessage m message
     → MessageDoes Initiator s p memory message.subtype message.body t new → (q : NetSession) × GuestNotes s t p q m
 guest_notes s t p memory new m message of spells (Asks seq ident start end state info body place same is) =
-    (_, guest_noted s t _ p (active p seq start) m is refl refl refl refl refl refl (λ one. wrong (is_groups m) one (range_groups m (spells.envelope ∙ ap envelope_code body))) (λ none. refl))
+    (_, guest_noted s t _ p (active p seq start) m is refl refl refl refl refl refl (λ one. true_false (sym one ∙ range_groups m (spells.envelope ∙ ap envelope_code body))) (λ none. refl))
 guest_notes s t p memory new m message of spells (Acks seq ident start end state ack body begins inside within done same is) =
-    (_, guest_noted s t _ p _ m is refl refl refl refl refl refl (λ one. wrong (is_groups m) one (range_groups m (spells.envelope ∙ ap envelope_code body))) (λ none. refl))
+    (_, guest_noted s t _ p _ m is refl refl refl refl refl refl (λ one. true_false (sym one ∙ range_groups m (spells.envelope ∙ ap envelope_code body))) (λ none. refl))
 guest_notes s t p memory new m message of spells (Names set count addresses groups reply answers role info body same is) = absurd (cc role)
 guest_notes s t p memory new m message of spells (Told set count addresses role ack body telling same is) =
-    (_, guest_noted s t _ p (record p { telling = false }) m is refl refl refl refl refl refl (λ one. refl) (λ none. wrong (is_groups m) (groups_groups m (spells.envelope ∙ ap envelope_code body)) none))
+    (_, guest_noted s t _ p (record p { telling = false }) m is refl refl refl refl refl refl (λ one. refl) (λ none. true_false (sym (groups_groups m (spells.envelope ∙ ap envelope_code body)) ∙ none)))
 guest_notes s t p memory new m message of spells (Declines h declined same is) = of_session message.subtype message.body of declined
 
 -- WHAT THE SWITCH'S END NOTES of a range
