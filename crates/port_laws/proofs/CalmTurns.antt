@@ -1,6 +1,6 @@
 -- A calm turn of a port that nobody forged and on which nothing was lost: first the guest's end and then the switch's is idle or finds no
 -- room. Then the port is finished.
-use Rattle.std.proofs.Common.{◌≡◌, ◌≢◌, ℕ, ◌+◌, ◌≤◌, Bool, true, false, Option, Some, None, List, [], ◌∷◌, ◌++◌, length, refl, sym, subst, ap, ◌∙◌, arith, length-append}
+use Rattle.std.proofs.Common.{◌≡◌, ℕ, ◌+◌, ◌≤◌, Bool, true, false, Some, List, [], ◌∷◌, ◌++◌, length, refl, sym, subst, ap, ◌∙◌, arith, length-append}
 use Rattle.std.specs.Prelude.{is_some, nat_lt}
 use Rattle.std.proofs.lemmas.Bool.Decides.{nat_tests}
 use Rattle.ldc_link.specs.declared.phase.Role.TheVariants.{Initiator, Responder}
@@ -8,7 +8,7 @@ use Rattle.ldc_queue.specs.declared.end.End.TheVariants.{A, B}
 use Rattle.runs.specs.Lawful.{log_append, log_of}
 use Rattle.runs.specs.Run.{Run, run_push}
 use Rattle.channel_model.specs.WireLog.{WireLog}
-use Rattle.port_model.proofs.Refuting.{none_some, true_false}
+use Rattle.port_model.proofs.Refuting.{true_false}
 use Rattle.port_model.specs.EndLog.{SessionLog, held}
 use Rattle.port_model.specs.FrameLaws.{InSession, IsFinished, TickAt, ToldAll}
 use Rattle.port_model.specs.NetEndState.{joined_net_end, unseen}

@@ -33,7 +33,7 @@ use Rattle.port_model.specs.NetEndPutting.{announcement, answer, answers, cleare
 use Rattle.port_model.specs.Groups.{membership}
 use Rattle.port_model.specs.NetEndRule.{Announces, Fetches, NetRule, Publishes, Puts, Replies, Says, Tells, port_rule}
 use Rattle.port_model.specs.NetEndState.{Activity, NetEndState, NetSession, joined_net_end, unseen, unseen_in}
-use Rattle.port_model.specs.NetEndStep.{Blocked, Frame, Idle, NetAnswer, NetEndStep, NetLeft, NetPublishes, NetSends, Published, Sent, Took, published, taken}
+use Rattle.port_model.specs.NetEndStep.{Blocked, Frame, Idle, NetAnswer, NetEndStep, NetLeft, NetPublishes, NetSends, Published, Sent, Took}
 use Rattle.port_model.specs.NetEndTaking.{GoesOn, NetTake, NetTakes, Resets}
 use Rattle.port_model.specs.NetEvent.{CalmTick, Steps, Ticked}
 use Rattle.port_model.specs.NetLaneState.{IsNetShape, NetLaneState, NetShape, reach_of, seen_at}

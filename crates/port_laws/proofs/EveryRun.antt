@@ -1,6 +1,6 @@
 -- Every run of a port is lawful: each event may stand after those before it, by each of the laws.
 use Rattle.std.proofs.Common.{List, [], ◌∷◌, ◌++◌}
-use Rattle.runs.specs.Lawful.{Lawful, lawful_split, log_of}
+use Rattle.runs.specs.Lawful.{log_of}
 use Rattle.runs.specs.Run.{Run, run_push}
 use Rattle.channel_model.specs.ResetSays.{WireResetAt}
 use Rattle.channel_model.specs.WireAt.{WireAnswersAt, WireGapAt, WireHeardAt, WireSaidAt, WireTableAt, WireUnforgedAt}

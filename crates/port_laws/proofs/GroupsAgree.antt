@@ -5,7 +5,6 @@ use Rattle.runs.specs.Lawful.{Lawful, run_lawful}
 use Rattle.runs.specs.Run.{Run}
 use Rattle.channel_model.specs.Seeing.{Seen}
 use Rattle.cookie_copy.specs.Reach.{Reach}
-use Rattle.port_model.proofs.Moving.{before_keeps}
 use Rattle.port_model.specs.Fetching.{Fetched}
 use Rattle.port_model.specs.FrameLaws.{JoiningAt, MayJoin}
 use Rattle.port_model.specs.NetEndPutting.{answers, net_holds, net_opens, opened_by_put}
@@ -17,7 +16,7 @@ use Rattle.port_model.specs.NetEvent.{NetEvent}
 use Rattle.port_model.specs.NetLaneState.{NetLaneState, NetShape}
 use Rattle.port_model.specs.NetLaneStep.{NetLaneStep}
 use Rattle.port_model.specs.PortLog.{PortLog, after, members_after, no_events}
-use Rattle.port_model.specs.PortState.{PortEvent, PortState, PortStep, before, fresh_port}
+use Rattle.port_model.specs.PortState.{PortEvent, PortState, PortStep, fresh_port}
 use Rattle.port_model.proofs.Refuting.{none_some, of_some}
 use Rattle.port_laws.specs.NetFits.{NetFits}
 use Rattle.port_laws.proofs.EndMoves.{packet_goes}

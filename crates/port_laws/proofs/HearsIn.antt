@@ -1,6 +1,6 @@
 -- What an end of a port in session makes of a packet: no message is whole by it, or it reads the one that is; or its link refuses the packet.
 use Rattle.std.proofs.Common.{◌≡◌, ℕ, ◌^◌, ◌<◌, ◌⊎◌, true, false, Option, Some, None, List, [], ◌∷◌, ◌++◌, length, inl, inr, refl, sym, subst, ap, ◌∙◌, arith}
-use Rattle.std.specs.Prelude.{Result, Ok, Err}
+use Rattle.std.specs.Prelude.{Result}
 use Rattle.ldc_link.specs.declared.phase.Role.{Role}
 use Rattle.ldc_link.specs.LinkState.{LinkState, cleared, is_up}
 use Rattle.ldc_link.specs.Taking.{Heard as HeardBy, LinkTake, TakesBytes, Unheard}
@@ -13,8 +13,6 @@ use Rattle.vio_handshake.proofs.Places.{AllSaid, Deal, handshake_at}
 use Rattle.vio_handshake.specs.declared.handshake.Handshake.{Handshake}
 use Rattle.vio_handshake.specs.declared.session.Offer.{Offer}
 use Rattle.vio_tag.proofs.Canonical.{canonical_spells}
-use Rattle.vio_tag.proofs.NoFault.{spelled_no_fault}
-use Rattle.vio_tag.proofs.Same.{spelled_once}
 use Rattle.vio_tag.specs.declared.message.Message.{Message}
 use Rattle.vio_tag.specs.declared.message.MsgBody.{MsgBody}
 use Rattle.vio_tag.specs.declared.message.MsgBody.TheVariants.{DringData, Mcast}

@@ -32,7 +32,7 @@ use Rattle.port_model.proofs.OwnResets.{net_resets_own}
 use Rattle.port_model.proofs.Refuting.{true_false}
 use Rattle.port_model.proofs.Ruling.{says_of}
 use Rattle.port_model.specs.EndLog.{SessionLog, range_of}
-use Rattle.port_model.specs.NetEndRule.{Fetches, NetRule, Takes, port_rule}
+use Rattle.port_model.specs.NetEndRule.{Takes, port_rule}
 use Rattle.port_model.specs.NetEndState.{NetEndState, NetSession}
 use Rattle.port_model.specs.NetEndStep.{NetEndStep, NetFails, Reset}
 use Rattle.port_model.specs.NetEndTaking.{NetTakes, Resets, first_undone}

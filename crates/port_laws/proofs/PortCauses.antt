@@ -5,7 +5,6 @@ use Rattle.cookie_copy.specs.Reach.{Reach}
 use Rattle.runs.specs.Lawful.{log_of}
 use Rattle.runs.specs.Run.{Run}
 use Rattle.ldc_link.specs.declared.phase.Role.{Role}
-use Rattle.ldc_link.specs.declared.phase.Role.TheVariants.{Initiator, Responder}
 use Rattle.ldc_link.specs.LinkState.{LinkState, is_up}
 use Rattle.ldc_link.specs.Taking.{LinkTake}
 use Rattle.ldc_packet.specs.declared.packet.Subtype.{Subtype}
@@ -13,10 +12,8 @@ use Rattle.ldc_queue.specs.declared.end.End.{End}
 use Rattle.ldc_queue.specs.declared.end.End.TheVariants.{A, B}
 use Rattle.ldc_queue.specs.Transcript.{Utterance}
 use Rattle.vio_handshake.specs.declared.handshake.Phase.TheVariants.{Open}
-use Rattle.vio_handshake.specs.declared.session.Offer.{Offer}
 use Rattle.vio_handshake.specs.Rules.{HandshakeTake, handshake_take, sid_fault}
 use Rattle.vio_tag.specs.declared.cause.Cause.{Cause}
-use Rattle.vio_tag.specs.declared.cause.Cause.TheVariants as the_cause
 use Rattle.vio_tag.specs.declared.message.Message.{Message}
 use Rattle.vio_tag.specs.declared.message.MsgBody.{MsgBody}
 use Rattle.vio_tag.specs.declared.message.TagFault.{TagFault}
@@ -30,20 +27,17 @@ use Rattle.channel_laws.specs.PacketCauses.{Judges, LinkJudged, WholeJudged, fau
 use Rattle.channel_laws.specs.Standing.{EndStands}
 use Rattle.port_model.specs.NetEndRule.{Fetches, NetRule, Takes, port_rule}
 use Rattle.port_model.specs.NetEndState.{NetEndState, NetSession}
-use Rattle.port_model.specs.NetEndStep.{NetFails, Reset, Took}
+use Rattle.port_model.specs.NetEndStep.{NetFails}
 use Rattle.port_model.specs.NetEndTaking.{GoesOn, HearsLink, HearsWhole, NetTake, NetTakes, Resets, by_handshake, hears_message, in_session, reads, sid_first, takes_done}
-use Rattle.port_model.specs.NetEvent.{NetEvent, Steps}
-use Rattle.port_model.specs.NetLaneState.{IsNetShape, NetLaneState, NetShape, fresh_net, memory_of, net_end, reach_of, role_at, seen_at}
-use Rattle.port_model.specs.NetLaneStep.{NetLaneStep}
-use Rattle.port_model.specs.Offers.{port_offer}
+use Rattle.port_model.specs.NetEvent.{NetEvent}
+use Rattle.port_model.specs.NetLaneState.{IsNetShape, NetLaneState, NetShape, memory_of, net_end, reach_of, role_at, seen_at}
 use Rattle.port_model.specs.PortLog.{after, no_events}
-use Rattle.port_model.specs.PortState.{OnLane, PortEvent, PortState, PortStep, before, fresh_port}
-use Rattle.port_laws.specs.NetCore.{core_events, fresh_net_core, lane_core, net_core_at}
+use Rattle.port_model.specs.PortState.{PortEvent, PortState, PortStep, before, fresh_port}
+use Rattle.port_laws.specs.NetCore.{fresh_net_core, lane_core, net_core_at}
 use Rattle.port_laws.specs.PortCore.{port_events}
 use Rattle.port_laws.specs.PortCauses.{own_cause, port_cause}
 use Rattle.port_laws.proofs.CoreLaws.{sizes_fit}
 use Rattle.port_laws.proofs.EndMoves.{risen_same}
-use Rattle.port_laws.proofs.LaneMoves.{fresh_run_core}
 use Rattle.port_laws.proofs.PortRuns.{before_core, fresh_port_core, spoken_behind}
 
 -- THE CAUSE of what an end makes of something

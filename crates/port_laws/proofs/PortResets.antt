@@ -51,7 +51,7 @@ use Rattle.port_laws.proofs.CoreLaws.{sizes_fit}
 use Rattle.port_laws.proofs.Fitting.{BothFit}
 use Rattle.port_laws.proofs.LaneMoves.{event_core_step}
 use Rattle.port_laws.proofs.PortCauses.{fails_with, moves_before}
-use Rattle.port_laws.proofs.PortRuns.{before_core, before_fits, fresh_port_core, lawful_along, port_fits_behind, spoken_behind}
+use Rattle.port_laws.proofs.PortRuns.{before_fits, lawful_along, port_fits_behind, spoken_behind}
 use Rattle.port_laws.proofs.SlotsFound.{Fits, fetched_fits}
 
 -- THE CAUSES of a session, by its messages

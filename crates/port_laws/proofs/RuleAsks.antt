@@ -30,21 +30,20 @@ use Rattle.vio_tag.specs.Spelling.{SpellsBody, SpellsMessage, envelope_code}
 use Rattle.channel_model.specs.Messages.{end_of, ended_by, is_range, range_if, range_in}
 use Rattle.channel_model.specs.Ranges.{is_other, wrapped}
 use Rattle.channel_model.specs.Sayings.{count_heard, half_heard}
-use Rattle.channel_model.specs.TranscriptLog.{TranscriptLog, transcript_of}
+use Rattle.channel_model.specs.TranscriptLog.{transcript_of}
 use Rattle.channel_model.specs.WireAt.{counts_next}
 use Rattle.channel_laws.proofs.Resets.{reset_says}
 use Rattle.channel_laws.specs.LaneCore.{CoreEvent, CoreStep, end_of as core_of, transcript_behind}
 use Rattle.channel_laws.specs.PacketCauses.{body_cause, decoded_cause, fault_cause, message_cause, mode_cause, names_mode, number_cause, packet_cause, part_cause}
 use Rattle.channel_laws.specs.Resetting.{ResetsFor}
-use Rattle.cookie_copy.specs.Reach.{Reach}
 use Rattle.port_model.proofs.Refuting.{none_some, true_false}
 use Rattle.port_model.proofs.Ruling.{says_of}
 use Rattle.port_model.proofs.SlotsLooked.{first_in_order}
 use Rattle.port_model.specs.EndLog.{SessionLog, range_of}
 use Rattle.port_model.specs.FrameLaws.{Asks, AsksAt, InSession, IsActive, NamesUndone, SomeMessage, UndoneAt}
-use Rattle.port_model.specs.NetEndRule.{NetRule, Takes, port_rule}
+use Rattle.port_model.specs.NetEndRule.{Takes, port_rule}
 use Rattle.port_model.specs.NetEndState.{NetEndState, NetSession}
-use Rattle.port_model.specs.NetEndStep.{NetFails, Reset, Took}
+use Rattle.port_model.specs.NetEndStep.{Reset, Took}
 use Rattle.port_model.specs.NetEndTaking.{GoesOn, Resets, first_undone}
 use Rattle.port_model.specs.NetEvent.{NetEvent, Steps}
 use Rattle.port_model.specs.NetLaneState.{IsNetShape, NetLaneState, NetShape, memory_of, net_end, reach_of, role_at, seen_at}
@@ -56,7 +55,7 @@ use Rattle.port_model.specs.RuleFacts.{IfOpen, MayListen}
 use Rattle.port_model.specs.SlotsLooked.{FirstUndone}
 use Rattle.port_model.specs.Spoken.{RangeInfo, spoken, spoken_by}
 use Rattle.port_laws.specs.NetCore.{fresh_net_core, lane_core}
-use Rattle.port_laws.specs.PortCauses.{ack_cause, info_cause, own_cause, port_cause, session_cause}
+use Rattle.port_laws.specs.PortCauses.{ack_cause, info_cause, own_cause, session_cause}
 use Rattle.port_laws.specs.PortCore.{port_events}
 use Rattle.port_laws.proofs.EndCounting.{OpenCounts, open_counts, open_empty}
 use Rattle.port_laws.proofs.LettingGo.{spoken_same}
@@ -67,7 +66,7 @@ use Rattle.port_laws.proofs.LaneMoves.{event_core_step}
 use Rattle.port_laws.proofs.PortCauses.{cause_before, fails_takes, moves_before, takes_rule}
 use Rattle.port_laws.proofs.PortResets.{opened_is}
 use Rattle.port_laws.proofs.PortCounts.{Ready, port_counts, queue_of, ready_before}
-use Rattle.port_laws.proofs.PortRuns.{by_option, before_core, before_fits, fresh_port_core, lawful_on_lane, port_fits_behind, spoken_behind}
+use Rattle.port_laws.proofs.PortRuns.{by_option, before_fits, lawful_on_lane, port_fits_behind}
 use Rattle.port_laws.proofs.RuleFrames.{both_open, end_acts, end_counted, if_range, if_session}
 use Rattle.port_laws.proofs.RuleRest.{own_reset_event}
 use Rattle.port_laws.proofs.StepCounts.{peer_slots_known}

@@ -1,22 +1,20 @@
 -- What a port's ends say and hear, and how their sessions open, event by event.
-use Rattle.std.proofs.Common.{◌≡◌, ℕ, Bool, true, false, Option, List, ◌∷◌, refl, sym, subst, ap, ◌∙◌, arith}
+use Rattle.std.proofs.Common.{◌≡◌, ℕ, Bool, true, false, Option, List, ◌∷◌, refl, arith}
 use Rattle.ldc_link.specs.declared.phase.Role.TheVariants.{Initiator, Responder}
 use Rattle.ldc_queue.specs.declared.end.End.{End}
-use Rattle.ldc_queue.specs.Transcript.{Heard, Said, Utterance}
+use Rattle.ldc_queue.specs.Transcript.{Heard, Said}
 use Rattle.runs.specs.Lawful.{Lawful, log_of}
 use Rattle.runs.specs.Run.{Run}
-use Rattle.channel_model.specs.HandshakeOrder.{HandshakeOrder}
 use Rattle.channel_model.specs.TranscriptLog.{TranscriptLog, hears, says, transcript_of}
 use Rattle.channel_model.specs.WireAt.{WireHeardAt, WireSaidAt}
 use Rattle.channel_model.specs.WireEvent.{WireEvent}
 use Rattle.channel_laws.proofs.Numbering.{heard_lawful, said_lawful}
 use Rattle.channel_laws.specs.CoreLog as core
-use Rattle.channel_laws.specs.LaneCore.{end_of, role_of, transcript_behind}
 use Rattle.channel_laws.proofs.OpeningOrder.{opens_hearing, opens_saying}
 use Rattle.port_model.specs.FrameLaws.{OpeningsAt}
 use Rattle.port_model.specs.NetEndStep.{Sent, Took}
 use Rattle.port_model.specs.NetEvent.{Steps}
-use Rattle.port_model.specs.NetLaneState.{IsNetShape, NetShape, role_at}
+use Rattle.port_model.specs.NetLaneState.{IsNetShape, NetShape}
 use Rattle.port_model.specs.Offers.{port_offer}
 use Rattle.port_model.specs.PortLog.{PortLog, after, no_events}
 use Rattle.port_model.specs.PortMay.{IfOnWire, OfWire}
