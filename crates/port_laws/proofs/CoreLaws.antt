@@ -131,7 +131,8 @@ port_front shape events s e is run unforged up =
     subst (λ (l : TranscriptLog). IsFront (heard (transcript_of e l)) (said (transcript_of (peer_of e) l))) (spoken_behind shape events)
     (core_front shape is (port_events events) s.lane (fresh_port_core shape events s run) e unforged up)
 
-pub order_at : (e : End) (s : NetLaneState) (turns : List Utterance) → HandshakeOrder (end_of e (lane_core s)).offer.both_rings (role_of e) turns → HandshakeOrder true (role_at e) turns
+pub order_at : (e : End) (s : NetLaneState) (turns : List Utterance) → HandshakeOrder (end_of e (lane_core s)).offer.both_rings (role_of e) turns
+    → HandshakeOrder true (role_at e) turns
 order_at A s turns order = order
 order_at B s turns order = order
 

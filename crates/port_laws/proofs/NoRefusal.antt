@@ -145,10 +145,11 @@ expects_at shape e u l k bytes p sid finds up other_up session ways empty front 
     }
 
 -- A PACKET that an end in session doesn't take is a gap behind a loss
-guest_resets : (shape : NetShape) (u : PortState) (l : PortLog) (cause : Cause) (packet : List ℕ) (p : NetSession) → Finds shape u l → WaysStand u.lane l → ExchangeStands u.lane l → PartsSaid l.transcript.server
-    → u.lane.guest.session ≡ Some p → port_rule Initiator u.lane.guest (seen_at A u.lane) ≡ Takes packet → NetTakes Initiator u.lane.guest u.lane.guest_memory packet (Resets cause)
-    → IsGapBehindLoss u.lane.wire.lossy cause
-guest_resets shape u l cause packet p finds ways exchange parts session rule takes =
+end_resets : (shape : NetShape) (e : End) (u : PortState) (l : PortLog) (cause : Cause) (packet : List ℕ) (p : NetSession) → Finds shape u l
+    → WaysStand u.lane l → ExchangeStands u.lane l → ((d : End) → PartsSaid (transcript_of d l.transcript)) → (net_end e u.lane).session ≡ Some p
+    → port_rule (role_at e) (net_end e u.lane) (seen_at e u.lane) ≡ Takes packet
+    → NetTakes (role_at e) (net_end e u.lane) (memory_of e u.lane) packet (Resets cause) → IsGapBehindLoss u.lane.wire.lossy cause
+end_resets shape A u l cause packet p finds ways exchange parts session rule takes =
     let s : NetEndState = u.lane.guest in
     let says = says_of Initiator s (seen_at A u.lane) (Takes packet) rule in
     let up : IsUp A u.lane.wire.wire = up_of u.lane.wire.wire.end_a says.0.up in
@@ -163,7 +164,7 @@ guest_resets shape u l cause packet p finds ways exchange parts session rule tak
       | inr (inr refused) ↦
           let same : cause ≡ refused.cause = cc refused.is in
           subst (IsGapBehindLoss u.lane.wire.lossy) (sym same)
-          (link_refuses Initiator sides packet refused.cause one_side.meets.converse one_side.meets.links one_side.mine.link.follows parts up says.1 refused.takes)
+          (link_refuses Initiator sides packet refused.cause one_side.meets.converse one_side.meets.links one_side.mine.link.follows (parts B) up says.1 refused.takes)
       | inr (inl one) ↦
           let front : IsFront (heard (Heard packet ∷ l.transcript.client)) (said l.transcript.server) =
           (hears_next Initiator sides packet one.from one_side.meets.converse up says.1 one_side.mine.link.follows one.takes).front in
@@ -184,11 +185,7 @@ guest_resets shape u l cause packet p finds ways exchange parts session rule tak
           absurd (taken_in_session Initiator (record s { link = one.link }) p u.lane.guest_memory sid one.bytes own.message own.message.subtype own.message.body cause expects own.of own.spells refl refl
           (sym in_it.is))
     ]
-
-hub_resets : (shape : NetShape) (u : PortState) (l : PortLog) (cause : Cause) (packet : List ℕ) (q : NetSession) → Finds shape u l → WaysStand u.lane l → ExchangeStands u.lane l → PartsSaid l.transcript.client
-    → u.lane.hub.session ≡ Some q → port_rule Responder u.lane.hub (seen_at B u.lane) ≡ Takes packet → NetTakes Responder u.lane.hub u.lane.hub_memory packet (Resets cause)
-    → IsGapBehindLoss u.lane.wire.lossy cause
-hub_resets shape u l cause packet q finds ways exchange parts session rule takes =
+end_resets shape B u l cause packet q finds ways exchange parts session rule takes =
     let s : NetEndState = u.lane.hub in
     let says = says_of Responder s (seen_at B u.lane) (Takes packet) rule in
     let up : IsUp B u.lane.wire.wire = up_of u.lane.wire.wire.end_b says.0.up in
@@ -207,7 +204,7 @@ hub_resets shape u l cause packet q finds ways exchange parts session rule takes
       | inr (inr refused) ↦
           let same : cause ≡ refused.cause = cc refused.is in
           subst (IsGapBehindLoss u.lane.wire.lossy) (sym same)
-          (link_refuses Responder sides packet refused.cause one_side.meets.converse one_side.meets.links one_side.mine.link.follows parts up says.1 refused.takes)
+          (link_refuses Responder sides packet refused.cause one_side.meets.converse one_side.meets.links one_side.mine.link.follows (parts A) up says.1 refused.takes)
       | inr (inl one) ↦
           let front : IsFront (heard (Heard packet ∷ l.transcript.server)) (said l.transcript.client) =
           (hears_next Responder sides packet one.from one_side.meets.converse up says.1 one_side.mine.link.follows one.takes).front in
@@ -230,12 +227,6 @@ hub_resets shape u l cause packet q finds ways exchange parts session rule takes
     ]
 
 -- A STEP'S RESET
-end_resets : (shape : NetShape) (e : End) (u : PortState) (l : PortLog) (cause : Cause) (packet : List ℕ) (p : NetSession) → Finds shape u l → WaysStand u.lane l → ExchangeStands u.lane l
-    → ((d : End) → PartsSaid (transcript_of d l.transcript)) → (net_end e u.lane).session ≡ Some p → port_rule (role_at e) (net_end e u.lane) (seen_at e u.lane) ≡ Takes packet
-    → NetTakes (role_at e) (net_end e u.lane) (memory_of e u.lane) packet (Resets cause) → IsGapBehindLoss u.lane.wire.lossy cause
-end_resets shape A u l cause packet p finds ways exchange parts session rule takes = guest_resets shape u l cause packet p finds ways exchange (parts B) session rule takes
-end_resets shape B u l cause packet p finds ways exchange parts session rule takes = hub_resets shape u l cause packet p finds ways exchange (parts A) session rule takes
-
 pub parts_at : (shape : NetShape) (s : PortState) (l : PortLog) (e : End) → IsNetShape shape → PortCounts shape s l → PartsSaid (transcript_of e l.transcript)
 parts_at shape s l A is counts =
     subst (λ (x : TranscriptLog). PartsSaid x.client) (spoken_behind shape counts.events ∙ sym (ap (λ (x : PortLog). x.transcript) counts.log))
@@ -268,8 +259,10 @@ step_resets shape s t l e cause packet lost is had clean step = by_packet packet
 
     in_session : (bytes : List ℕ) → packet ≡ Some bytes → (p : NetSession) → (net_end e u.lane).session ≡ Some p → IsOwnReset l.wire cause
     in_session bytes carried p session =
-        let fails = subst (NetFails (role_at e) (port_rule (role_at e) (net_end e u.lane) (seen_at e u.lane)) (net_end e u.lane) (memory_of e u.lane) (reach_of e u.lane) cause) carried step.step.0 in
-        own_gap l.wire u.lane.wire.lossy cause lossy (end_resets shape e u l cause bytes p finds ways exchange (λ d. parts_at shape s l d is had.ways.kept.counts) session
+        let own : NetEndState = net_end e u.lane in
+        let fails = subst (NetFails (role_at e) (port_rule (role_at e) own (seen_at e u.lane)) own (memory_of e u.lane) (reach_of e u.lane) cause) carried step.step.0 in
+        own_gap l.wire u.lane.wire.lossy cause lossy
+        (end_resets shape e u l cause bytes p finds ways exchange (λ d. parts_at shape s l d is had.ways.kept.counts) session
         (takes_rule _ _ _ _ _ _ bytes fails) (fails_takes _ _ _ _ _ _ bytes fails))
 
     wire_clean : u.lane.wire.forged ≡ false

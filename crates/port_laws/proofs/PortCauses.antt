@@ -95,15 +95,14 @@ end_judges role begun s p turns memory packet take stands session takes =
     }
 
 -- a reset that carries a packet is for what the end takes
-pub fails_takes : (role : Role) (rule : NetRule) (s : NetEndState) (memory : List ℕ) (reach : Reach) (cause : Cause) (packet : List ℕ) → NetFails role rule s memory reach cause (Some packet)
-    → NetTakes role s memory packet (Resets cause)
-fails_takes role (Takes bytes) s memory reach cause packet fails =
-    let same : bytes ≡ packet = cc fails.0 in subst (λ (x : List ℕ). NetTakes role s memory x (Resets cause)) same fails.1
-fails_takes role (Fetches p activity) s memory reach cause packet fails = absurd (cc fails.0)
-fails_takes role _ s memory reach cause packet fails = absurd fails
-
-pub takes_rule : (role : Role) (rule : NetRule) (s : NetEndState) (memory : List ℕ) (reach : Reach) (cause : Cause) (packet : List ℕ) → NetFails role rule s memory reach cause (Some packet) → rule ≡ Takes packet
+pub takes_rule : (role : Role) (rule : NetRule) (s : NetEndState) (memory : List ℕ) (reach : Reach) (cause : Cause) (packet : List ℕ)
+    → NetFails role rule s memory reach cause (Some packet) → rule ≡ Takes packet
 takes_rule role rule s memory reach cause packet fails = grind arith
+
+pub fails_takes : (role : Role) (rule : NetRule) (s : NetEndState) (memory : List ℕ) (reach : Reach) (cause : Cause) (packet : List ℕ)
+    → NetFails role rule s memory reach cause (Some packet) → NetTakes role s memory packet (Resets cause)
+fails_takes role rule s memory reach cause packet fails =
+    (subst (λ (x : NetRule). NetFails role x s memory reach cause (Some packet)) (takes_rule role rule s memory reach cause packet fails) fails).1
 
 -- BEHIND EVENTS of a channel that led to a lane
 module _ (shape : NetShape) (moves : List CoreEvent) (s : NetLaneState) (is : IsNetShape shape) (run : Run CoreStep (fresh_net_core shape) moves (lane_core s)) where
@@ -121,16 +120,14 @@ module _ (shape : NetShape) (moves : List CoreEvent) (s : NetLaneState) (is : Is
       → port_cause s e session (transcript_of e (transcript_behind moves)) packet ≡ Some cause
   fails_with e session cause packet opened fails = sym (take_cause e _ _ _ opened (fails_takes _ _ _ _ _ _ _ fails))
 
--- BEHIND A RUN of a port with its out queue, where a step of an end goes on
-module _ (shape : NetShape) (events : List PortEvent) (s : PortState) (is : IsNetShape shape) (run : Run PortStep (fresh_port shape) events s) (event : NetEvent) where
-  abbrev u : NetLaneState
-  u = (before event s).lane
+-- BEHIND A RUN of a port with its out queue
+module _ (shape : NetShape) (events : List PortEvent) (s : PortState) (is : IsNetShape shape) (run : Run PortStep (fresh_port shape) events s) where
+  pub moves_before : (event : NetEvent) → Run CoreStep (fresh_net_core shape) (port_events events) (lane_core (before event s).lane)
+  moves_before event = subst (Run CoreStep (fresh_net_core shape) (port_events events)) (sym (before_core event s)) (fresh_port_core shape events s run)
 
-  pub moves_before : Run CoreStep (fresh_net_core shape) (port_events events) (lane_core u)
-  moves_before = subst (Run CoreStep (fresh_net_core shape) (port_events events)) (sym (before_core event s)) (fresh_port_core shape events s run)
-
-  pub cause_before : (e : End) (p : NetSession) (packet : List ℕ) (take : NetTake) → (net_end e u).session ≡ Some p → NetTakes (role_at e) (net_end e u) (memory_of e u) packet take
-      → port_cause u e p (transcript_of e (log_of after (no_events shape) events).transcript) packet ≡ cause_in take
-  cause_before e p packet take opened takes =
-      subst (λ (l : TranscriptLog). port_cause u e p (transcript_of e l) packet ≡ cause_in take) (spoken_behind shape events)
-      (sym (take_cause shape (port_events events) u is moves_before e p packet take opened takes))
+  pub cause_before : (event : NetEvent) (e : End) (p : NetSession) (packet : List ℕ) (take : NetTake) → (net_end e (before event s).lane).session ≡ Some p
+      → NetTakes (role_at e) (net_end e (before event s).lane) (memory_of e (before event s).lane) packet take
+      → port_cause (before event s).lane e p (transcript_of e (log_of after (no_events shape) events).transcript) packet ≡ cause_in take
+  cause_before event e p packet take opened takes =
+      subst (λ (l : TranscriptLog). port_cause (before event s).lane e p (transcript_of e l) packet ≡ cause_in take) (spoken_behind shape events)
+      (sym (take_cause shape (port_events events) (before event s).lane is (moves_before event) e p packet take opened takes))

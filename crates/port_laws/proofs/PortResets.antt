@@ -185,4 +185,5 @@ pub port_resets_so : (May : TranscriptLog → WireEvent → Type 0) → ((l : Tr
     → Lawful (λ (l : PortLog) (event : PortEvent). OfWire (May l.transcript) event) after (no_events shape) events
 port_resets_so May means shape events s is run =
     lawful_along shape (λ (l : PortLog) (event : PortEvent). OfWire (May l.transcript) event)
-    (λ xs x event y ran step. if_wire _ _ event (means (log_of after (no_events shape) xs).transcript) (says_at shape is xs x event y ran step)) events s run
+    (λ xs x event y ran step. if_wire _ _ event (means (log_of after (no_events shape) xs).transcript) (says_at shape is xs x event y ran step))
+    events s run

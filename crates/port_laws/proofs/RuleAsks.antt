@@ -315,7 +315,8 @@ module _ (shape : NetShape) (is : IsNetShape shape) (events : List PortEvent) (s
       (λ p some.
       let here = open_counts (role_at e) shape.slots (queue_of e w) own (log_of_end e log) p (end_counted shape e w log known) some in
       let v : SessionLog = here.of_log in
-      let cause = cause_before shape events s is run (for_slot (Some bytes)) e p bytes (Resets (the_cause.NotDone slot state)) some (fails_takes _ _ _ _ _ _ bytes step.step.0) in
+      let cause = cause_before shape events s is run (for_slot (Some bytes)) e p bytes (Resets (the_cause.NotDone slot state)) some
+      (fails_takes _ _ _ _ _ _ bytes step.step.0) in
       let rule : port_rule (role_at e) own (seen_at e w.lane) ≡ Takes bytes = takes_rule (role_at e) (port_rule (role_at e) own (seen_at e w.lane)) own (memory_of e w.lane) (reach_of e w.lane) (the_cause.NotDone slot state) bytes step.step.0 in
       rw (here.is, known.shape_is) (undone_here (role_at e) own p (memory_of e w.lane) own.handshake.draft.sid
       shape.slots (transcript_of e log.transcript) bytes v slot state (end_counted shape e w log known).slots_is

@@ -82,19 +82,23 @@ groups_groups m is = ap (λ (n : ℕ). n == 0x0101) is
 of_session : {X : Type 0} (s : Subtype) (b : MsgBody) → IsOfSession b → is_declined s b ≡ true → X
 of_session {X} s b of is = grind arith
 
-guest_noted : (s t n : NetEndState) (p q : NetSession) (m : List ℕ) → t ≡ n → n.session ≡ Some q → n.groups ≡ s.groups → n.handshake ≡ s.handshake → n.link.to_send ≡ s.link.to_send
-    → q.reply ≡ p.reply → q.untold ≡ p.untold → (is_groups m ≡ true → q.telling ≡ false) → (is_groups m ≡ false → q.telling ≡ p.telling) → GuestNotes s t p q m
+guest_noted : (s t n : NetEndState) (p q : NetSession) (m : List ℕ) → t ≡ n → n.session ≡ Some q → n.groups ≡ s.groups
+    → n.handshake ≡ s.handshake → n.link.to_send ≡ s.link.to_send → q.reply ≡ p.reply → q.untold ≡ p.untold
+    → (is_groups m ≡ true → q.telling ≡ false) → (is_groups m ≡ false → q.telling ≡ p.telling) → GuestNotes s t p q m
 guest_noted s t n p q m is session groups handshake sends reply untold told same = grind arith
 
 pub guest_notes : (s t : NetEndState) (p : NetSession) (memory new m : List ℕ) (message : Message) → IsOfSession message.body → SpellsMessage m message
     → MessageDoes Initiator s p memory message.subtype message.body t new → (q : NetSession) × GuestNotes s t p q m
 guest_notes s t p memory new m message of spells (Asks seq ident start end state info body place same is) =
-    (_, guest_noted s t _ p (active p seq start) m is refl refl refl refl refl refl (λ one. true_false (sym one ∙ range_groups m (spells.envelope ∙ ap envelope_code body))) (λ none. refl))
+    let range = range_groups m (spells.envelope ∙ ap envelope_code body) in
+    (_, guest_noted s t _ p (active p seq start) m is refl refl refl refl refl refl (λ one. true_false (sym one ∙ range)) (λ none. refl))
 guest_notes s t p memory new m message of spells (Acks seq ident start end state ack body begins inside within done same is) =
-    (_, guest_noted s t _ p _ m is refl refl refl refl refl refl (λ one. true_false (sym one ∙ range_groups m (spells.envelope ∙ ap envelope_code body))) (λ none. refl))
+    let range = range_groups m (spells.envelope ∙ ap envelope_code body) in
+    (_, guest_noted s t _ p _ m is refl refl refl refl refl refl (λ one. true_false (sym one ∙ range)) (λ none. refl))
 guest_notes s t p memory new m message of spells (Names set count addresses groups reply answers role info body same is) = absurd (cc role)
 guest_notes s t p memory new m message of spells (Told set count addresses role ack body telling same is) =
-    (_, guest_noted s t _ p (record p { telling = false }) m is refl refl refl refl refl refl (λ one. refl) (λ none. true_false (sym (groups_groups m (spells.envelope ∙ ap envelope_code body)) ∙ none)))
+    let named = groups_groups m (spells.envelope ∙ ap envelope_code body) in
+    (_, guest_noted s t _ p (record p { telling = false }) m is refl refl refl refl refl refl (λ one. refl) (λ none. true_false (sym named ∙ none)))
 guest_notes s t p memory new m message of spells (Declines h declined same is) = of_session message.subtype message.body of declined
 
 -- WHAT THE SWITCH'S END NOTES of a range
@@ -117,8 +121,8 @@ pub record HubLearns (s t : NetEndState) (q : NetSession) (m : List ℕ) : Type 
   pub reply : q.reply ≡ Some answer
   pub agrees : ReplyAgrees answer
 
-range_notes : (s t n : NetEndState) (p q : NetSession) (m : List ℕ) → envelope_at m ≡ 0x0042 → t ≡ n → q.reply ≡ p.reply → n.session ≡ Some q → n.handshake ≡ s.handshake
-    → n.link.to_send ≡ s.link.to_send → n.groups ≡ s.groups → HubNotes s t p q m
+range_notes : (s t n : NetEndState) (p q : NetSession) (m : List ℕ) → envelope_at m ≡ 0x0042 → t ≡ n → q.reply ≡ p.reply → n.session ≡ Some q
+    → n.handshake ≡ s.handshake → n.link.to_send ≡ s.link.to_send → n.groups ≡ s.groups → HubNotes s t p q m
 range_notes s t n p q m range is reply session handshake sends groups = grind (arith, range_groups)
 
 addresses_long : (n at : ℕ) (bytes : List ℕ) → at + 6 * n ≤ length bytes → length (flat_map (λ (address : List ℕ). address) (addresses_at at n bytes)) ≡ 6 * n

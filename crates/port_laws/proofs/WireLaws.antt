@@ -58,20 +58,22 @@ turn_says e packet l = grind arith
 turn_hears : (e : End) (packet : List ℕ) (l : TranscriptLog) → transcript_of e (hears e packet l) ≡ Heard packet ∷ transcript_of e l
 turn_hears e packet l = grind arith
 
-module _ (shape : NetShape) (events : List PortEvent) (s t : PortState) (e : End) (packet : List ℕ) (is : IsNetShape shape) (run : Run PortStep (fresh_port shape) events s) where
-  says_order : (opens : Bool) → PortStep s (OnLane (Steps e (Sent packet opens))) t → OpeningsAt (log_of after (no_events shape) events) (OnLane (Steps e (Sent packet opens)))
-  says_order false step = tt
-  says_order true step =
+module _ (shape : NetShape) (events : List PortEvent) (s : PortState) (is : IsNetShape shape) (run : Run PortStep (fresh_port shape) events s) where
+  says_order : (e : End) (packet : List ℕ) (opens : Bool) (t : PortState) → PortStep s (OnLane (Steps e (Sent packet opens))) t
+      → OpeningsAt (log_of after (no_events shape) events) (OnLane (Steps e (Sent packet opens)))
+  says_order e packet false t step = tt
+  says_order e packet true t step =
       rw (turn_says e packet (log_of after (no_events shape) events).transcript, ← spoken_behind shape events) (order_at e s.lane _
-      (opens_saying shape.entries (port_offer Initiator shape.address shape.slots) (port_offer Responder shape.address shape.slots) (port_events events) (port_core s) e packet (port_core t)
-      (sizes_fit shape is) (fresh_port_core shape events s run) (port_step_core s (OnLane (Steps e (Sent packet true))) t (port_fits_behind shape events s run) step)))
+      (opens_saying _ _ _ _ _ e packet _ (sizes_fit shape is) (fresh_port_core shape events s run)
+      (port_step_core s (OnLane (Steps e (Sent packet true))) t (port_fits_behind shape events s run) step)))
 
-  hears_order : (opens : Bool) → PortStep s (OnLane (Steps e (Took packet opens))) t → OpeningsAt (log_of after (no_events shape) events) (OnLane (Steps e (Took packet opens)))
-  hears_order false step = tt
-  hears_order true step =
+  hears_order : (e : End) (packet : List ℕ) (opens : Bool) (t : PortState) → PortStep s (OnLane (Steps e (Took packet opens))) t
+      → OpeningsAt (log_of after (no_events shape) events) (OnLane (Steps e (Took packet opens)))
+  hears_order e packet false t step = tt
+  hears_order e packet true t step =
       rw (turn_hears e packet (log_of after (no_events shape) events).transcript, ← spoken_behind shape events) (order_at e s.lane _
-      (opens_hearing shape.entries (port_offer Initiator shape.address shape.slots) (port_offer Responder shape.address shape.slots) (port_events events) (port_core s) e packet (port_core t)
-      (sizes_fit shape is) (fresh_port_core shape events s run) (port_step_core s (OnLane (Steps e (Took packet true))) t (port_fits_behind shape events s run) step)))
+      (opens_hearing _ _ _ _ _ e packet _ (sizes_fit shape is) (fresh_port_core shape events s run)
+      (port_step_core s (OnLane (Steps e (Took packet true))) t (port_fits_behind shape events s run) step)))
 
 opens_at : (shape : NetShape) (is : IsNetShape shape) (events : List PortEvent) (s : PortState) (event : PortEvent) (t : PortState) → Run PortStep (fresh_port shape) events s → PortStep s event t
     → OpeningsAt (log_of after (no_events shape) events) event

@@ -1,8 +1,6 @@
-use Rattle.ldc_link.specs.declared.phase.Role.TheVariants.{Initiator, Responder}
 use Rattle.channel_laws.proofs.OpeningOrder.{opens_hearing, opens_saying}
 use Rattle.port_model.specs.NetEndStep.{Sent, Took}
 use Rattle.port_model.specs.NetEvent.{Steps}
-use Rattle.port_model.specs.Offers.{port_offer}
 use Rattle.port_laws.specs.NetCore.{core_events, lane_core}
 use Rattle.port_laws.proofs.CoreLaws.{order_at, sizes_fit}
 use Rattle.port_laws.proofs.LaneMoves.{event_core_step, fits_behind, fresh_run_core}
@@ -12,11 +10,9 @@ use Rattle.port_laws.proofs.core_laws.sessions_of_a_port_open_in_order.Goals as 
 pub returns : goal.returns
 returns c = record {
   saying = λ shape events s e packet t is run step.
-      order_at e s _
-      (opens_saying shape.entries (port_offer Initiator shape.address shape.slots) (port_offer Responder shape.address shape.slots) (core_events events) (lane_core s) e packet (lane_core t)
-      (sizes_fit shape is) (fresh_run_core shape events s run) (event_core_step s (Steps e (Sent packet true)) t (fits_behind shape events s run) step));
+      order_at e s _ (opens_saying _ _ _ _ _ e packet _ (sizes_fit shape is) (fresh_run_core shape events s run)
+      (event_core_step s (Steps e (Sent packet true)) t (fits_behind shape events s run) step));
   hearing = λ shape events s e packet t is run step.
-      order_at e s _
-      (opens_hearing shape.entries (port_offer Initiator shape.address shape.slots) (port_offer Responder shape.address shape.slots) (core_events events) (lane_core s) e packet (lane_core t)
-      (sizes_fit shape is) (fresh_run_core shape events s run) (event_core_step s (Steps e (Took packet true)) t (fits_behind shape events s run) step));
+      order_at e s _ (opens_hearing _ _ _ _ _ e packet _ (sizes_fit shape is) (fresh_run_core shape events s run)
+      (event_core_step s (Steps e (Took packet true)) t (fits_behind shape events s run) step));
 }
