@@ -242,21 +242,6 @@ hub_crossed shape u l frame t finds step =
 
 hub_crossing : (shape : NetShape) (u : PortState) (l : PortLog) (answer : NetAnswer) (t : NetLaneState) → Finds shape u l → EndSteps B u.lane answer t → lane_crossing t ≤ lane_crossing u.lane
 hub_crossing shape u l (Frame frame) t finds step = let less = hub_crossed shape u l frame t finds step in omega (arith, less)
-hub_crossing shape u l (Took packet opens) t finds step =
-    let now = step_now B u.lane t (Took packet opens) step in
-    same_kept u.lane t u.lane.wire.wire.end_a (ap (λ (w : WireLog). w.wire.end_a) now.wire) now.peer_end (now.peer_memory ∙ step.step.2) (omega arith)
-hub_crossing shape u l (Sent packet opens) t finds step =
-    let now = step_now B u.lane t (Sent packet opens) step in
-    same_kept u.lane t u.lane.wire.wire.end_a (ap (λ (w : WireLog). w.wire.end_a) now.wire) now.peer_end (now.peer_memory ∙ ap (λ (x : NetLeft). x.peer) step.step.is) (omega arith)
-hub_crossing shape u l Blocked t finds step =
-    let now = step_now B u.lane t Blocked step in
-    same_kept u.lane t u.lane.wire.wire.end_a (ap (λ (w : WireLog). w.wire.end_a) now.wire) now.peer_end (now.peer_memory ∙ ap (λ (x : NetLeft). x.peer) step.step.2) (omega arith)
-hub_crossing shape u l Idle t finds step =
-    let now = step_now B u.lane t Idle step in
-    same_kept u.lane t u.lane.wire.wire.end_a (ap (λ (w : WireLog). w.wire.end_a) now.wire) now.peer_end (now.peer_memory ∙ ap (λ (x : NetLeft). x.peer) step.step.1) (omega arith)
-hub_crossing shape u l (Published id) t finds step =
-    let now = step_now B u.lane t (Published id) step in
-    same_kept u.lane t u.lane.wire.wire.end_a (ap (λ (w : WireLog). w.wire.end_a) now.wire) now.peer_end (now.peer_memory ∙ ap (λ (x : NetLeft). x.peer) step.step.is) (omega arith)
 hub_crossing shape u l answer t finds step = grind (arith, step_now B u.lane t answer step, same_kept, behind_less)
 
 -- THE FRAME THAT MOVES from the out queue is none of the guest's

@@ -141,14 +141,8 @@ event_adds shape A u t l (Gives A given) of_queue finds step clean kept two_ends
 event_adds shape d u t l (Gives B given) of_queue finds step clean kept two_ends = absurd of_queue
 event_adds shape d u t l (Injects e packet) of_queue finds step clean kept two_ends = true_false clean
 event_adds shape d u t l (Pokes e at bytes) of_queue finds step clean kept two_ends = true_false clean
-event_adds shape B u t l (Loses A packet) of_queue finds step clean kept two_ends =
-    still_adds A B u.lane t.lane l (after l (OnLane (Loses A packet))) (ap (λ (x : NetLaneState). x.wire.wire.end_b) step.1) refl refl refl
-event_adds shape A u t l (Loses A packet) of_queue finds step clean kept two_ends =
-    still_adds B A u.lane t.lane l (after l (OnLane (Loses A packet))) (ap (λ (x : NetLaneState). x.wire.wire.end_a) step.1) refl refl refl
-event_adds shape B u t l event of_queue finds step clean kept two_ends =
-    still_adds A B u.lane t.lane l (after l (OnLane event)) (ap (λ (x : NetLaneState). x.wire.wire.end_b) step.1) refl refl refl
-event_adds shape A u t l event of_queue finds step clean kept two_ends =
-    still_adds B A u.lane t.lane l (after l (OnLane event)) (ap (λ (x : NetLaneState). x.wire.wire.end_a) step.1) refl refl refl
+event_adds shape d u t l (Loses A packet) of_queue finds step clean kept two_ends = grind (arith, still_adds)
+event_adds shape d u t l event of_queue finds step clean kept two_ends = grind (arith, still_adds)
 
 -- NO MORE OF AN END'S FRAMES ARE GONE than were taken or are said to be lost; while it is up and in session, that is so where those that
 -- were taken in it are gone too

@@ -164,7 +164,7 @@ end_resets shape A u l cause packet p finds ways exchange parts session rule tak
       | inr (inr refused) ↦
           let same : cause ≡ refused.cause = cc refused.is in
           subst (IsGapBehindLoss u.lane.wire.lossy) (sym same)
-          (link_refuses Initiator sides packet refused.cause one_side.meets.converse one_side.meets.links one_side.mine.link.follows (parts B) up says.1 refused.takes)
+          (link_refuses Initiator sides packet _ one_side.meets.converse one_side.meets.links one_side.mine.link.follows (parts B) up says.1 refused.takes)
       | inr (inl one) ↦
           let front : IsFront (heard (Heard packet ∷ l.transcript.client)) (said l.transcript.server) =
           (hears_next Initiator sides packet one.from one_side.meets.converse up says.1 one_side.mine.link.follows one.takes).front in
@@ -204,7 +204,7 @@ end_resets shape B u l cause packet q finds ways exchange parts session rule tak
       | inr (inr refused) ↦
           let same : cause ≡ refused.cause = cc refused.is in
           subst (IsGapBehindLoss u.lane.wire.lossy) (sym same)
-          (link_refuses Responder sides packet refused.cause one_side.meets.converse one_side.meets.links one_side.mine.link.follows (parts A) up says.1 refused.takes)
+          (link_refuses Responder sides packet _ one_side.meets.converse one_side.meets.links one_side.mine.link.follows (parts A) up says.1 refused.takes)
       | inr (inl one) ↦
           let front : IsFront (heard (Heard packet ∷ l.transcript.server)) (said l.transcript.client) =
           (hears_next Responder sides packet one.from one_side.meets.converse up says.1 one_side.mine.link.follows one.takes).front in
@@ -260,7 +260,7 @@ step_resets shape s t l e cause packet lost is had clean step = by_packet packet
     in_session : (bytes : List ℕ) → packet ≡ Some bytes → (p : NetSession) → (net_end e u.lane).session ≡ Some p → IsOwnReset l.wire cause
     in_session bytes carried p session =
         let own : NetEndState = net_end e u.lane in
-        let fails = subst (NetFails (role_at e) (port_rule (role_at e) own (seen_at e u.lane)) own (memory_of e u.lane) (reach_of e u.lane) cause) carried step.step.0 in
+        let fails = subst (NetFails (role_at e) (port_rule (role_at e) own (seen_at e u.lane)) own _ _ cause) carried step.step.0 in
         own_gap l.wire u.lane.wire.lossy cause lossy
         (end_resets shape e u l cause bytes p finds ways exchange (λ d. parts_at shape s l d is had.ways.kept.counts) session
         (takes_rule _ _ _ _ _ _ bytes fails) (fails_takes _ _ _ _ _ _ bytes fails))

@@ -123,10 +123,11 @@ module _ (shape : NetShape) (moves : List CoreEvent) (s : NetLaneState) (is : Is
 -- BEHIND A RUN of a port with its out queue
 module _ (shape : NetShape) (events : List PortEvent) (s : PortState) (is : IsNetShape shape) (run : Run PortStep (fresh_port shape) events s) where
   pub moves_before : (event : NetEvent) → Run CoreStep (fresh_net_core shape) (port_events events) (lane_core (before event s).lane)
-  moves_before event = subst (Run CoreStep (fresh_net_core shape) (port_events events)) (sym (before_core event s)) (fresh_port_core shape events s run)
+  moves_before event =
+      subst (Run CoreStep (fresh_net_core shape) (port_events events)) (sym (before_core event s)) (fresh_port_core shape events s run)
 
-  pub cause_before : (event : NetEvent) (e : End) (p : NetSession) (packet : List ℕ) (take : NetTake) → (net_end e (before event s).lane).session ≡ Some p
-      → NetTakes (role_at e) (net_end e (before event s).lane) (memory_of e (before event s).lane) packet take
+  pub cause_before : (event : NetEvent) (e : End) (p : NetSession) (packet : List ℕ) (take : NetTake)
+      → (net_end e (before event s).lane).session ≡ Some p → NetTakes (role_at e) (net_end e (before event s).lane) (memory_of e (before event s).lane) packet take
       → port_cause (before event s).lane e p (transcript_of e (log_of after (no_events shape) events).transcript) packet ≡ cause_in take
   cause_before event e p packet take opened takes =
       subst (λ (l : TranscriptLog). port_cause (before event s).lane e p (transcript_of e l) packet ≡ cause_in take) (spoken_behind shape events)
