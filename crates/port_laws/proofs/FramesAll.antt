@@ -124,20 +124,9 @@ event_adds shape A u t l (Steps A answer) of_queue finds step clean kept two_end
 event_adds shape B u t l (Steps B answer) of_queue finds step clean kept two_ends =
     let one = took_one B answer in
     taker_adds shape B u t l answer step.left (length (took B (OnLane (Steps B answer))) + 0) (acts_of shape B u t l answer finds step kept.counts two_ends) (omega (arith, one))
-event_adds shape B u t l (Asked A lost) of_queue finds step clean kept two_ends =
-    anew_adds A B u.lane t.lane l (after l (OnLane (Asked A lost))) (0 + lost) refl (omega arith) refl (ap (λ (x : NetLaneState). x.wire.wire.end_b) step.1)
-event_adds shape A u t l (Asked B lost) of_queue finds step clean kept two_ends =
-    anew_adds B A u.lane t.lane l (after l (OnLane (Asked B lost))) (0 + lost) refl (omega arith) refl (ap (λ (x : NetLaneState). x.wire.wire.end_a) step.1)
-event_adds shape A u t l (Asked A lost) of_queue finds step clean kept two_ends = other_anew B A u.lane t.lane l (after l (OnLane (Asked A lost))) refl refl
-event_adds shape B u t l (Asked B lost) of_queue finds step clean kept two_ends = other_anew A B u.lane t.lane l (after l (OnLane (Asked B lost))) refl refl
-event_adds shape B u t l (Ticked queued lost) of_queue finds step clean kept two_ends =
-    anew_adds A B u.lane t.lane l (after l (OnLane (Ticked queued lost))) (0 + lost) refl (omega arith) refl (ap (λ (x : NetLaneState). x.wire.wire.end_b) step.1.1)
-event_adds shape A u t l (Ticked queued lost) of_queue finds step clean kept two_ends = other_anew B A u.lane t.lane l (after l (OnLane (Ticked queued lost))) refl refl
-event_adds shape B u t l (Gives A given) of_queue finds step clean kept two_ends =
-    let same = given_same given l.guest in
-    still_adds A B u.lane t.lane l (after l (OnLane (Gives A given))) (ap (λ (x : NetLaneState). x.wire.wire.end_b) step.1) same.session same.gone refl
-event_adds shape A u t l (Gives A given) of_queue finds step clean kept two_ends =
-    still_adds B A u.lane t.lane l (after l (OnLane (Gives A given))) (ap (λ (x : NetLaneState). x.wire.wire.end_a) step.1) refl refl (given_same given l.guest).session
+event_adds shape d u t l (Asked e lost) of_queue finds step clean kept two_ends = grind (arith, anew_adds, other_anew)
+event_adds shape d u t l (Ticked queued lost) of_queue finds step clean kept two_ends = grind (arith, anew_adds, other_anew)
+event_adds shape d u t l (Gives A given) of_queue finds step clean kept two_ends = grind (arith, still_adds, given_same)
 event_adds shape d u t l (Gives B given) of_queue finds step clean kept two_ends = absurd of_queue
 event_adds shape d u t l (Injects e packet) of_queue finds step clean kept two_ends = true_false clean
 event_adds shape d u t l (Pokes e at bytes) of_queue finds step clean kept two_ends = true_false clean

@@ -219,9 +219,7 @@ guest_event shape u l (Ticked queued lost) t ready step =
     subst (GuestIs shape (end_after A l (Ticked queued lost))) (sym step.1.1) (begins_counts Initiator shape.slots [] u.lane.guest l.guest lost ready.guest ready.stands.0 step.1.0)
 guest_event shape u l (Gives A given) t ready step = gives_counts Initiator shape.slots u.lane.guest given t.guest l.guest ready.guest step.0
 guest_event shape u l (Joins joining) t ready step = joins_counts shape.slots u.lane.guest joining t.guest l.guest ready.guest step.0
-guest_event shape u l (Injects e packet) t ready step = subst (GuestIs shape l.guest) (sym step.2) ready.guest
-guest_event shape u l (Pokes A at bytes) t ready step = subst (GuestIs shape l.guest) (sym step.1) ready.guest
-guest_event shape u l _ t ready step = subst (GuestIs shape l.guest) (sym step.1) ready.guest
+guest_event shape u l _ t ready step = grind arith
 
 hub_event : (shape : NetShape) (u : PortState) (l : PortLog) (event : NetEvent) (t : NetLaneState) → OfQueue u event → Ready shape u l → NetLaneStep u.lane event t → HubIs shape u.queue (end_after B l event) t
 hub_event shape u l (Steps B answer) t of_queue ready step =
@@ -233,9 +231,7 @@ hub_event shape u l (Asked B lost) t of_queue ready step =
     subst (HubIs shape u.queue (end_after B l (Asked B lost))) (sym step.1) (begins_counts Responder shape.slots u.queue u.lane.hub l.hub lost ready.hub ready.stands.1 step.0)
 hub_event shape u l (Ticked queued lost) t of_queue ready step = subst (HubIs shape u.queue l.hub) (sym step.1.1) ready.hub
 hub_event shape u l (Gives B given) t of_queue ready step = absurd of_queue
-hub_event shape u l (Injects e packet) t of_queue ready step = subst (HubIs shape u.queue l.hub) (sym step.2) ready.hub
-hub_event shape u l (Pokes A at bytes) t of_queue ready step = subst (HubIs shape u.queue l.hub) (sym step.1) ready.hub
-hub_event shape u l _ t of_queue ready step = subst (HubIs shape u.queue l.hub) (sym step.1) ready.hub
+hub_event shape u l _ t of_queue ready step = grind arith
 
 -- what an event may be by the queue stays so behind the frame that moved
 pub before_queue : (event : NetEvent) (s : PortState) → OfQueue s event → OfQueue (before event s) event
