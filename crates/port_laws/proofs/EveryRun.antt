@@ -3,13 +3,11 @@ use Rattle.std.proofs.Common.{List, [], ◌∷◌, ◌++◌}
 use Rattle.runs.specs.Lawful.{log_of}
 use Rattle.runs.specs.Run.{Run, run_push}
 use Rattle.channel_model.specs.ResetSays.{WireResetAt}
-use Rattle.channel_model.specs.WireAt.{WireAnswersAt, WireGapAt, WireHeardAt, WireSaidAt, WireTableAt, WireUnforgedAt}
-use Rattle.port_model.specs.FrameLaws.{AcknowledgesAt, AdmissionAt, AnnouncesAt, AsksAt, GroupsSaidAt, JoiningAt, LostAt, OpeningsAt, OwnResetAt, PublishedAt, SeesAt, TakingAt, TickAt, UndoneAt, WorksAt}
+use Rattle.channel_model.specs.WireAt.{WireGapAt}
 use Rattle.port_model.specs.NetLaneState.{IsNetShape, NetShape}
-use Rattle.port_model.specs.PortLog.{PortLog, after, no_events}
-use Rattle.port_model.specs.PortMay.{IsLawfulPort, OfWire, PortMay, sizes_in}
+use Rattle.port_model.specs.PortLog.{after, no_events}
+use Rattle.port_model.specs.PortMay.{IsLawfulPort, PortMay}
 use Rattle.port_model.specs.PortState.{PortEvent, PortState, PortStep, fresh_port}
-use Rattle.port_model.specs.RestLaws.{IdleAt, TwoIdleAt, UnforgedAt}
 use Rattle.port_laws.proofs.GroupsAgree.{port_joins}
 use Rattle.port_laws.proofs.NoRefusal.{port_unforged_wire}
 use Rattle.port_laws.proofs.PortResets.{port_resets_so}

@@ -25,7 +25,7 @@ use Rattle.channel_laws.proofs.PacketCauses.{run_judges, take_refused}
 use Rattle.channel_laws.specs.LaneCore.{CoreEvent, CoreStep, transcript_behind}
 use Rattle.channel_laws.specs.PacketCauses.{Judges, LinkJudged, WholeJudged, fault_first, judged, judged_body, refused_by}
 use Rattle.channel_laws.specs.Standing.{EndStands}
-use Rattle.port_model.specs.NetEndRule.{Fetches, NetRule, Takes, port_rule}
+use Rattle.port_model.specs.NetEndRule.{NetRule, Takes, port_rule}
 use Rattle.port_model.specs.NetEndState.{NetEndState, NetSession}
 use Rattle.port_model.specs.NetEndStep.{NetFails}
 use Rattle.port_model.specs.NetEndTaking.{GoesOn, HearsLink, HearsWhole, NetTake, NetTakes, Resets, by_handshake, hears_message, in_session, reads, sid_first, takes_done}

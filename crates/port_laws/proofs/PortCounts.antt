@@ -22,7 +22,7 @@ use Rattle.port_model.specs.EndLog.{EndLog, SessionLog, gives_log, said_in}
 use Rattle.port_model.specs.FramesStand.{FramesStand}
 use Rattle.port_model.specs.NetEndState.{NetEndState, NetSession, with_frame}
 use Rattle.port_model.specs.NetEndStep.{BadLength, Full, Given, Joining, NetAnswer, NetGives, NetJoins, Queued, untold}
-use Rattle.port_model.specs.NetEvent.{Asked, Gives, Injects, Joins, NetEvent, Pokes, Steps, Ticked, on_wire}
+use Rattle.port_model.specs.NetEvent.{Asked, Gives, Joins, NetEvent, Steps, Ticked, on_wire}
 use Rattle.port_model.specs.NetLaneState.{IsNetShape, NetLaneState, NetShape, seen_at}
 use Rattle.port_model.specs.NetLaneStep.{NetLaneStep, moved_on}
 use Rattle.port_model.specs.Offers.{port_offer}

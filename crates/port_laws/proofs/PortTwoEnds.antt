@@ -23,7 +23,7 @@ use Rattle.port_model.specs.PortLog.{PortLog}
 use Rattle.port_model.specs.PortState.{PortState}
 use Rattle.port_laws.specs.PortCore.{port_core, port_events}
 use Rattle.port_laws.proofs.CoreLaws.{offers_match, sizes_fit}
-use Rattle.port_laws.proofs.PeerOpens.{InAll, PeerIn, TwoEnds, closed_short, least_heard, least_seven, open_long, peer_is_up, peer_open, row}
+use Rattle.port_laws.proofs.PeerOpens.{InAll, TwoEnds, closed_short, least_heard, least_seven, open_long, peer_is_up, peer_open, row}
 use Rattle.port_laws.proofs.PortCounts.{PortCounts}
 use Rattle.port_laws.proofs.PortRuns.{fresh_port_core, logs_same}
 
