@@ -164,7 +164,8 @@ end_resets shape A u l cause packet p finds ways exchange parts session rule tak
       | inr (inr refused) ↦
           let same : cause ≡ refused.cause = cc refused.is in
           subst (IsGapBehindLoss u.lane.wire.lossy) (sym same)
-          (link_refuses Initiator sides packet _ one_side.meets.converse one_side.meets.links one_side.mine.link.follows (parts B) up says.1 refused.takes)
+          (link_refuses Initiator _ packet _ one_side.meets.converse one_side.meets.links one_side.mine.link.follows (parts B) up
+          says.1 refused.takes)
       | inr (inl one) ↦
           let front : IsFront (heard (Heard packet ∷ l.transcript.client)) (said l.transcript.server) =
           (hears_next Initiator sides packet one.from one_side.meets.converse up says.1 one_side.mine.link.follows one.takes).front in
@@ -204,7 +205,8 @@ end_resets shape B u l cause packet q finds ways exchange parts session rule tak
       | inr (inr refused) ↦
           let same : cause ≡ refused.cause = cc refused.is in
           subst (IsGapBehindLoss u.lane.wire.lossy) (sym same)
-          (link_refuses Responder sides packet _ one_side.meets.converse one_side.meets.links one_side.mine.link.follows (parts A) up says.1 refused.takes)
+          (link_refuses Responder _ packet _ one_side.meets.converse one_side.meets.links one_side.mine.link.follows (parts A) up
+          says.1 refused.takes)
       | inr (inl one) ↦
           let front : IsFront (heard (Heard packet ∷ l.transcript.server)) (said l.transcript.client) =
           (hears_next Responder sides packet one.from one_side.meets.converse up says.1 one_side.mine.link.follows one.takes).front in

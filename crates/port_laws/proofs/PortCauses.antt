@@ -127,7 +127,8 @@ module _ (shape : NetShape) (events : List PortEvent) (s : PortState) (is : IsNe
       subst (Run CoreStep (fresh_net_core shape) (port_events events)) (sym (before_core event s)) (fresh_port_core shape events s run)
 
   pub cause_before : (event : NetEvent) (e : End) (p : NetSession) (packet : List ℕ) (take : NetTake)
-      → (net_end e (before event s).lane).session ≡ Some p → NetTakes (role_at e) (net_end e (before event s).lane) (memory_of e (before event s).lane) packet take
+      → (net_end e (before event s).lane).session ≡ Some p
+      → NetTakes (role_at e) (net_end e (before event s).lane) (memory_of e (before event s).lane) packet take
       → port_cause (before event s).lane e p (transcript_of e (log_of after (no_events shape) events).transcript) packet ≡ cause_in take
   cause_before event e p packet take opened takes =
       subst (λ (l : TranscriptLog). port_cause (before event s).lane e p (transcript_of e l) packet ≡ cause_in take) (spoken_behind shape events)

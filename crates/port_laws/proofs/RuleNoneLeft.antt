@@ -17,7 +17,7 @@ use Rattle.channel_model.specs.Sayings.{heard, said}
 use Rattle.channel_model.specs.TranscriptLog.{transcript_of}
 use Rattle.channel_model.specs.WireLog.{WireLog}
 use Rattle.channel_laws.specs.Conversing.{Converse}
-use Rattle.channel_laws.specs.Sides.{Sides, sides_of}
+use Rattle.channel_laws.specs.Sides.{Sides}
 use Rattle.port_model.proofs.Moving.{before_keeps}
 use Rattle.port_model.proofs.Refuting.{true_false}
 use Rattle.port_model.proofs.Ruling.{says_of}
@@ -32,7 +32,6 @@ use Rattle.port_model.specs.PortLog.{PortLog, after, log_of_end, no_events}
 use Rattle.port_model.specs.PortState.{OnLane, PortEvent, PortState, PortStep, before, fresh_port}
 use Rattle.port_model.specs.RestLaws.{TwoIdleAt}
 use Rattle.port_model.specs.RuleFacts.{IfOpen, MayListen}
-use Rattle.port_laws.specs.NetCore.{lane_core}
 use Rattle.port_laws.specs.NoneLeft.{NoneLeft, NoneLeftAt}
 use Rattle.port_laws.specs.WaysStand.{Way, WaysStand, acks_in, infos_in}
 use Rattle.port_laws.proofs.PortCounts.{before_wire, queue_of, ready_before}
@@ -112,7 +111,7 @@ both_left shape u l finds ways guest_idles hub_idles lossless opened =
     let other : u.lane.wire.wire.end_b ≡ Up = up_of u.lane.wire.wire.end_b hub_says.0.up in
     let whole : u.lane.wire.lossy ≡ false = ap (λ (w : WireLog). w.lossy) finds.ready.wire ∙ lossless in
     let two_ends = finds.two_ends.two_ends A in
-    let all = heard_all (sides_of (lane_core u.lane) l.transcript) two_ends.meets.converse whole up other (none_waits u.lane.wire.wire.to_a guest_says.1) (none_waits u.lane.wire.wire.to_b hub_says.1) in
+    let all = heard_all _ two_ends.meets.converse whole up other (none_waits _ guest_says.1) (none_waits _ hub_says.1) in
     let between = ways up other opened.0 in
     let going : between.going ≡ [] = nothing_goes (said l.transcript.client) (heard l.transcript.server) between.going between.goes all.mine in
     let coming : between.coming ≡ [] = nothing_goes (said l.transcript.server) (heard l.transcript.client) between.coming between.comes all.theirs in

@@ -156,4 +156,5 @@ tick_event shape u l event t ready of_queue step = grind (arith, true_false, fin
 
 pub port_ticks : (shape : NetShape) (events : List PortEvent) (s : PortState) → IsNetShape shape → Run PortStep (fresh_port shape) events s → Lawful TickAt after (no_events shape) events
 port_ticks shape events s is run =
-    along shape TickAt is (λ x l event t counts ready step. tick_event shape (before event x) l event t.lane ready (before_queue event x step.0) step.1) (λ l frame. tt) events s run
+    along shape TickAt is (λ x l event t counts ready step.
+    tick_event shape (before event x) l event t.lane ready (before_queue event x step.0) step.1) (λ l frame. tt) events s run
