@@ -1,5 +1,5 @@
 -- What holds of two ends on a channel, for a port.
-use Rattle.std.proofs.Common.{◌≡◌, ℕ, zero, suc, ◌*◌, ◌^◌, ◌<◌, ◌≤◌, Bool, true, false, Option, List, [], ◌∷◌, refl, sym, subst, ap, ◌∙◌, arith}
+use Rattle.std.proofs.Common.{◌≡◌, ℕ, zero, suc, ◌*◌, ◌^◌, ◌<◌, ◌≤◌, true, false, Option, List, [], ◌∷◌, refl, sym, subst, ap, ◌∙◌, arith}
 use Rattle.std.specs.Prelude.{◌⊎◌, slice_index, is_some}
 use Rattle.std.specs.List.{AllByRecursion}
 use Rattle.byteorder.specs.Numbers.{big_from-lt}
@@ -9,7 +9,7 @@ use Rattle.ldc_link.specs.declared.phase.Role.TheVariants.{Initiator, Responder}
 use Rattle.ldc_queue.specs.declared.end.End.{End}
 use Rattle.ldc_queue.specs.declared.end.End.TheVariants.{A, B}
 use Rattle.ldc_queue.specs.OneStream.{IsFront}
-use Rattle.ldc_queue.specs.Transcript.{Heard, Said, Utterance}
+use Rattle.ldc_queue.specs.Transcript.{Utterance}
 use Rattle.ldc_queue.specs.Wire.{peer_of}
 use Rattle.runs.specs.Lawful.{log_of}
 use Rattle.runs.specs.Run.{Run}
@@ -28,7 +28,6 @@ use Rattle.channel_model.specs.WireAt.{IsOwnReset, IsUp}
 use Rattle.channel_model.specs.WireLog.{WireLog}
 use Rattle.channel_laws.proofs.ConversingRuns.{heard_messages}
 use Rattle.channel_laws.proofs.LossesTold.{loss_kept, loss_told}
-use Rattle.channel_laws.proofs.OpeningOrder.{opens_hearing, opens_saying}
 use Rattle.channel_laws.proofs.Sessions.{open_sessions_one, open_sessions_up}
 use Rattle.channel_laws.proofs.UnforgedResets.{unforged_reset}
 use Rattle.channel_laws.specs.LaneCore.{CoreEvent, CoreFits, CoreStep, LaneCore, OfferFits, end_of, role_of, transcript_behind}
@@ -37,17 +36,17 @@ use Rattle.channel_laws.specs.OneSession.{AreOneSession}
 use Rattle.channel_laws.specs.Resetting.{LiesInSession}
 use Rattle.port_model.proofs.OwnResets.{net_resets_own}
 use Rattle.port_model.specs.NetEndRule.{port_rule}
-use Rattle.port_model.specs.NetEndStep.{Reset, Sent, Took}
+use Rattle.port_model.specs.NetEndStep.{Reset}
 use Rattle.port_model.specs.NetEvent.{NetEvent, Steps}
-use Rattle.port_model.specs.NetLaneState.{IsNetShape, NetLaneState, NetShape, fresh_net, memory_of, net_end, reach_of, role_at, seen_at}
+use Rattle.port_model.specs.NetLaneState.{IsNetShape, NetLaneState, NetShape, memory_of, net_end, reach_of, role_at, seen_at}
 use Rattle.port_model.specs.NetLaneStep.{NetLaneStep}
 use Rattle.port_model.specs.Offers.{class_of, port_offer, ring_cookie}
 use Rattle.port_model.specs.PortLog.{after, no_events}
 use Rattle.port_model.specs.PortState.{OnLane, PortEvent, PortState, PortStep, before, fresh_port}
-use Rattle.port_laws.specs.NetCore.{core_events, fresh_net_core, lane_core}
+use Rattle.port_laws.specs.NetCore.{fresh_net_core, lane_core}
 use Rattle.port_laws.specs.PortCore.{port_core, port_events}
 use Rattle.port_laws.proofs.Fitting.{BothFit}
-use Rattle.port_laws.proofs.LaneMoves.{event_core_step, fits_behind, fresh_run_core}
+use Rattle.port_laws.proofs.LaneMoves.{event_core_step}
 use Rattle.port_laws.proofs.PortRuns.{before_core, before_fits, fresh_port_core, port_fits_behind, spoken_behind}
 
 -- THE OFFERS
@@ -124,12 +123,7 @@ module _ (shape : NetShape) (is : IsNetShape shape) (moves : List CoreEvent) (u 
   pub core_loss_kept : LossStands shape.entries moves → u.wire.lossy ≡ true
   core_loss_kept stands = loss_kept shape.entries asks answers moves (lane_core u) (sizes_fit shape is) run stands
 
--- over a lane's runs, and over those of a port with its out queue
-pub heard_front : (shape : NetShape) (events : List NetEvent) (s : NetLaneState) (e : End) → IsNetShape shape → Run NetLaneStep (fresh_net shape) events s
-    → s.wire.forged ≡ false → IsUp e s.wire.wire
-    → IsFront (heard (transcript_of e (transcript_behind (core_events events)))) (said (transcript_of (peer_of e) (transcript_behind (core_events events))))
-heard_front shape events s e is run = core_front shape is (core_events events) s (fresh_run_core shape events s run) e
-
+-- over the runs of a port with its out queue
 pub port_front : (shape : NetShape) (events : List PortEvent) (s : PortState) (e : End) → IsNetShape shape → Run PortStep (fresh_port shape) events s
     → s.lane.wire.forged ≡ false → IsUp e s.lane.wire.wire
     → IsFront (heard (transcript_of e (log_of after (no_events shape) events).transcript)) (said (transcript_of (peer_of e) (log_of after (no_events shape) events).transcript))
@@ -137,55 +131,10 @@ port_front shape events s e is run unforged up =
     subst (λ (l : TranscriptLog). IsFront (heard (transcript_of e l)) (said (transcript_of (peer_of e) l))) (spoken_behind shape events)
     (core_front shape is (port_events events) s.lane (fresh_port_core shape events s run) e unforged up)
 
-pub role_same : (e : End) → role_of e ≡ role_at e
-role_same e = grind arith
-
-both_rings : (shape : NetShape) (events : List NetEvent) (s : NetLaneState) (e : End) → Run NetLaneStep (fresh_net shape) events s → (end_of e (lane_core s)).offer.both_rings ≡ true
-both_rings shape events s A run = refl
-both_rings shape events s B run = refl
-
-pub order_of : (both : Bool) (one other : Role) (turns : List Utterance) → both ≡ true → one ≡ other → HandshakeOrder both one turns → HandshakeOrder true other turns
-order_of both one other turns is same order = grind arith
-
-pub opens_said : (shape : NetShape) (events : List NetEvent) (s : NetLaneState) (e : End) (packet : List ℕ) (t : NetLaneState) → IsNetShape shape
-    → Run NetLaneStep (fresh_net shape) events s → NetLaneStep s (Steps e (Sent packet true)) t
-    → HandshakeOrder true (role_at e) (Said packet ∷ transcript_of e (transcript_behind (core_events events)))
-opens_said shape events s e packet t is run step =
-    order_of (end_of e (lane_core s)).offer.both_rings (role_of e) (role_at e) (Said packet ∷ transcript_of e (transcript_behind (core_events events)))
-    (both_rings shape events s e run) (role_same e)
-    (opens_saying shape.entries (port_offer Initiator shape.address shape.slots) (port_offer Responder shape.address shape.slots) (core_events events) (lane_core s) e packet (lane_core t)
-    (sizes_fit shape is) (fresh_run_core shape events s run) (event_core_step s (Steps e (Sent packet true)) t (fits_behind shape events s run) step))
-
-pub opens_heard : (shape : NetShape) (events : List NetEvent) (s : NetLaneState) (e : End) (packet : List ℕ) (t : NetLaneState) → IsNetShape shape
-    → Run NetLaneStep (fresh_net shape) events s → NetLaneStep s (Steps e (Took packet true)) t
-    → HandshakeOrder true (role_at e) (Heard packet ∷ transcript_of e (transcript_behind (core_events events)))
-opens_heard shape events s e packet t is run step =
-    order_of (end_of e (lane_core s)).offer.both_rings (role_of e) (role_at e) (Heard packet ∷ transcript_of e (transcript_behind (core_events events)))
-    (both_rings shape events s e run) (role_same e)
-    (opens_hearing shape.entries (port_offer Initiator shape.address shape.slots) (port_offer Responder shape.address shape.slots) (core_events events) (lane_core s) e packet (lane_core t)
-    (sizes_fit shape is) (fresh_run_core shape events s run) (event_core_step s (Steps e (Took packet true)) t (fits_behind shape events s run) step))
-
-pub both_up : (shape : NetShape) (events : List NetEvent) (s : NetLaneState) → IsNetShape shape → Run NetLaneStep (fresh_net shape) events s → s.wire.forged ≡ false
-    → is_some s.guest.session ≡ true → is_some s.hub.session ≡ true → IsUp A s.wire.wire × IsUp B s.wire.wire
-both_up shape events s is run = core_up shape is (core_events events) s (fresh_run_core shape events s run)
-
-pub port_both_up : (shape : NetShape) (events : List PortEvent) (s : PortState) → IsNetShape shape → Run PortStep (fresh_port shape) events s → s.lane.wire.forged ≡ false
-    → is_some s.lane.guest.session ≡ true → is_some s.lane.hub.session ≡ true → IsUp A s.lane.wire.wire × IsUp B s.lane.wire.wire
-port_both_up shape events s is run = core_up shape is (port_events events) s.lane (fresh_port_core shape events s run)
-
-pub one_session : (shape : NetShape) (events : List NetEvent) (s : NetLaneState) → IsNetShape shape → Run NetLaneStep (fresh_net shape) events s → s.wire.forged ≡ false
-    → is_some s.guest.session ≡ true → is_some s.hub.session ≡ true → AreOneSession s.guest.handshake s.hub.handshake
-one_session shape events s is run = core_one shape is (core_events events) s (fresh_run_core shape events s run)
-
-pub port_one_session : (shape : NetShape) (events : List PortEvent) (s : PortState) → IsNetShape shape → Run PortStep (fresh_port shape) events s → s.lane.wire.forged ≡ false
-    → is_some s.lane.guest.session ≡ true → is_some s.lane.hub.session ≡ true → AreOneSession s.lane.guest.handshake s.lane.hub.handshake
-port_one_session shape events s is run = core_one shape is (port_events events) s.lane (fresh_port_core shape events s run)
-
-pub resets_unforged : (shape : NetShape) (events : List NetEvent) (s : NetLaneState) (e : End) (cause : Cause) (packet : Option (List ℕ)) (lost : ℕ) (t : NetLaneState) → IsNetShape shape
-    → Run NetLaneStep (fresh_net shape) events s → s.wire.forged ≡ false → NetLaneStep s (Steps e (Reset cause packet lost)) t
-    → IsOwnReset s.wire cause ⊎ LiesInSession (end_of e (lane_core s)) packet
-resets_unforged shape events s e cause packet lost t is run =
-    core_resets shape is (core_events events) s (fresh_run_core shape events s run) e cause packet lost t (fits_behind shape events s run)
+pub order_at : (e : End) (s : NetLaneState) (turns : List Utterance) → HandshakeOrder (end_of e (lane_core s)).offer.both_rings (role_of e) turns
+    → HandshakeOrder true (role_at e) turns
+order_at A s turns order = order
+order_at B s turns order = order
 
 pub port_resets_unforged : (shape : NetShape) (events : List PortEvent) (s : PortState) (e : End) (cause : Cause) (packet : Option (List ℕ)) (lost : ℕ) (t : PortState) → IsNetShape shape
     → Run PortStep (fresh_port shape) events s → s.lane.wire.forged ≡ false → PortStep s (OnLane (Steps e (Reset cause packet lost))) t
@@ -197,20 +146,3 @@ port_resets_unforged shape events s e cause packet lost t is run unforged step =
     subst (λ (c : LaneCore). IsOwnReset c.wire cause ⊎ LiesInSession (end_of e c) packet) same
     (core_resets shape is (port_events events) (before event s).lane (subst (Run CoreStep (fresh_net_core shape) (port_events events)) (sym same) (fresh_port_core shape events s run)) e cause packet lost t.lane
     (before_fits event s (port_fits_behind shape events s run)) (ap (λ (w : WireLog). w.forged) wire ∙ unforged) step.1)
-
--- A LOSS
-pub net_loss_told : (shape : NetShape) (events : List NetEvent) (s : NetLaneState) → IsNetShape shape → Run NetLaneStep (fresh_net shape) events s
-    → s.wire.lossy ≡ true → LossStands shape.entries (core_events events)
-net_loss_told shape events s is run = core_loss_told shape is (core_events events) s (fresh_run_core shape events s run)
-
-pub net_loss_kept : (shape : NetShape) (events : List NetEvent) (s : NetLaneState) → IsNetShape shape → Run NetLaneStep (fresh_net shape) events s
-    → LossStands shape.entries (core_events events) → s.wire.lossy ≡ true
-net_loss_kept shape events s is run = core_loss_kept shape is (core_events events) s (fresh_run_core shape events s run)
-
-pub port_loss_told : (shape : NetShape) (events : List PortEvent) (s : PortState) → IsNetShape shape → Run PortStep (fresh_port shape) events s
-    → s.lane.wire.lossy ≡ true → LossStands shape.entries (port_events events)
-port_loss_told shape events s is run = core_loss_told shape is (port_events events) s.lane (fresh_port_core shape events s run)
-
-pub port_loss_kept : (shape : NetShape) (events : List PortEvent) (s : PortState) → IsNetShape shape → Run PortStep (fresh_port shape) events s
-    → LossStands shape.entries (port_events events) → s.lane.wire.lossy ≡ true
-port_loss_kept shape events s is run = core_loss_kept shape is (port_events events) s.lane (fresh_port_core shape events s run)

@@ -33,7 +33,7 @@ use Rattle.port_model.specs.NetEndPutting.{announcement, answer, answers, cleare
 use Rattle.port_model.specs.Groups.{membership}
 use Rattle.port_model.specs.NetEndRule.{Announces, Fetches, NetRule, Publishes, Puts, Replies, Says, Tells, port_rule}
 use Rattle.port_model.specs.NetEndState.{Activity, NetEndState, NetSession, joined_net_end, unseen, unseen_in}
-use Rattle.port_model.specs.NetEndStep.{Blocked, Frame, Idle, NetAnswer, NetEndStep, NetLeft, NetPublishes, NetSends, Published, Sent, Took, published, taken}
+use Rattle.port_model.specs.NetEndStep.{Blocked, Frame, Idle, NetAnswer, NetEndStep, NetLeft, NetPublishes, NetSends, Published, Sent, Took}
 use Rattle.port_model.specs.NetEndTaking.{GoesOn, NetTake, NetTakes, Resets}
 use Rattle.port_model.specs.NetEvent.{CalmTick, Steps, Ticked}
 use Rattle.port_model.specs.NetLaneState.{IsNetShape, NetLaneState, NetShape, reach_of, seen_at}
@@ -242,21 +242,6 @@ hub_crossed shape u l frame t finds step =
 
 hub_crossing : (shape : NetShape) (u : PortState) (l : PortLog) (answer : NetAnswer) (t : NetLaneState) → Finds shape u l → EndSteps B u.lane answer t → lane_crossing t ≤ lane_crossing u.lane
 hub_crossing shape u l (Frame frame) t finds step = let less = hub_crossed shape u l frame t finds step in omega (arith, less)
-hub_crossing shape u l (Took packet opens) t finds step =
-    let now = step_now B u.lane t (Took packet opens) step in
-    same_kept u.lane t u.lane.wire.wire.end_a (ap (λ (w : WireLog). w.wire.end_a) now.wire) now.peer_end (now.peer_memory ∙ step.step.2) (omega arith)
-hub_crossing shape u l (Sent packet opens) t finds step =
-    let now = step_now B u.lane t (Sent packet opens) step in
-    same_kept u.lane t u.lane.wire.wire.end_a (ap (λ (w : WireLog). w.wire.end_a) now.wire) now.peer_end (now.peer_memory ∙ ap (λ (x : NetLeft). x.peer) step.step.is) (omega arith)
-hub_crossing shape u l Blocked t finds step =
-    let now = step_now B u.lane t Blocked step in
-    same_kept u.lane t u.lane.wire.wire.end_a (ap (λ (w : WireLog). w.wire.end_a) now.wire) now.peer_end (now.peer_memory ∙ ap (λ (x : NetLeft). x.peer) step.step.2) (omega arith)
-hub_crossing shape u l Idle t finds step =
-    let now = step_now B u.lane t Idle step in
-    same_kept u.lane t u.lane.wire.wire.end_a (ap (λ (w : WireLog). w.wire.end_a) now.wire) now.peer_end (now.peer_memory ∙ ap (λ (x : NetLeft). x.peer) step.step.1) (omega arith)
-hub_crossing shape u l (Published id) t finds step =
-    let now = step_now B u.lane t (Published id) step in
-    same_kept u.lane t u.lane.wire.wire.end_a (ap (λ (w : WireLog). w.wire.end_a) now.wire) now.peer_end (now.peer_memory ∙ ap (λ (x : NetLeft). x.peer) step.step.is) (omega arith)
 hub_crossing shape u l answer t finds step = grind (arith, step_now B u.lane t answer step, same_kept, behind_less)
 
 -- THE FRAME THAT MOVES from the out queue is none of the guest's

@@ -1,18 +1,16 @@
 -- Every run of a port is lawful: each event may stand after those before it, by each of the laws.
 use Rattle.std.proofs.Common.{List, [], ◌∷◌, ◌++◌}
-use Rattle.runs.specs.Lawful.{Lawful, lawful_split, log_of}
+use Rattle.runs.specs.Lawful.{log_of}
 use Rattle.runs.specs.Run.{Run, run_push}
 use Rattle.channel_model.specs.ResetSays.{WireResetAt}
-use Rattle.channel_model.specs.WireAt.{WireAnswersAt, WireGapAt, WireHeardAt, WireSaidAt, WireTableAt, WireUnforgedAt}
-use Rattle.port_model.specs.FrameLaws.{AcknowledgesAt, AdmissionAt, AnnouncesAt, AsksAt, GroupsSaidAt, JoiningAt, LostAt, OpeningsAt, OwnResetAt, PublishedAt, SeesAt, TakingAt, TickAt, UndoneAt, WorksAt}
+use Rattle.channel_model.specs.WireAt.{WireGapAt}
 use Rattle.port_model.specs.NetLaneState.{IsNetShape, NetShape}
-use Rattle.port_model.specs.PortLog.{PortLog, after, no_events}
-use Rattle.port_model.specs.PortMay.{IsLawfulPort, OfWire, PortMay, sizes_in}
+use Rattle.port_model.specs.PortLog.{after, no_events}
+use Rattle.port_model.specs.PortMay.{IsLawfulPort, PortMay}
 use Rattle.port_model.specs.PortState.{PortEvent, PortState, PortStep, fresh_port}
-use Rattle.port_model.specs.RestLaws.{IdleAt, TwoIdleAt, UnforgedAt}
 use Rattle.port_laws.proofs.GroupsAgree.{port_joins}
 use Rattle.port_laws.proofs.NoRefusal.{port_unforged_wire}
-use Rattle.port_laws.proofs.PortResets.{port_gaps_say, port_resets_say}
+use Rattle.port_laws.proofs.PortResets.{port_resets_so}
 use Rattle.port_laws.proofs.PortRuns.{lawful_along}
 use Rattle.port_laws.proofs.RuleAsks.{port_asks, port_undone}
 use Rattle.port_laws.proofs.RuleFrames.{port_acknowledges, port_admits, port_announces, port_lost, port_published, port_sees, port_takes}
@@ -23,11 +21,7 @@ use Rattle.port_laws.proofs.RuleTable.{port_answers, port_table}
 use Rattle.port_laws.proofs.RuleTwoIdle.{port_two_idle}
 use Rattle.port_laws.proofs.RuleUnforged.{port_unforged}
 use Rattle.port_laws.proofs.WireLaws.{port_hears, port_opens, port_says}
-
--- what is lawful along a run with one event more is so at that event
-last : (May : PortLog → PortEvent → Type 0) (shape : NetShape) (events : List PortEvent) (event : PortEvent) → Lawful May after (no_events shape) (events ++ event ∷ [])
-    → May (log_of after (no_events shape) events) event
-last May shape events event lawful = (lawful_split May after (no_events shape) events (event ∷ []) lawful).1.0
+use Rattle.port_laws.proofs.LastEvent.{last_lawful}
 
 pub every_run : (shape : NetShape) (events : List PortEvent) (s : PortState) → IsNetShape shape → Run PortStep (fresh_port shape) events s → IsLawfulPort shape events
 every_run shape events s is run =
@@ -35,30 +29,30 @@ every_run shape events s is run =
     let events : List PortEvent = before ++ event ∷ [] in
     let whole : Run PortStep (fresh_port shape) events t = run_push PortStep (fresh_port shape) s t before event run step in
     record {
-      table = last (λ (x : PortLog) (event : PortEvent). OfWire (WireTableAt (sizes_in x) x.wire) event) shape before event (port_table shape events t is whole);
-      answers = last (λ (x : PortLog) (event : PortEvent). OfWire (WireAnswersAt (sizes_in x) x.wire) event) shape before event (port_answers shape events t is whole);
-      said = last (λ (x : PortLog) (event : PortEvent). OfWire (WireSaidAt x.transcript) event) shape before event (port_says shape events t is whole);
-      heard = last (λ (x : PortLog) (event : PortEvent). OfWire (WireHeardAt x.transcript) event) shape before event (port_hears shape events t is whole);
-      gap = last (λ (x : PortLog) (event : PortEvent). OfWire (WireGapAt x.transcript) event) shape before event (port_gaps_say shape events t is whole);
-      reset_says = last (λ (x : PortLog) (event : PortEvent). OfWire (WireResetAt x.transcript) event) shape before event (port_resets_say shape events t is whole);
-      unforged_wire = last (λ (x : PortLog) (event : PortEvent). OfWire (WireUnforgedAt x.wire) event) shape before event (port_unforged_wire shape events t is whole);
-      works = last WorksAt shape before event (port_works shape events t is whole);
-      admission = last AdmissionAt shape before event (port_admits shape events t is whole);
-      joining = last JoiningAt shape before event (port_joins shape events t whole);
-      tick = last TickAt shape before event (port_ticks shape events t is whole);
-      openings = last OpeningsAt shape before event (port_opens shape events t is whole);
-      published = last PublishedAt shape before event (port_published shape events t is whole);
-      lost = last LostAt shape before event (port_lost shape events t is whole);
-      announces = last AnnouncesAt shape before event (port_announces shape events t is whole);
-      sees = last SeesAt shape before event (port_sees shape events t is whole);
-      asks = last AsksAt shape before event (port_asks shape events t is whole);
-      taking = last TakingAt shape before event (port_takes shape events t is whole);
-      acknowledges = last AcknowledgesAt shape before event (port_acknowledges shape events t is whole);
-      own_resets = last OwnResetAt shape before event (port_resets shape events t is whole);
-      undone = last UndoneAt shape before event (port_undone shape events t is whole);
-      groups_said = last GroupsSaidAt shape before event (port_groups_said shape events t is whole);
-      idle = last IdleAt shape before event (port_idle shape events t is whole);
-      unforged = last UnforgedAt shape before event (port_unforged shape events t is whole);
-      two_idle = last TwoIdleAt shape before event (port_two_idle shape events t is whole);
+      table = last_lawful shape _ before event (port_table shape events t is whole);
+      answers = last_lawful shape _ before event (port_answers shape events t is whole);
+      said = last_lawful shape _ before event (port_says shape events t is whole);
+      heard = last_lawful shape _ before event (port_hears shape events t is whole);
+      gap = last_lawful shape _ before event (port_resets_so WireGapAt (λ l x both. both.1) shape events t is whole);
+      reset_says = last_lawful shape _ before event (port_resets_so WireResetAt (λ l x both. both.0) shape events t is whole);
+      unforged_wire = last_lawful shape _ before event (port_unforged_wire shape events t is whole);
+      works = last_lawful shape _ before event (port_works shape events t is whole);
+      admission = last_lawful shape _ before event (port_admits shape events t is whole);
+      joining = last_lawful shape _ before event (port_joins shape events t whole);
+      tick = last_lawful shape _ before event (port_ticks shape events t is whole);
+      openings = last_lawful shape _ before event (port_opens shape events t is whole);
+      published = last_lawful shape _ before event (port_published shape events t is whole);
+      lost = last_lawful shape _ before event (port_lost shape events t is whole);
+      announces = last_lawful shape _ before event (port_announces shape events t is whole);
+      sees = last_lawful shape _ before event (port_sees shape events t is whole);
+      asks = last_lawful shape _ before event (port_asks shape events t is whole);
+      taking = last_lawful shape _ before event (port_takes shape events t is whole);
+      acknowledges = last_lawful shape _ before event (port_acknowledges shape events t is whole);
+      own_resets = last_lawful shape _ before event (port_resets shape events t is whole);
+      undone = last_lawful shape _ before event (port_undone shape events t is whole);
+      groups_said = last_lawful shape _ before event (port_groups_said shape events t is whole);
+      idle = last_lawful shape _ before event (port_idle shape events t is whole);
+      unforged = last_lawful shape _ before event (port_unforged shape events t is whole);
+      two_idle = last_lawful shape _ before event (port_two_idle shape events t is whole);
     } in
     lawful_along shape PortMay each events s run

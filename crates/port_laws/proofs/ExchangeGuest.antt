@@ -44,6 +44,7 @@ use Rattle.port_laws.proofs.TookCounts.{free_empty, session_open, session_up}
 use Rattle.port_laws.proofs.WayMoves.{EachLow, Plain}
 use Rattle.port_laws.proofs.WayPlain.{closed_plain, open_said}
 use Rattle.port_laws.proofs.WayRuns.{guest_goes, hub_none, opening_sent, peer_was_up}
+use Rattle.channel_laws.proofs.Apart.{some_same}
 
 -- BOTH ENDS, and what they said and heard
 abbrev pub Between : NetEndState → NetEndState → List Utterance → List Utterance → NetSession → Type 0
@@ -101,12 +102,9 @@ low_exchange : (sid : ℕ) (groups : List (List ℕ)) (q : NetSession) (asks ans
     → known ≡ [] → q.telling ≡ false → q.reply ≡ None → q.untold ≡ true → ExchangeIn sid groups q asks answers session known
 low_exchange sid groups q asks answers session known asks_low answers_low none nothing telling reply untold = grind (arith, low_fits, low_none, low_tells, true_false)
 
-pub one_session : {X : Type 0} (o : Option X) (x y : X) → o ≡ Some x → o ≡ Some y → x ≡ y
-one_session {X} o x y one two = let both : Some x ≡ Some y = sym one ∙ two in cc both
-
 -- a session that opens tells nothing yet
 opened_fresh : (s : NetEndState) (base : ℕ) (q : NetSession) → s.session ≡ Some q → s.session ≡ Some (opened_session base) → (q.telling ≡ false) × (q.reply ≡ None) × (q.untold ≡ true)
-opened_fresh s base q now is = grind (arith, one_session)
+opened_fresh s base q now is = grind arith
 
 -- A STEP IN SESSION
 module _ (shape : NetShape) (u t : PortState) (l : PortLog) (left : NetLeft) (p q : NetSession) (session : u.lane.guest.session ≡ Some p) (now : left.end.session ≡ Some q) (other_up : IsUp B u.lane.wire.wire)
@@ -120,7 +118,7 @@ module _ (shape : NetShape) (u t : PortState) (l : PortLog) (left : NetLeft) (p 
   -- with the same link, handshake and groups
   quiet_now : (now_is : NetSession) → left.end.session ≡ Some now_is → left.end.groups ≡ s.groups → left.end.handshake ≡ s.handshake → left.end.link.to_send ≡ s.link.to_send → now_is.telling ≡ p.telling
       → now_is.reply ≡ p.reply → now_is.untold ≡ p.untold → Now l.transcript.client
-  quiet_now now_is is groups handshake sends telling reply untold = grind (arith, one_session, guest_as, same_outbox, same_exchange)
+  quiet_now now_is is groups handshake sends telling reply untold = grind (arith, guest_as, same_outbox, same_exchange)
 
   may_form : GuestSid u.lane → (acting : Acting Initiator shape.slots [] s l.guest l.transcript.client) → MayForm Initiator s.handshake.draft.sid s p
   may_form sid acting = record { session = session; agreed = sid.agreed; small = sid.small; empty = λ quiet. free_empty Initiator s l.transcript.client acting.ends quiet }
@@ -156,7 +154,7 @@ module _ (shape : NetShape) (u t : PortState) (l : PortLog) (left : NetLeft) (p 
             (message_does Initiator (record s { link = one.link }) p u.lane.guest_memory own.message (session_open Initiator s l.transcript.client p acting.ends session)) in
             let noted = guest_notes (record s { link = one.link }) left.end p u.lane.guest_memory left.own one.bytes own.message own.of own.spells does.does in
             let notes : GuestNotes (record s { link = one.link }) left.end p noted.0 one.bytes = noted.1 in
-            let same : noted.0 ≡ q = one_session left.end.session noted.0 q notes.session now in
+            let same : noted.0 ≡ q = some_same (sym notes.session ∙ now) in
             guest_as s left.end q (outbox s l.transcript.client l.transcript.server) (outbox left.end (Heard packet ∷ l.transcript.client) l.transcript.server)
             (outbox u.lane.hub l.transcript.server (Heard packet ∷ l.transcript.client)) u.lane.hub.session u.lane.hub.groups notes.groups notes.handshake
             (same_outbox s left.end l.transcript.client l.transcript.server notes.handshake (notes.sends ∙ one.sends))
@@ -175,19 +173,19 @@ guest_in shape u t l (Published id) left p q acts goes session now up other fron
     let step = acts.step in
     let says = says_of Initiator u.lane.guest (seen_at A u.lane) (Publishes step.session step.frame) step.rule in
     let same : left.end ≡ record u.lane.guest { session = Some (published step.session) } = ap (λ (x : NetLeft). x.end) step.is in
-    let here : step.session ≡ p = one_session u.lane.guest.session step.session p says.0.in_session.session session in
+    let here : step.session ≡ p = some_same (sym says.0.in_session.session ∙ session) in
     grind (arith, quiet_now)
 guest_in shape u t l (Frame frame) left p q acts goes session now up other front was =
     let step = acts.step in
     let says = says_of Initiator u.lane.guest (seen_at A u.lane) (Fetches step.session step.activity) step.rule in
     let same : left.end ≡ record u.lane.guest { session = Some (taken u.lane.guest step.session step.activity); last = frame } = ap (λ (x : NetLeft). x.end) step.is in
-    let here : step.session ≡ p = one_session u.lane.guest.session step.session p says.0.session session in
+    let here : step.session ≡ p = some_same (sym says.0.session ∙ session) in
     grind (arith, quiet_now)
 guest_in shape u t l Blocked left p q acts goes session now up other front was =
     let acting = acting_at shape A u l acts.finds up in
     let sid = guest_sid shape u.lane l acts.finds.two_ends up (ap is_some session) in
     let forms = forms_now shape u t l left p q session now other was left.end acting sid acts.step.0 in
-    let same : forms.q ≡ q = one_session left.end.session forms.q q forms.session_is now in grind (arith, guest_as)
+    let same : forms.q ≡ q = some_same (sym forms.session_is ∙ now) in grind (arith, guest_as)
 guest_in shape u t l (Sent packet opens) left p q acts goes session now up other front was =
     let step = acts.step in
     let acting = acting_at shape A u l acts.finds up in
@@ -195,7 +193,7 @@ guest_in shape u t l (Sent packet opens) left p q acts goes session now up other
     let forms = forms_now shape u t l left p q session now other was step.held acting sid step.holds in
     let puts : PutsIt step.held left.end l.transcript.client packet =
     sends_own Initiator shape.slots [] u.lane.guest l.guest l.transcript.client (seen_at A u.lane) u.lane.guest_memory (reach_of A u.lane) packet opens left forms.q acting step sid.agreed.owed forms.session_is in
-    let same : forms.q ≡ q = one_session left.end.session forms.q q (puts.session ∙ forms.session_is) now in
+    let same : forms.q ≡ q = some_same (sym (puts.session ∙ forms.session_is) ∙ now) in
     guest_as u.lane.guest left.end q (outbox step.held l.transcript.client l.transcript.server) (outbox left.end (Said packet ∷ l.transcript.client) l.transcript.server)
     (outbox u.lane.hub l.transcript.server l.transcript.client) u.lane.hub.session u.lane.hub.groups (puts.groups ∙ forms.groups) (puts.handshake ∙ forms.handshake)
     (outbox_put step.held left.end l.transcript.client l.transcript.server packet puts (acts.finds.two_ends.front other))

@@ -50,13 +50,14 @@ use Rattle.port_laws.proofs.SessionsHeard.{Grown, heard_grown}
 use Rattle.port_laws.proofs.StepCounts.{Acting}
 use Rattle.port_laws.proofs.TakesIn.{HubLearns, HubNotes, InSession, hub_notes, in_own_session, next_read}
 use Rattle.port_laws.proofs.GroupsExchanged.{ExchangeIn, hub_hears, hub_learns, reply_in, same_exchange}
-use Rattle.port_laws.proofs.ExchangeGuest.{Between, ExchangeStands, guest_sid, hub_agreed, low_outbox, one_session, same_outbox, shut_unsaid}
+use Rattle.port_laws.proofs.ExchangeGuest.{Between, ExchangeStands, guest_sid, hub_agreed, low_outbox, same_outbox, shut_unsaid}
 use Rattle.port_laws.proofs.ExchangeSteps.{HubForms, hub_forms, outbox_heard, outbox_put}
 use Rattle.port_laws.proofs.TookCounts.{free_empty, heard_send, session_open, session_up}
 use Rattle.port_laws.proofs.WayActs.{ClosedFits}
 use Rattle.port_laws.proofs.WayMoves.{EachLow, low_rest}
 use Rattle.port_laws.proofs.WayPlain.{closed_plain}
 use Rattle.port_laws.proofs.WayRuns.{guest_open_up, hub_goes, hub_plain, peer_was_up}
+use Rattle.channel_laws.proofs.Apart.{some_same}
 
 named_in : (m : List ℕ) → is_groups m ≡ true → envelope_at m ≡ 0x0101
 named_in m is = eqb-true (envelope_at m) 0x0101 is
@@ -147,13 +148,13 @@ hub_in shape u t l (Published id) left p q acts goes session guest fresh up othe
     let step = acts.step in
     let says = says_of Responder u.lane.hub (seen_at B u.lane) (Publishes step.session step.frame) step.rule in
     let same : left.end ≡ record u.lane.hub { session = Some (published step.session) } = ap (λ (x : NetLeft). x.end) step.is in
-    let here : step.session ≡ q = one_session u.lane.hub.session step.session q says.0.in_session.session session in
+    let here : step.session ≡ q = some_same (sym says.0.in_session.session ∙ session) in
     grind (arith, quiet_now)
 hub_in shape u t l (Frame frame) left p q acts goes session guest fresh up other front was =
     let step = acts.step in
     let says = says_of Responder u.lane.hub (seen_at B u.lane) (Fetches step.session step.activity) step.rule in
     let same : left.end ≡ record u.lane.hub { session = Some (taken u.lane.hub step.session step.activity); last = frame } = ap (λ (x : NetLeft). x.end) step.is in
-    let here : step.session ≡ q = one_session u.lane.hub.session step.session q says.0.session session in
+    let here : step.session ≡ q = some_same (sym says.0.session ∙ session) in
     grind (arith, quiet_now)
 hub_in shape u t l Blocked left p q acts goes session guest fresh up other front was =
     let acting = acting_at shape B u l acts.finds other in

@@ -18,7 +18,7 @@ use Rattle.port_model.specs.PortLog.{PortLog, after, no_events}
 use Rattle.port_model.specs.PortState.{OfQueue, OnLane, PortEvent, PortState, PortStep, Receives, before, fresh_port}
 use Rattle.port_laws.specs.NetCore.{lane_core}
 use Rattle.port_laws.proofs.GroupsLearnt.{Fresh, fresh_more}
-use Rattle.port_laws.proofs.PortCounts.{PortCounts, before_guest, before_queue}
+use Rattle.port_laws.proofs.PortCounts.{PortCounts, before_queue}
 use Rattle.port_laws.proofs.PortTwoEnds.{PortTwoEnds, port_two_ends}
 use Rattle.port_laws.proofs.RingActs.{Finds, open_both}
 use Rattle.port_laws.proofs.RingRuns.{finds_before, fresh_kept, was_clean}
@@ -26,6 +26,7 @@ use Rattle.port_laws.proofs.GroupsExchanged.{guest_joins}
 use Rattle.port_laws.proofs.ExchangeGuest.{Between, ExchangeStands, guest_exchange}
 use Rattle.port_laws.proofs.ExchangeHub.{hub_exchange}
 use Rattle.port_laws.proofs.WayRuns.{KeptWays, acts_of, never_alone, ways_step}
+use Rattle.port_laws.proofs.PortRuns.{before_guest}
 
 -- THE GROUPS of a guest are repeated nowhere
 fresh_event : (u : NetLaneState) (l : PortLog) (event : NetEvent) (t : NetLaneState) → u.guest.groups ≡ l.members → NetLaneStep u event t → Fresh [] l.members → Fresh [] (after l (OnLane event)).members

@@ -42,6 +42,7 @@ use Rattle.port_laws.proofs.Outbox.{SaysRange, says_range}
 use Rattle.port_laws.proofs.PutCounts.{own_half, own_short, put_empty, put_end, shut_put}
 use Rattle.port_laws.proofs.StepCounts.{Acting}
 use Rattle.port_laws.proofs.TookCounts.{free_empty, session_up}
+use Rattle.channel_laws.proofs.Apart.{some_same}
 
 -- IT FORMS a message, with which its link was free
 pub record FormsIt (s held : NetEndState) (m : List ℕ) (q : NetSession) : Type 0 where
@@ -76,9 +77,6 @@ slot_formed role sid s at p activity (Some last) (NotReady state) held agreed sm
     (says_range role sid Ack s.handshake.draft.sid activity.seq s.handshake.draft.ident_peer activity.start last 2 (inr refl) agreed.peer small) refl refl refl)
 slot_formed role sid s at p activity _ _ held agreed small empty free same = none_some held same
 
-same_session : {X : Type 0} (o : Option X) (p q : X) → o ≡ Some p → o ≡ Some q → q ≡ p
-same_session {X} o p q one two = let both : Some q ≡ Some p = sym two ∙ one in cc both
-
 pub formed_by : (role : Role) (sid : ℕ) (s : NetEndState) (at : Seen) (reach : Reach) (rule : NetRule) (held : NetEndState) (p : NetSession) → MayForm role sid s p → port_rule role s at ≡ rule
     → net_holds rule s reach ≡ Some held → Formed role sid s p held
 formed_by role sid s at reach Puts held p may is same = let kept : s ≡ held = cc same in Kept (sym kept)
@@ -86,22 +84,22 @@ formed_by role sid s at reach (Says message) held p may is same =
     let says = says_of role s at (Says message) is in none_some message (sym may.agreed.owed ∙ says.2)
 formed_by role sid s at reach (Replies q reply) held p may is same =
     let says = says_of role s at (Replies q reply) is in
-    subst (λ (x : NetSession). Formed role sid s x held) (same_session s.session p q may.session says.0.session)
+    subst (λ (x : NetSession). Formed role sid s x held) (some_same (sym says.0.session ∙ may.session))
     (of_some (Formed role sid s q) (holding_own (groups_answer s reply) (record q { reply = None }) s) held same
     (Replied (canonical (groups_answer s reply)) (record q { reply = None }) reply (forms_it s at q (record q { reply = None }) (groups_answer s reply) says.0 may.empty) says.1 refl refl refl))
 formed_by role sid s at reach (Fetches q activity) held p may is same =
     let says = says_of role s at (Fetches q activity) is in
-    subst (λ (x : NetSession). Formed role sid s x held) (same_session s.session p q may.session says.0.session)
+    subst (λ (x : NetSession). Formed role sid s x held) (some_same (sym says.0.session ∙ may.session))
     (slot_formed role sid s at q activity activity.last (fetched s reach q.place) held may.agreed may.small may.empty says.0 same)
 formed_by role sid s at reach (Tells q) held p may is same =
     let says = says_of role s at (Tells q) is in
-    subst (λ (x : NetSession). Formed role sid s x held) (same_session s.session p q may.session says.0.in_session.session)
+    subst (λ (x : NetSession). Formed role sid s x held) (some_same (sym says.0.in_session.session ∙ may.session))
     (of_some (Formed role sid s q) (holding_own (membership s.handshake.draft.sid s.groups) (record q { untold = false; telling = true }) s) held same
     (Told (canonical (membership s.handshake.draft.sid s.groups)) (record q { untold = false; telling = true })
     (forms_it s at q (record q { untold = false; telling = true }) (membership s.handshake.draft.sid s.groups) says.0.in_session may.empty) says.1 refl says.3 refl refl))
 formed_by role sid s at reach (Announces q) held p may is same =
     let says = says_of role s at (Announces q) is in
-    subst (λ (x : NetSession). Formed role sid s x held) (same_session s.session p q may.session says.0.in_session.session)
+    subst (λ (x : NetSession). Formed role sid s x held) (some_same (sym says.0.in_session.session ∙ may.session))
     (of_some (Formed role sid s q) (holding_own (announcement s q) (record q { infos = q.infos + 1; asking = true }) s) held same
     (Ranged (canonical (announcement s q)) (record q { infos = q.infos + 1; asking = true }) (forms_it s at q (record q { infos = q.infos + 1; asking = true }) (announcement s q) says.0.in_session may.empty)
     (says_range role sid Info s.handshake.draft.sid (wrapped (q.infos + 1)) s.handshake.draft.ident_own (q.seen % s.slots) 0xffffffff 1 (inl refl) may.agreed.own may.small) refl refl refl))

@@ -1,8 +1,8 @@
 -- On a port that nobody forged each frame that an end was given was taken by the other, is held, or is one of those that the end says are
 -- lost. So where none is lost and none is held, the frames that were taken are those that were given.
-use Rattle.std.proofs.Common.{◌≡◌, ℕ, zero, suc, ◌+◌, ◌≤◌, false, Option, Some, None, List, [], ◌∷◌, ◌++◌, length, drop, refl, sym, subst, ap, ◌∙◌, arith, length-append, length-drop}
+use Rattle.std.proofs.Common.{◌≡◌, ℕ, ◌+◌, ◌≤◌, false, Option, Some, None, List, [], ◌∷◌, ◌++◌, length, drop, sym, subst, ap, ◌∙◌, arith, length-append, length-drop}
 use Rattle.std.specs.Prelude.{slice_get}
-use Rattle.std.proofs.lemmas.Option.{slice_get_within}
+use Rattle.std.proofs.lemmas.Option.{get_or_from_slice_get, slice_get_within}
 use Rattle.ldc_queue.specs.declared.end.ChannelState.{ChannelState}
 use Rattle.ldc_queue.specs.declared.end.ChannelState.TheVariants.{Up}
 use Rattle.ldc_queue.specs.declared.end.End.{End}
@@ -33,6 +33,8 @@ use Rattle.port_laws.proofs.RingEvents.{Goes, mine_now, theirs_now, wire_now}
 use Rattle.port_laws.proofs.RingRuns.{Kept, finds_before, was_clean}
 use Rattle.port_laws.proofs.RuleFrames.{guest_holds, hub_holds}
 use Rattle.port_laws.proofs.WayRuns.{acts_of}
+use Rattle.std.proofs.lemmas.List.{drop_all}
+use Rattle.std.proofs.Math.Seq.{drop-cons}
 
 -- AN ANSWER: how many frames its end took by it
 frames_in : NetAnswer → ℕ
@@ -122,31 +124,14 @@ event_adds shape A u t l (Steps A answer) of_queue finds step clean kept two_end
 event_adds shape B u t l (Steps B answer) of_queue finds step clean kept two_ends =
     let one = took_one B answer in
     taker_adds shape B u t l answer step.left (length (took B (OnLane (Steps B answer))) + 0) (acts_of shape B u t l answer finds step kept.counts two_ends) (omega (arith, one))
-event_adds shape B u t l (Asked A lost) of_queue finds step clean kept two_ends =
-    anew_adds A B u.lane t.lane l (after l (OnLane (Asked A lost))) (0 + lost) refl (omega arith) refl (ap (λ (x : NetLaneState). x.wire.wire.end_b) step.1)
-event_adds shape A u t l (Asked B lost) of_queue finds step clean kept two_ends =
-    anew_adds B A u.lane t.lane l (after l (OnLane (Asked B lost))) (0 + lost) refl (omega arith) refl (ap (λ (x : NetLaneState). x.wire.wire.end_a) step.1)
-event_adds shape A u t l (Asked A lost) of_queue finds step clean kept two_ends = other_anew B A u.lane t.lane l (after l (OnLane (Asked A lost))) refl refl
-event_adds shape B u t l (Asked B lost) of_queue finds step clean kept two_ends = other_anew A B u.lane t.lane l (after l (OnLane (Asked B lost))) refl refl
-event_adds shape B u t l (Ticked queued lost) of_queue finds step clean kept two_ends =
-    anew_adds A B u.lane t.lane l (after l (OnLane (Ticked queued lost))) (0 + lost) refl (omega arith) refl (ap (λ (x : NetLaneState). x.wire.wire.end_b) step.1.1)
-event_adds shape A u t l (Ticked queued lost) of_queue finds step clean kept two_ends = other_anew B A u.lane t.lane l (after l (OnLane (Ticked queued lost))) refl refl
-event_adds shape B u t l (Gives A given) of_queue finds step clean kept two_ends =
-    let same = given_same given l.guest in
-    still_adds A B u.lane t.lane l (after l (OnLane (Gives A given))) (ap (λ (x : NetLaneState). x.wire.wire.end_b) step.1) same.session same.gone refl
-event_adds shape A u t l (Gives A given) of_queue finds step clean kept two_ends =
-    still_adds B A u.lane t.lane l (after l (OnLane (Gives A given))) (ap (λ (x : NetLaneState). x.wire.wire.end_a) step.1) refl refl (given_same given l.guest).session
+event_adds shape d u t l (Asked e lost) of_queue finds step clean kept two_ends = grind (arith, anew_adds, other_anew)
+event_adds shape d u t l (Ticked queued lost) of_queue finds step clean kept two_ends = grind (arith, anew_adds, other_anew)
+event_adds shape d u t l (Gives A given) of_queue finds step clean kept two_ends = grind (arith, still_adds, given_same)
 event_adds shape d u t l (Gives B given) of_queue finds step clean kept two_ends = absurd of_queue
 event_adds shape d u t l (Injects e packet) of_queue finds step clean kept two_ends = true_false clean
 event_adds shape d u t l (Pokes e at bytes) of_queue finds step clean kept two_ends = true_false clean
-event_adds shape B u t l (Loses A packet) of_queue finds step clean kept two_ends =
-    still_adds A B u.lane t.lane l (after l (OnLane (Loses A packet))) (ap (λ (x : NetLaneState). x.wire.wire.end_b) step.1) refl refl refl
-event_adds shape A u t l (Loses A packet) of_queue finds step clean kept two_ends =
-    still_adds B A u.lane t.lane l (after l (OnLane (Loses A packet))) (ap (λ (x : NetLaneState). x.wire.wire.end_a) step.1) refl refl refl
-event_adds shape B u t l event of_queue finds step clean kept two_ends =
-    still_adds A B u.lane t.lane l (after l (OnLane event)) (ap (λ (x : NetLaneState). x.wire.wire.end_b) step.1) refl refl refl
-event_adds shape A u t l event of_queue finds step clean kept two_ends =
-    still_adds B A u.lane t.lane l (after l (OnLane event)) (ap (λ (x : NetLaneState). x.wire.wire.end_a) step.1) refl refl refl
+event_adds shape d u t l (Loses A packet) of_queue finds step clean kept two_ends = grind (arith, still_adds)
+event_adds shape d u t l event of_queue finds step clean kept two_ends = grind (arith, still_adds)
 
 -- NO MORE OF AN END'S FRAMES ARE GONE than were taken or are said to be lost; while it is up and in session, that is so where those that
 -- were taken in it are gone too
@@ -231,21 +216,12 @@ bounded n (frame ∷ frames) given within order =
     let there = slice_get_within given order.0 frame order.2 in
     omega (arith, bounded (order.0 + 1) frames given (omega (arith, there)) order.3, order.1)
 
-none_left : (n : ℕ) (given : List (List ℕ)) → length given ≤ n → drop n given ≡ []
-none_left zero [] less = refl
-none_left (suc n) [] less = refl
-none_left zero (frame ∷ given) less = absurd (omega (arith, less))
-none_left (suc n) (frame ∷ given) less = none_left n given (omega (arith, less))
-
 drop_first : (n : ℕ) (given : List (List ℕ)) (frame : List ℕ) → slice_get given n ≡ Some frame → drop n given ≡ frame ∷ drop (n + 1) given
-drop_first n [] frame there = absurd (cc there)
-drop_first zero (x ∷ given) frame there = let same : x ≡ frame = cc there in ap (λ (y : List ℕ). y ∷ given) same
-drop_first (suc n) (x ∷ given) frame there =
-    let next : suc n + 1 ≡ suc (n + 1) = omega arith in
-    drop_first n given frame there ∙ sym (ap (λ (k : ℕ). frame ∷ drop k (x ∷ given)) next)
+drop_first n given frame there =
+    grind (arith, drop-cons given n frame (slice_get_within given n frame there), get_or_from_slice_get given n frame frame there)
 
 in_order_all : (n : ℕ) (frames given : List (List ℕ)) → n ≤ length given → InOrder n frames given → length given ≤ n + length frames → frames ≡ drop n given
-in_order_all n [] given within order all = sym (none_left n given (omega (arith, all)))
+in_order_all n [] given within order all = sym (drop_all n given (omega (arith, all)))
 in_order_all n (frame ∷ frames) given within order all =
     let there = slice_get_within given order.0 frame order.2 in
     let rest = bounded (order.0 + 1) frames given (omega (arith, there)) order.3 in

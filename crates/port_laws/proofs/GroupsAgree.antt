@@ -5,7 +5,6 @@ use Rattle.runs.specs.Lawful.{Lawful, run_lawful}
 use Rattle.runs.specs.Run.{Run}
 use Rattle.channel_model.specs.Seeing.{Seen}
 use Rattle.cookie_copy.specs.Reach.{Reach}
-use Rattle.port_model.proofs.Moving.{before_keeps}
 use Rattle.port_model.specs.Fetching.{Fetched}
 use Rattle.port_model.specs.FrameLaws.{JoiningAt, MayJoin}
 use Rattle.port_model.specs.NetEndPutting.{answers, net_holds, net_opens, opened_by_put}
@@ -17,13 +16,13 @@ use Rattle.port_model.specs.NetEvent.{NetEvent}
 use Rattle.port_model.specs.NetLaneState.{NetLaneState, NetShape}
 use Rattle.port_model.specs.NetLaneStep.{NetLaneStep}
 use Rattle.port_model.specs.PortLog.{PortLog, after, members_after, no_events}
-use Rattle.port_model.specs.PortState.{PortEvent, PortState, PortStep, before, fresh_port}
+use Rattle.port_model.specs.PortState.{PortEvent, PortState, PortStep, fresh_port}
 use Rattle.port_model.proofs.Refuting.{none_some, of_some}
 use Rattle.port_laws.specs.NetFits.{NetFits}
 use Rattle.port_laws.proofs.EndMoves.{packet_goes}
 use Rattle.port_laws.proofs.Fitting.{BothFit}
 use Rattle.port_laws.proofs.LaneMoves.{fresh_fits}
-use Rattle.port_laws.proofs.PortRuns.{PortFits, before_fits, port_fits}
+use Rattle.port_laws.proofs.PortRuns.{PortFits, before_fits, before_guest, port_fits}
 
 -- A STEP of a guest leaves them
 abbrev Same : NetEndState → NetEndState → Type 0
@@ -67,11 +66,8 @@ record Agrees (s : PortState) (l : PortLog) : Type 0 where
   fits : PortFits s
   groups : GroupsAre s.lane l.members
 
-before_groups : (event : NetEvent) (s : PortState) → (before event s).lane.guest ≡ s.lane.guest
-before_groups event s = before_keeps (λ (x : PortState). x.lane.guest ≡ s.lane.guest) event s (λ frame frames. refl) refl
-
 port_joins_step : (s : PortState) (l : PortLog) (event : PortEvent) (t : PortState) → Agrees s l → PortStep s event t → JoiningAt l event × Agrees t (after l event)
-port_joins_step s l event t agrees step = grind (arith, may_join, port_fits, event_groups, before_fits, before_groups)
+port_joins_step s l event t agrees step = grind (arith, may_join, port_fits, event_groups, before_fits, before_guest)
 
 pub port_joins : (shape : NetShape) (events : List PortEvent) (s : PortState) → Run PortStep (fresh_port shape) events s → Lawful JoiningAt after (no_events shape) events
 port_joins shape events s run =

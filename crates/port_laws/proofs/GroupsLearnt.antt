@@ -1,7 +1,6 @@
 -- The switch's end learns a guest's groups as the guest tells them: each list goes on from the one before, and repeats none.
 use Rattle.std.proofs.Common.{◌≡◌, ℕ, suc, ◌≤◌, Bool, true, false, Some, List, [], ◌∷◌, ◌++◌, length, drop, refl, sym, subst, ap, ◌∙◌, arith, append_assoc}
-use Rattle.std.specs.Prelude.{◌||◌, nat_eq, take, if◌then◌else◌, ⊤}
-use Rattle.std.specs.Cmp.Lexicographic.{pointwise}
+use Rattle.std.specs.Prelude.{take, if◌then◌else◌, ⊤}
 use Rattle.std.proofs.lemmas.Bool.{le-leb}
 use Rattle.std.proofs.lemmas.List.{append-nil, length-take, take-append-drop}
 use Rattle.port_model.proofs.GroupSets.{same_address}
@@ -28,15 +27,9 @@ fresh_past first [] ys fresh = subst (λ (zs : List (List ℕ)). Fresh zs ys) (s
 fresh_past first (x ∷ xs) ys fresh = subst (λ (zs : List (List ℕ)). Fresh zs ys) (append_assoc first (x ∷ []) xs) (fresh_past (first ++ x ∷ []) xs ys fresh.1)
 
 -- THOSE THAT ARE KNOWN stay, and others are added in order
-or_first : (a b : Bool) → a ≡ true → (a || b) ≡ true
-or_first a b is = grind arith
-
-or_second : (a b : Bool) → b ≡ true → (a || b) ≡ true
-or_second a b is = grind arith
-
 in_it : (xs : List (List ℕ)) (address : List ℕ) (ys : List (List ℕ)) → is_in (xs ++ address ∷ ys) address ≡ true
-in_it [] address ys = or_first (pointwise nat_eq address address) _ (same_address address)
-in_it (x ∷ xs) address ys = or_second (pointwise nat_eq address x) _ (in_it xs address ys)
+in_it [] address ys = grind (arith, same_address)
+in_it (x ∷ xs) address ys = grind (arith, in_it xs address ys)
 
 with_known : (done rest : List (List ℕ)) → with_groups (done ++ rest) rest ≡ done ++ rest
 with_known done [] = refl

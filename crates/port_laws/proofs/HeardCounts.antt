@@ -1,5 +1,5 @@
 -- A message of its session that an end takes is counted by its log as the end counts it.
-use Rattle.std.proofs.Common.{◌≡◌, ℕ, zero, suc, ◌+◌, ◌-◌, ◌*◌, ◌≤◌, true, false, Option, Some, None, List, [], length, drop, refl, sym, subst, ap, ◌∙◌, arith, length-drop}
+use Rattle.std.proofs.Common.{◌≡◌, ℕ, zero, suc, ◌+◌, ◌*◌, ◌≤◌, true, false, Option, Some, None, List, [], length, drop, refl, sym, subst, ap, ◌∙◌, arith, length-drop}
 use Rattle.std.specs.List.{AllByRecursion}
 use Rattle.std.proofs.lemmas.List.{length-take}
 use Rattle.ldc_packet.specs.declared.packet.Subtype.{Subtype}

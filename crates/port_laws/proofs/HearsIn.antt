@@ -1,6 +1,6 @@
 -- What an end of a port in session makes of a packet: no message is whole by it, or it reads the one that is; or its link refuses the packet.
 use Rattle.std.proofs.Common.{◌≡◌, ℕ, ◌^◌, ◌<◌, ◌⊎◌, true, false, Option, Some, None, List, [], ◌∷◌, ◌++◌, length, inl, inr, refl, sym, subst, ap, ◌∙◌, arith}
-use Rattle.std.specs.Prelude.{Result, Ok, Err}
+use Rattle.std.specs.Prelude.{Result}
 use Rattle.ldc_link.specs.declared.phase.Role.{Role}
 use Rattle.ldc_link.specs.LinkState.{LinkState, cleared, is_up}
 use Rattle.ldc_link.specs.Taking.{Heard as HeardBy, LinkTake, TakesBytes, Unheard}
@@ -13,8 +13,6 @@ use Rattle.vio_handshake.proofs.Places.{AllSaid, Deal, handshake_at}
 use Rattle.vio_handshake.specs.declared.handshake.Handshake.{Handshake}
 use Rattle.vio_handshake.specs.declared.session.Offer.{Offer}
 use Rattle.vio_tag.proofs.Canonical.{canonical_spells}
-use Rattle.vio_tag.proofs.NoFault.{spelled_no_fault}
-use Rattle.vio_tag.proofs.Same.{spelled_once}
 use Rattle.vio_tag.specs.declared.message.Message.{Message}
 use Rattle.vio_tag.specs.declared.message.MsgBody.{MsgBody}
 use Rattle.vio_tag.specs.declared.message.MsgBody.TheVariants.{DringData, Mcast}
@@ -154,10 +152,6 @@ pub own_read : (d : Deal) (bytes : List ℕ) → IsOwn d bytes → d.sid < 2 ^ 3
 own_read d bytes own small long =
     own_body d.sid bytes own.message.subtype own.message.body own.body small long
     (own.is ∙ ap (λ (n : ℕ). canonical (record { subtype = own.message.subtype; sid = n; body = own.message.body })) own.sid)
-
-pub decodes_as : (bytes : List ℕ) (m : Message) (decoded : Result Message TagFault) → IsWellFormed m → SpellsMessage bytes m → Decodes bytes decoded → decoded ≡ Ok m
-decodes_as bytes m (Ok d) form spells decodes = ap Ok (spelled_once bytes d m decodes.message.0 form decodes.message.1 spells)
-decodes_as bytes m (Err fault) form spells decodes = grind (arith, spelled_no_fault)
 
 -- THE HANDSHAKE of an end in session: both rings have the session's number
 pub record AllAgreed (h : Handshake) (sid : ℕ) : Type 0 where

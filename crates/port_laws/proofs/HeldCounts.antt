@@ -1,5 +1,5 @@
 -- A message that an end forms is counted as said: the end notes it, and it is right to say.
-use Rattle.std.proofs.Common.{◌≡◌, ℕ, ◌+◌, ◌-◌, ◌^◌, ◌<◌, ◌≤◌, Bool, true, false, Option, Some, None, List, [], length, refl, subst, ap, arith}
+use Rattle.std.proofs.Common.{◌≡◌, ℕ, ◌+◌, ◌^◌, ◌<◌, ◌≤◌, Bool, true, false, Option, Some, None, List, [], length, refl, subst, ap, arith}
 use Rattle.std.specs.Prelude.{◌%◌, is_none}
 use Rattle.std.proofs.Math.Nat.{mod-lt}
 use Rattle.ldc_packet.specs.declared.packet.Subtype.{Subtype}

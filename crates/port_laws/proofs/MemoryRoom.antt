@@ -1,6 +1,6 @@
 -- The room of both memories of a port's lane for their rings.
-use Rattle.std.proofs.Common.{◌≡◌, ℕ, zero, suc, ◌+◌, ◌≤◌, List, length, drop, sym, subst, arith, length-append, length-drop}
-use Rattle.std.specs.Prelude.{◌*◌, ◌^◌, take}
+use Rattle.std.proofs.Common.{◌≡◌, ℕ, zero, suc, ◌+◌, ◌≤◌, List, length, sym, subst, arith, length-append, length-drop}
+use Rattle.std.specs.Prelude.{◌*◌, ◌^◌}
 use Rattle.std.proofs.lemmas.List.{length-take}
 use Rattle.vio_bytes.specs.Place.{put_at}
 use Rattle.vnet_msg.specs.Frames.{memory_pages}

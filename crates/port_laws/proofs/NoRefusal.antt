@@ -32,7 +32,7 @@ use Rattle.port_model.proofs.OwnResets.{net_resets_own}
 use Rattle.port_model.proofs.Refuting.{true_false}
 use Rattle.port_model.proofs.Ruling.{says_of}
 use Rattle.port_model.specs.EndLog.{SessionLog, range_of}
-use Rattle.port_model.specs.NetEndRule.{Fetches, NetRule, Takes, port_rule}
+use Rattle.port_model.specs.NetEndRule.{Takes, port_rule}
 use Rattle.port_model.specs.NetEndState.{NetEndState, NetSession}
 use Rattle.port_model.specs.NetEndStep.{NetEndStep, NetFails, Reset}
 use Rattle.port_model.specs.NetEndTaking.{NetTakes, Resets, first_undone}
@@ -72,6 +72,7 @@ use Rattle.port_laws.proofs.TookCounts.{free_empty, session_up}
 use Rattle.port_laws.proofs.WayMoves.{first_came, span, swap_ways}
 use Rattle.port_laws.proofs.WayRuns.{guest_open_up, new_taken, turn_at, ways_before}
 use Rattle.channel_laws.proofs.NextHeard.{own_gap}
+use Rattle.port_laws.proofs.PortCauses.{fails_takes, takes_rule}
 
 -- BOTH DIRECTIONS, as an end has them
 abbrev WaysAt : End → NetLaneState → PortLog → Type 0
@@ -84,11 +85,8 @@ ways_at A u l ways up other some = ways up other some
 ways_at B u l ways up other some =
     swap_ways l.shape.slots (said l.transcript.client) (heard l.transcript.client) (said l.transcript.server) (heard l.transcript.server) (or_new l.guest.session) (or_new l.hub.session) (ways up other some)
 
-spoken_info : (m : List ℕ) → envelope_at m ≡ 0x0042 → subtype_at m ≡ 1 → spoken m ≡ RangeInfo
-spoken_info m range info = ap (λ (n : ℕ). spoken_by n (subtype_at m)) range ∙ ap range_spoken info
-
-spoken_ack : (m : List ℕ) → envelope_at m ≡ 0x0042 → subtype_at m ≡ 2 → spoken m ≡ RangeAck
-spoken_ack m range ack = ap (λ (n : ℕ). spoken_by n (subtype_at m)) range ∙ ap range_spoken ack
+spoken_range : (m : List ℕ) (k : ℕ) → envelope_at m ≡ 0x0042 → subtype_at m ≡ k → spoken m ≡ range_spoken k
+spoken_range m k range is = ap (λ (n : ℕ). spoken_by n (subtype_at m)) range ∙ ap range_spoken is
 
 -- WHAT AN END EXPECTS of the message that comes
 expects_at : (shape : NetShape) (e : End) (u : PortState) (l : PortLog) (k : LinkState) (bytes : List ℕ) (p : NetSession) (sid : ℕ) → Finds shape u l → state_of e u.lane.wire.wire ≡ Up
@@ -123,14 +121,14 @@ expects_at shape e u l k bytes p sid finds up other_up session ways empty front 
       own = agreed.own;
       peer = agreed.peer;
       info = λ range info.
-          let comes = info_comes slots w v bytes (infos_in rest) (acks_in ways.going) (first_info (spoken_info bytes range info)) in (
+          let comes = info_comes slots w v bytes (infos_in rest) (acks_in ways.going) (first_info (spoken_range bytes 1 range info)) in (
             here.counts.peer.seq ∙ ap (λ (x : SessionLog). wrapped (x.asked + 1)) (sym mine) ∙ sym comes.seq,
             here.counts.peer.place ∙ ap (λ (n : ℕ). here.of_log.taken % n) (sym slots_is)
                 ∙ ap (λ (x : SessionLog). x.taken % slots) (sym mine) ∙ sym comes.start,
             comes.end,
           );
       ack = λ range ack.
-          let comes = ack_comes slots v w bytes (infos_in ways.going) (acks_in rest) (first_ack (spoken_ack bytes range ack)) in
+          let comes = ack_comes slots v w bytes (infos_in ways.going) (acks_in rest) (first_ack (spoken_range bytes 2 range ack)) in
           let some = finds.ready.sound.some_slots in
           let spans : v.seen + range_of slots bytes ≡ w.taken = span slots v.seen w.taken bytes (omega (arith, some, slots_is)) comes.some turn comes.start comes.end in
           let seen : p.seen ≡ v.seen = sym here.counts.ring.seen ∙ ap (λ (x : SessionLog). x.seen) (sym mine) in
@@ -147,10 +145,11 @@ expects_at shape e u l k bytes p sid finds up other_up session ways empty front 
     }
 
 -- A PACKET that an end in session doesn't take is a gap behind a loss
-guest_resets : (shape : NetShape) (u : PortState) (l : PortLog) (cause : Cause) (packet : List ℕ) (p : NetSession) → Finds shape u l → WaysStand u.lane l → ExchangeStands u.lane l → PartsSaid l.transcript.server
-    → u.lane.guest.session ≡ Some p → port_rule Initiator u.lane.guest (seen_at A u.lane) ≡ Takes packet → NetTakes Initiator u.lane.guest u.lane.guest_memory packet (Resets cause)
-    → IsGapBehindLoss u.lane.wire.lossy cause
-guest_resets shape u l cause packet p finds ways exchange parts session rule takes =
+end_resets : (shape : NetShape) (e : End) (u : PortState) (l : PortLog) (cause : Cause) (packet : List ℕ) (p : NetSession) → Finds shape u l
+    → WaysStand u.lane l → ExchangeStands u.lane l → ((d : End) → PartsSaid (transcript_of d l.transcript)) → (net_end e u.lane).session ≡ Some p
+    → port_rule (role_at e) (net_end e u.lane) (seen_at e u.lane) ≡ Takes packet
+    → NetTakes (role_at e) (net_end e u.lane) (memory_of e u.lane) packet (Resets cause) → IsGapBehindLoss u.lane.wire.lossy cause
+end_resets shape A u l cause packet p finds ways exchange parts session rule takes =
     let s : NetEndState = u.lane.guest in
     let says = says_of Initiator s (seen_at A u.lane) (Takes packet) rule in
     let up : IsUp A u.lane.wire.wire = up_of u.lane.wire.wire.end_a says.0.up in
@@ -165,7 +164,8 @@ guest_resets shape u l cause packet p finds ways exchange parts session rule tak
       | inr (inr refused) ↦
           let same : cause ≡ refused.cause = cc refused.is in
           subst (IsGapBehindLoss u.lane.wire.lossy) (sym same)
-          (link_refuses Initiator sides packet refused.cause one_side.meets.converse one_side.meets.links one_side.mine.link.follows parts up says.1 refused.takes)
+          (link_refuses Initiator _ packet _ one_side.meets.converse one_side.meets.links one_side.mine.link.follows (parts B) up
+          says.1 refused.takes)
       | inr (inl one) ↦
           let front : IsFront (heard (Heard packet ∷ l.transcript.client)) (said l.transcript.server) =
           (hears_next Initiator sides packet one.from one_side.meets.converse up says.1 one_side.mine.link.follows one.takes).front in
@@ -186,11 +186,7 @@ guest_resets shape u l cause packet p finds ways exchange parts session rule tak
           absurd (taken_in_session Initiator (record s { link = one.link }) p u.lane.guest_memory sid one.bytes own.message own.message.subtype own.message.body cause expects own.of own.spells refl refl
           (sym in_it.is))
     ]
-
-hub_resets : (shape : NetShape) (u : PortState) (l : PortLog) (cause : Cause) (packet : List ℕ) (q : NetSession) → Finds shape u l → WaysStand u.lane l → ExchangeStands u.lane l → PartsSaid l.transcript.client
-    → u.lane.hub.session ≡ Some q → port_rule Responder u.lane.hub (seen_at B u.lane) ≡ Takes packet → NetTakes Responder u.lane.hub u.lane.hub_memory packet (Resets cause)
-    → IsGapBehindLoss u.lane.wire.lossy cause
-hub_resets shape u l cause packet q finds ways exchange parts session rule takes =
+end_resets shape B u l cause packet q finds ways exchange parts session rule takes =
     let s : NetEndState = u.lane.hub in
     let says = says_of Responder s (seen_at B u.lane) (Takes packet) rule in
     let up : IsUp B u.lane.wire.wire = up_of u.lane.wire.wire.end_b says.0.up in
@@ -209,7 +205,8 @@ hub_resets shape u l cause packet q finds ways exchange parts session rule takes
       | inr (inr refused) ↦
           let same : cause ≡ refused.cause = cc refused.is in
           subst (IsGapBehindLoss u.lane.wire.lossy) (sym same)
-          (link_refuses Responder sides packet refused.cause one_side.meets.converse one_side.meets.links one_side.mine.link.follows parts up says.1 refused.takes)
+          (link_refuses Responder _ packet _ one_side.meets.converse one_side.meets.links one_side.mine.link.follows (parts A) up
+          says.1 refused.takes)
       | inr (inl one) ↦
           let front : IsFront (heard (Heard packet ∷ l.transcript.server)) (said l.transcript.client) =
           (hears_next Responder sides packet one.from one_side.meets.converse up says.1 one_side.mine.link.follows one.takes).front in
@@ -232,14 +229,6 @@ hub_resets shape u l cause packet q finds ways exchange parts session rule takes
     ]
 
 -- A STEP'S RESET
-takes_it : (e : End) (u : NetLaneState) (cause : Cause) (packet : List ℕ) (rule : NetRule) → port_rule (role_at e) (net_end e u) (seen_at e u) ≡ rule
-    → NetFails (role_at e) rule (net_end e u) (memory_of e u) (reach_of e u) cause (Some packet)
-    → (port_rule (role_at e) (net_end e u) (seen_at e u) ≡ Takes packet) × NetTakes (role_at e) (net_end e u) (memory_of e u) packet (Resets cause)
-takes_it e u cause packet (Takes bytes) is fails =
-    let same : bytes ≡ packet = cc fails.0 in (is ∙ ap (λ (xs : List ℕ). Takes xs) same, subst (λ (xs : List ℕ). NetTakes (role_at e) (net_end e u) (memory_of e u) xs (Resets cause)) same fails.1)
-takes_it e u cause packet (Fetches p activity) is fails = absurd (cc fails.0)
-takes_it e u cause packet _ is fails = absurd fails
-
 pub parts_at : (shape : NetShape) (s : PortState) (l : PortLog) (e : End) → IsNetShape shape → PortCounts shape s l → PartsSaid (transcript_of e l.transcript)
 parts_at shape s l A is counts =
     subst (λ (x : TranscriptLog). PartsSaid x.client) (spoken_behind shape counts.events ∙ sym (ap (λ (x : PortLog). x.transcript) counts.log))
@@ -270,17 +259,13 @@ step_resets shape s t l e cause packet lost is had clean step = by_packet packet
     lossy : l.wire.lossy ≡ u.lane.wire.lossy
     lossy = sym (ap (λ (x : WireLog). x.lossy) finds.ready.wire)
 
-    in_session : (x : End) → e ≡ x → (bytes : List ℕ) → packet ≡ Some bytes → (p : NetSession) → (net_end x u.lane).session ≡ Some p → IsOwnReset l.wire cause
-    in_session A at bytes carried p session =
-        let fails = subst (λ (o : Option (List ℕ)). NetFails Initiator (port_rule Initiator u.lane.guest (seen_at A u.lane)) u.lane.guest u.lane.guest_memory (reach_of A u.lane) cause o) carried
-        (subst (λ (y : End). NetFails (role_at y) (port_rule (role_at y) (net_end y u.lane) (seen_at y u.lane)) (net_end y u.lane) (memory_of y u.lane) (reach_of y u.lane) cause packet) at step.step.0) in
-        let it = takes_it A u.lane cause bytes (port_rule Initiator u.lane.guest (seen_at A u.lane)) refl fails in
-        own_gap l.wire u.lane.wire.lossy cause lossy (guest_resets shape u l cause bytes p finds ways exchange (parts_at shape s l B is had.ways.kept.counts) session it.0 it.1)
-    in_session B at bytes carried p session =
-        let fails = subst (λ (o : Option (List ℕ)). NetFails Responder (port_rule Responder u.lane.hub (seen_at B u.lane)) u.lane.hub u.lane.hub_memory (reach_of B u.lane) cause o) carried
-        (subst (λ (y : End). NetFails (role_at y) (port_rule (role_at y) (net_end y u.lane) (seen_at y u.lane)) (net_end y u.lane) (memory_of y u.lane) (reach_of y u.lane) cause packet) at step.step.0) in
-        let it = takes_it B u.lane cause bytes (port_rule Responder u.lane.hub (seen_at B u.lane)) refl fails in
-        own_gap l.wire u.lane.wire.lossy cause lossy (hub_resets shape u l cause bytes p finds ways exchange (parts_at shape s l A is had.ways.kept.counts) session it.0 it.1)
+    in_session : (bytes : List ℕ) → packet ≡ Some bytes → (p : NetSession) → (net_end e u.lane).session ≡ Some p → IsOwnReset l.wire cause
+    in_session bytes carried p session =
+        let own : NetEndState = net_end e u.lane in
+        let fails = subst (NetFails (role_at e) (port_rule (role_at e) own (seen_at e u.lane)) own _ _ cause) carried step.step.0 in
+        own_gap l.wire u.lane.wire.lossy cause lossy
+        (end_resets shape e u l cause bytes p finds ways exchange (λ d. parts_at shape s l d is had.ways.kept.counts) session
+        (takes_rule _ _ _ _ _ _ bytes fails) (fails_takes _ _ _ _ _ _ bytes fails))
 
     wire_clean : u.lane.wire.forged ≡ false
     wire_clean = ap (λ (x : WireLog). x.forged) finds.ready.wire ∙ clean
@@ -292,7 +277,7 @@ step_resets shape s t l e cause packet lost is had clean step = by_packet packet
         true_false (sym opened ∙ core_open e u.lane false (ap is_some none))
 
     by_session : (bytes : List ℕ) → packet ≡ Some bytes → (session : Option NetSession) → (net_end e u.lane).session ≡ session → IsOwnReset l.wire cause
-    by_session bytes carried (Some p) session = in_session e refl bytes carried p session
+    by_session bytes carried (Some p) session = in_session bytes carried p session
     by_session bytes carried None none =
         without bytes carried none
         (unforged_reset shape.entries (asks_of shape) (answers_of shape) (port_events had.ways.kept.counts.events) (lane_core u.lane) e cause packet lost (lane_core t.lane) (sizes_fit shape is)

@@ -1,6 +1,6 @@
 -- What an end of a port said and the other hasn't heard, with the message of its session that its link holds: each names the session's rings,
 -- or groups as its end may.
-use Rattle.std.proofs.Common.{Bool, List, None, Option, Some, [], arith, drop, length, length-append, refl, sym, true, ℕ, ◌++◌, ◌+◌, ◌<◌, ◌^◌, ◌∙◌, ◌∷◌, ◌≡◌, ◌≤◌, ◌⊎◌}
+use Rattle.std.proofs.Common.{Bool, List, None, Option, Some, [], arith, drop, length, length-append, refl, sym, ℕ, ◌++◌, ◌+◌, ◌<◌, ◌^◌, ◌∙◌, ◌∷◌, ◌≡◌, ◌≤◌, ◌⊎◌}
 use Rattle.std.specs.Prelude.{◌==◌, ⊤, take}
 use Rattle.std.proofs.lemmas.Bool.{eq-eqb, eqb-true}
 use Rattle.std.proofs.lemmas.List.{drop-append-le}

@@ -5,7 +5,6 @@ use Rattle.cookie_copy.specs.Reach.{Reach}
 use Rattle.runs.specs.Lawful.{log_of}
 use Rattle.runs.specs.Run.{Run}
 use Rattle.ldc_link.specs.declared.phase.Role.{Role}
-use Rattle.ldc_link.specs.declared.phase.Role.TheVariants.{Initiator, Responder}
 use Rattle.ldc_link.specs.LinkState.{LinkState, is_up}
 use Rattle.ldc_link.specs.Taking.{LinkTake}
 use Rattle.ldc_packet.specs.declared.packet.Subtype.{Subtype}
@@ -13,10 +12,8 @@ use Rattle.ldc_queue.specs.declared.end.End.{End}
 use Rattle.ldc_queue.specs.declared.end.End.TheVariants.{A, B}
 use Rattle.ldc_queue.specs.Transcript.{Utterance}
 use Rattle.vio_handshake.specs.declared.handshake.Phase.TheVariants.{Open}
-use Rattle.vio_handshake.specs.declared.session.Offer.{Offer}
 use Rattle.vio_handshake.specs.Rules.{HandshakeTake, handshake_take, sid_fault}
 use Rattle.vio_tag.specs.declared.cause.Cause.{Cause}
-use Rattle.vio_tag.specs.declared.cause.Cause.TheVariants as the_cause
 use Rattle.vio_tag.specs.declared.message.Message.{Message}
 use Rattle.vio_tag.specs.declared.message.MsgBody.{MsgBody}
 use Rattle.vio_tag.specs.declared.message.TagFault.{TagFault}
@@ -28,26 +25,23 @@ use Rattle.channel_laws.proofs.PacketCauses.{run_judges, take_refused}
 use Rattle.channel_laws.specs.LaneCore.{CoreEvent, CoreStep, transcript_behind}
 use Rattle.channel_laws.specs.PacketCauses.{Judges, LinkJudged, WholeJudged, fault_first, judged, judged_body, refused_by}
 use Rattle.channel_laws.specs.Standing.{EndStands}
-use Rattle.port_model.specs.NetEndRule.{Fetches, NetRule, Takes, port_rule}
+use Rattle.port_model.specs.NetEndRule.{NetRule, Takes, port_rule}
 use Rattle.port_model.specs.NetEndState.{NetEndState, NetSession}
-use Rattle.port_model.specs.NetEndStep.{NetFails, Reset, Took}
+use Rattle.port_model.specs.NetEndStep.{NetFails}
 use Rattle.port_model.specs.NetEndTaking.{GoesOn, HearsLink, HearsWhole, NetTake, NetTakes, Resets, by_handshake, hears_message, in_session, reads, sid_first, takes_done}
-use Rattle.port_model.specs.NetEvent.{NetEvent, Steps}
-use Rattle.port_model.specs.NetLaneState.{IsNetShape, NetLaneState, NetShape, fresh_net, memory_of, net_end, reach_of, role_at, seen_at}
-use Rattle.port_model.specs.NetLaneStep.{NetLaneStep}
-use Rattle.port_model.specs.Offers.{port_offer}
+use Rattle.port_model.specs.NetEvent.{NetEvent}
+use Rattle.port_model.specs.NetLaneState.{IsNetShape, NetLaneState, NetShape, memory_of, net_end, reach_of, role_at, seen_at}
 use Rattle.port_model.specs.PortLog.{after, no_events}
-use Rattle.port_model.specs.PortState.{OnLane, PortEvent, PortState, PortStep, before, fresh_port}
-use Rattle.port_laws.specs.NetCore.{core_events, fresh_net_core, lane_core, net_core_at}
+use Rattle.port_model.specs.PortState.{PortEvent, PortState, PortStep, before, fresh_port}
+use Rattle.port_laws.specs.NetCore.{fresh_net_core, lane_core, net_core_at}
 use Rattle.port_laws.specs.PortCore.{port_events}
 use Rattle.port_laws.specs.PortCauses.{own_cause, port_cause}
 use Rattle.port_laws.proofs.CoreLaws.{sizes_fit}
 use Rattle.port_laws.proofs.EndMoves.{risen_same}
-use Rattle.port_laws.proofs.LaneMoves.{fresh_run_core}
 use Rattle.port_laws.proofs.PortRuns.{before_core, fresh_port_core, spoken_behind}
 
 -- THE CAUSE of what an end makes of something
-abbrev cause_in : NetTake → Option Cause
+abbrev pub cause_in : NetTake → Option Cause
 cause_in (GoesOn s opens memory) = None
 cause_in (Resets cause) = Some cause
 
@@ -101,21 +95,17 @@ end_judges role begun s p turns memory packet take stands session takes =
     }
 
 -- a reset that carries a packet is for what the end takes
-fails_takes : (role : Role) (rule : NetRule) (s : NetEndState) (memory : List ℕ) (reach : Reach) (cause : Cause) (packet : List ℕ) → NetFails role rule s memory reach cause (Some packet)
-    → NetTakes role s memory packet (Resets cause)
-fails_takes role (Takes bytes) s memory reach cause packet fails =
-    let same : bytes ≡ packet = cc fails.0 in subst (λ (x : List ℕ). NetTakes role s memory x (Resets cause)) same fails.1
-fails_takes role (Fetches p activity) s memory reach cause packet fails = absurd (cc fails.0)
-fails_takes role _ s memory reach cause packet fails = absurd fails
+pub takes_rule : (role : Role) (rule : NetRule) (s : NetEndState) (memory : List ℕ) (reach : Reach) (cause : Cause) (packet : List ℕ)
+    → NetFails role rule s memory reach cause (Some packet) → rule ≡ Takes packet
+takes_rule role rule s memory reach cause packet fails = grind arith
+
+pub fails_takes : (role : Role) (rule : NetRule) (s : NetEndState) (memory : List ℕ) (reach : Reach) (cause : Cause) (packet : List ℕ)
+    → NetFails role rule s memory reach cause (Some packet) → NetTakes role s memory packet (Resets cause)
+fails_takes role rule s memory reach cause packet fails =
+    (subst (λ (x : NetRule). NetFails role x s memory reach cause (Some packet)) (takes_rule role rule s memory reach cause packet fails) fails).1
 
 -- BEHIND EVENTS of a channel that led to a lane
 module _ (shape : NetShape) (moves : List CoreEvent) (s : NetLaneState) (is : IsNetShape shape) (run : Run CoreStep (fresh_net_core shape) moves (lane_core s)) where
-  abbrev asks : Offer
-  asks = port_offer Initiator shape.address shape.slots
-
-  abbrev answers : Offer
-  answers = port_offer Responder shape.address shape.slots
-
   pub take_cause : (e : End) (session : NetSession) (packet : List ℕ) (take : NetTake) → (net_end e s).session ≡ Some session → NetTakes (role_at e) (net_end e s) (memory_of e s) packet take
       → cause_in take ≡ port_cause s e session (transcript_of e (transcript_behind moves)) packet
   take_cause A session packet take opened takes =
@@ -130,35 +120,16 @@ module _ (shape : NetShape) (moves : List CoreEvent) (s : NetLaneState) (is : Is
       → port_cause s e session (transcript_of e (transcript_behind moves)) packet ≡ Some cause
   fails_with e session cause packet opened fails = sym (take_cause e _ _ _ opened (fails_takes _ _ _ _ _ _ _ fails))
 
--- ALONG EVERY RUN
-pub takes_without : (shape : NetShape) (events : List NetEvent) (s : NetLaneState) (e : End) (session : NetSession) (packet : List ℕ) (opens : Bool) (t : NetLaneState) → IsNetShape shape
-    → Run NetLaneStep (fresh_net shape) events s → (net_end e s).session ≡ Some session → NetLaneStep s (Steps e (Took packet opens)) t
-    → port_cause s e session (transcript_of e (transcript_behind (core_events events))) packet ≡ None
-takes_without shape events s e session packet opens t is run opened step =
-    sym (take_cause shape (core_events events) s is (fresh_run_core shape events s run) e session packet (GoesOn step.left.end opens step.left.own) opened step.step.1)
+-- BEHIND A RUN of a port with its out queue
+module _ (shape : NetShape) (events : List PortEvent) (s : PortState) (is : IsNetShape shape) (run : Run PortStep (fresh_port shape) events s) where
+  pub moves_before : (event : NetEvent) → Run CoreStep (fresh_net_core shape) (port_events events) (lane_core (before event s).lane)
+  moves_before event =
+      subst (Run CoreStep (fresh_net_core shape) (port_events events)) (sym (before_core event s)) (fresh_port_core shape events s run)
 
-pub resets_with : (shape : NetShape) (events : List NetEvent) (s : NetLaneState) (e : End) (session : NetSession) (cause : Cause) (packet : List ℕ) (lost : ℕ) (t : NetLaneState) → IsNetShape shape
-    → Run NetLaneStep (fresh_net shape) events s → (net_end e s).session ≡ Some session → NetLaneStep s (Steps e (Reset cause (Some packet) lost)) t
-    → port_cause s e session (transcript_of e (transcript_behind (core_events events))) packet ≡ Some cause
-resets_with shape events s e session cause packet lost t is run opened step =
-    fails_with shape (core_events events) s is (fresh_run_core shape events s run) e session cause packet opened step.step.0
-
--- and along those of a port with its out queue
-pub port_takes_without : (shape : NetShape) (events : List PortEvent) (s : PortState) (e : End) (session : NetSession) (packet : List ℕ) (opens : Bool) (t : PortState) → IsNetShape shape
-    → Run PortStep (fresh_port shape) events s → (net_end e (before (Steps e (Took packet opens)) s).lane).session ≡ Some session → PortStep s (OnLane (Steps e (Took packet opens))) t
-    → port_cause (before (Steps e (Took packet opens)) s).lane e session (transcript_of e (log_of after (no_events shape) events).transcript) packet ≡ None
-port_takes_without shape events s e session packet opens t is run opened step =
-    let u : PortState = before (Steps e (Took packet opens)) s in
-    let moved_run = subst (Run CoreStep (fresh_net_core shape) (port_events events)) (sym (before_core (Steps e (Took packet opens)) s)) (fresh_port_core shape events s run) in
-    subst (λ (l : TranscriptLog). port_cause u.lane e session (transcript_of e l) packet ≡ None) (spoken_behind shape events)
-    (sym (take_cause shape (port_events events) u.lane is moved_run e session packet (GoesOn step.1.left.end opens step.1.left.own) opened step.1.step.1))
-
-pub port_resets_with : (shape : NetShape) (events : List PortEvent) (s : PortState) (e : End) (session : NetSession) (cause : Cause) (packet : List ℕ) (lost : ℕ) (t : PortState) → IsNetShape shape
-    → Run PortStep (fresh_port shape) events s → (net_end e (before (Steps e (Reset cause (Some packet) lost)) s).lane).session ≡ Some session
-    → PortStep s (OnLane (Steps e (Reset cause (Some packet) lost))) t
-    → port_cause (before (Steps e (Reset cause (Some packet) lost)) s).lane e session (transcript_of e (log_of after (no_events shape) events).transcript) packet ≡ Some cause
-port_resets_with shape events s e session cause packet lost t is run opened step =
-    let u : PortState = before (Steps e (Reset cause (Some packet) lost)) s in
-    let moved_run = subst (Run CoreStep (fresh_net_core shape) (port_events events)) (sym (before_core (Steps e (Reset cause (Some packet) lost)) s)) (fresh_port_core shape events s run) in
-    subst (λ (l : TranscriptLog). port_cause u.lane e session (transcript_of e l) packet ≡ Some cause) (spoken_behind shape events)
-    (fails_with shape (port_events events) u.lane is moved_run e session cause packet opened step.1.step.0)
+  pub cause_before : (event : NetEvent) (e : End) (p : NetSession) (packet : List ℕ) (take : NetTake)
+      → (net_end e (before event s).lane).session ≡ Some p
+      → NetTakes (role_at e) (net_end e (before event s).lane) (memory_of e (before event s).lane) packet take
+      → port_cause (before event s).lane e p (transcript_of e (log_of after (no_events shape) events).transcript) packet ≡ cause_in take
+  cause_before event e p packet take opened takes =
+      subst (λ (l : TranscriptLog). port_cause (before event s).lane e p (transcript_of e l) packet ≡ cause_in take) (spoken_behind shape events)
+      (sym (take_cause shape (port_events events) (before event s).lane is (moves_before event) e p packet take opened takes))

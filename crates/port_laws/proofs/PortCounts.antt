@@ -1,5 +1,5 @@
 -- Along every run of a port both ends are counted by its log as they count themselves.
-use Rattle.std.proofs.Common.{◌≡◌, ℕ, ◌+◌, ◌≤◌, Bool, true, false, Option, Some, List, [], ◌∷◌, ◌++◌, length, drop, refl, sym, subst, ap, ◌∙◌, arith, append_assoc, length-append}
+use Rattle.std.proofs.Common.{◌≡◌, ℕ, ◌≤◌, Bool, true, false, Option, Some, List, [], ◌∷◌, ◌++◌, length, drop, refl, sym, subst, ap, ◌∙◌, arith, append_assoc, length-append}
 use Rattle.std.specs.Prelude.{is_some, nat_lt, ⊤}
 use Rattle.std.proofs.lemmas.Bool.{and_parts, ltb-true}
 use Rattle.std.proofs.lemmas.List.{append-nil, drop-append-le}
@@ -22,7 +22,7 @@ use Rattle.port_model.specs.EndLog.{EndLog, SessionLog, gives_log, said_in}
 use Rattle.port_model.specs.FramesStand.{FramesStand}
 use Rattle.port_model.specs.NetEndState.{NetEndState, NetSession, with_frame}
 use Rattle.port_model.specs.NetEndStep.{BadLength, Full, Given, Joining, NetAnswer, NetGives, NetJoins, Queued, untold}
-use Rattle.port_model.specs.NetEvent.{Asked, Gives, Injects, Joins, NetEvent, Pokes, Steps, Ticked, on_wire}
+use Rattle.port_model.specs.NetEvent.{Asked, Gives, Joins, NetEvent, Steps, Ticked, on_wire}
 use Rattle.port_model.specs.NetLaneState.{IsNetShape, NetLaneState, NetShape, seen_at}
 use Rattle.port_model.specs.NetLaneStep.{NetLaneStep, moved_on}
 use Rattle.port_model.specs.Offers.{port_offer}
@@ -39,7 +39,7 @@ use Rattle.port_laws.proofs.GroupsAgree.{event_groups}
 use Rattle.channel_laws.proofs.HandshakeFitting.{EndFits, fits_run}
 use Rattle.port_laws.proofs.HeldCounts.{SlotsFit}
 use Rattle.port_laws.proofs.OwedSays.{EndOwes, owes_run}
-use Rattle.port_laws.proofs.PortRuns.{before_core, before_fits, fresh_port_core, port_fits_behind, spoken_behind}
+use Rattle.port_laws.proofs.PortRuns.{before_core, before_fits, before_guest, fresh_port_core, port_fits_behind, spoken_behind}
 use Rattle.port_laws.proofs.StepCounts.{Acting, begins_counts, step_counts}
 
 abbrev pub queue_of : End → PortState → List (List ℕ)
@@ -92,9 +92,6 @@ moves_ready false queue slots s l takes is counts stands = record { counts = cou
 pub hub_ready : (slots : ℕ) (event : NetEvent) (s : PortState) (l : EndLog) → EndCounts Responder slots s.queue s.lane.hub l → FramesStand s.lane.hub → HubReady slots (before event s) l
 hub_ready slots (Steps B answer) s l counts stands = moves_ready (takes_more s.lane.hub) s.queue slots s l refl refl counts stands
 hub_ready slots _ s l counts stands = record { counts = counts; stands = stands }
-
-pub before_guest : (event : NetEvent) (s : PortState) → (before event s).lane.guest ≡ s.lane.guest
-before_guest event s = before_keeps (λ (x : PortState). x.lane.guest ≡ s.lane.guest) event s (λ frame frames. refl) refl
 
 pub before_wire : (event : NetEvent) (s : PortState) → (before event s).lane.wire ≡ s.lane.wire
 before_wire event s = before_keeps (λ (x : PortState). x.lane.wire ≡ s.lane.wire) event s (λ frame frames. refl) refl
@@ -222,9 +219,7 @@ guest_event shape u l (Ticked queued lost) t ready step =
     subst (GuestIs shape (end_after A l (Ticked queued lost))) (sym step.1.1) (begins_counts Initiator shape.slots [] u.lane.guest l.guest lost ready.guest ready.stands.0 step.1.0)
 guest_event shape u l (Gives A given) t ready step = gives_counts Initiator shape.slots u.lane.guest given t.guest l.guest ready.guest step.0
 guest_event shape u l (Joins joining) t ready step = joins_counts shape.slots u.lane.guest joining t.guest l.guest ready.guest step.0
-guest_event shape u l (Injects e packet) t ready step = subst (GuestIs shape l.guest) (sym step.2) ready.guest
-guest_event shape u l (Pokes A at bytes) t ready step = subst (GuestIs shape l.guest) (sym step.1) ready.guest
-guest_event shape u l _ t ready step = subst (GuestIs shape l.guest) (sym step.1) ready.guest
+guest_event shape u l _ t ready step = grind arith
 
 hub_event : (shape : NetShape) (u : PortState) (l : PortLog) (event : NetEvent) (t : NetLaneState) → OfQueue u event → Ready shape u l → NetLaneStep u.lane event t → HubIs shape u.queue (end_after B l event) t
 hub_event shape u l (Steps B answer) t of_queue ready step =
@@ -236,9 +231,7 @@ hub_event shape u l (Asked B lost) t of_queue ready step =
     subst (HubIs shape u.queue (end_after B l (Asked B lost))) (sym step.1) (begins_counts Responder shape.slots u.queue u.lane.hub l.hub lost ready.hub ready.stands.1 step.0)
 hub_event shape u l (Ticked queued lost) t of_queue ready step = subst (HubIs shape u.queue l.hub) (sym step.1.1) ready.hub
 hub_event shape u l (Gives B given) t of_queue ready step = absurd of_queue
-hub_event shape u l (Injects e packet) t of_queue ready step = subst (HubIs shape u.queue l.hub) (sym step.2) ready.hub
-hub_event shape u l (Pokes A at bytes) t of_queue ready step = subst (HubIs shape u.queue l.hub) (sym step.1) ready.hub
-hub_event shape u l _ t of_queue ready step = subst (HubIs shape u.queue l.hub) (sym step.1) ready.hub
+hub_event shape u l _ t of_queue ready step = grind arith
 
 -- what an event may be by the queue stays so behind the frame that moved
 pub before_queue : (event : NetEvent) (s : PortState) → OfQueue s event → OfQueue (before event s) event

@@ -50,8 +50,8 @@ use Rattle.port_laws.specs.PortCauses.{ack_cause, info_cause, own_cause, session
 use Rattle.port_laws.proofs.CoreLaws.{sizes_fit}
 use Rattle.port_laws.proofs.Fitting.{BothFit}
 use Rattle.port_laws.proofs.LaneMoves.{event_core_step}
-use Rattle.port_laws.proofs.PortCauses.{fails_with}
-use Rattle.port_laws.proofs.PortRuns.{before_core, before_fits, fresh_port_core, lawful_along, port_fits_behind, spoken_behind}
+use Rattle.port_laws.proofs.PortCauses.{fails_with, moves_before}
+use Rattle.port_laws.proofs.PortRuns.{before_fits, lawful_along, port_fits_behind, spoken_behind}
 use Rattle.port_laws.proofs.SlotsFound.{Fits, fetched_fits}
 
 -- THE CAUSES of a session, by its messages
@@ -156,14 +156,14 @@ module _ (shape : NetShape) (is : IsNetShape shape) (moves : List CoreEvent) (u 
   step_says cause (Some packet) lost step = carried_says cause packet lost (net_end e u).session refl step
 
 -- EACH EVENT
-abbrev BothSay : TranscriptLog → WireEvent → Type 0
+abbrev pub BothSay : TranscriptLog → WireEvent → Type 0
 BothSay l event = WireResetAt l event × WireGapAt l event
 
 event_says : (shape : NetShape) (is : IsNetShape shape) (events : List PortEvent) (s : PortState) (event : NetEvent) (t : PortState) → Run PortStep (fresh_port shape) events s
     → NetLaneStep (before event s).lane event t.lane → OfWire (BothSay (transcript_behind (port_events events))) (OnLane event)
 event_says shape is events s (Steps e (Reset cause packet lost)) t run step =
     step_says shape is (port_events events) (before (Steps e (Reset cause packet lost)) s).lane t.lane
-    (subst (Run CoreStep (fresh_net_core shape) (port_events events)) (sym (before_core (Steps e (Reset cause packet lost)) s)) (fresh_port_core shape events s run))
+    (moves_before shape events s is run (Steps e (Reset cause packet lost)))
     (before_fits (Steps e (Reset cause packet lost)) s (port_fits_behind shape events s run)) e cause packet lost step
 event_says shape is events s (Steps e (Published id)) t run step = tt
 event_says shape is events s (Steps e (Frame frame)) t run step = tt
@@ -177,20 +177,13 @@ says_at : (shape : NetShape) (is : IsNetShape shape) (events : List PortEvent) (
 says_at shape is events s event t run step = grind (arith, spoken_behind, event_says)
 
 -- ALONG EVERY RUN
-resets_if : (l : TranscriptLog) (event : PortEvent) → OfWire (BothSay l) event → OfWire (WireResetAt l) event
-resets_if l event both = grind arith
+if_wire : (P Q : WireEvent → Type 0) (event : PortEvent) → ((x : WireEvent) → P x → Q x) → OfWire P event → OfWire Q event
+if_wire P Q event means holds = grind arith
 
-gaps_if : (l : TranscriptLog) (event : PortEvent) → OfWire (BothSay l) event → OfWire (WireGapAt l) event
-gaps_if l event both = grind arith
-
-pub port_resets_say : (shape : NetShape) (events : List PortEvent) (s : PortState) → IsNetShape shape → Run PortStep (fresh_port shape) events s
-    → Lawful (λ (l : PortLog) (event : PortEvent). OfWire (WireResetAt l.transcript) event) after (no_events shape) events
-port_resets_say shape events s is run =
-    lawful_along shape (λ (l : PortLog) (event : PortEvent). OfWire (WireResetAt l.transcript) event)
-    (λ before_events x event y run_x step. resets_if (log_of after (no_events shape) before_events).transcript event (says_at shape is before_events x event y run_x step)) events s run
-
-pub port_gaps_say : (shape : NetShape) (events : List PortEvent) (s : PortState) → IsNetShape shape → Run PortStep (fresh_port shape) events s
-    → Lawful (λ (l : PortLog) (event : PortEvent). OfWire (WireGapAt l.transcript) event) after (no_events shape) events
-port_gaps_say shape events s is run =
-    lawful_along shape (λ (l : PortLog) (event : PortEvent). OfWire (WireGapAt l.transcript) event)
-    (λ before_events x event y run_x step. gaps_if (log_of after (no_events shape) before_events).transcript event (says_at shape is before_events x event y run_x step)) events s run
+pub port_resets_so : (May : TranscriptLog → WireEvent → Type 0) → ((l : TranscriptLog) (x : WireEvent) → BothSay l x → May l x)
+    → (shape : NetShape) (events : List PortEvent) (s : PortState) → IsNetShape shape → Run PortStep (fresh_port shape) events s
+    → Lawful (λ (l : PortLog) (event : PortEvent). OfWire (May l.transcript) event) after (no_events shape) events
+port_resets_so May means shape events s is run =
+    lawful_along shape (λ (l : PortLog) (event : PortEvent). OfWire (May l.transcript) event)
+    (λ xs x event y ran step. if_wire _ _ event (means (log_of after (no_events shape) xs).transcript) (says_at shape is xs x event y ran step))
+    events s run

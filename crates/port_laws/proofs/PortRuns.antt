@@ -20,6 +20,9 @@ use Rattle.port_laws.proofs.LaneMoves.{event_core_step, fresh_fits, still, wire_
 pub before_core : (event : NetEvent) (s : PortState) → lane_core (before event s).lane ≡ lane_core s.lane
 before_core event s = before_keeps (λ (x : PortState). lane_core x.lane ≡ lane_core s.lane) event s (λ frame frames. refl) refl
 
+pub before_guest : (event : NetEvent) (s : PortState) → (before event s).lane.guest ≡ s.lane.guest
+before_guest event s = before_keeps (λ (x : PortState). x.lane.guest ≡ s.lane.guest) event s (λ frame frames. refl) refl
+
 abbrev pub PortFits : PortState → Type 0
 PortFits s = BothFit s.lane
 

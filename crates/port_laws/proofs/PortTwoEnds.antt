@@ -23,7 +23,7 @@ use Rattle.port_model.specs.PortLog.{PortLog}
 use Rattle.port_model.specs.PortState.{PortState}
 use Rattle.port_laws.specs.PortCore.{port_core, port_events}
 use Rattle.port_laws.proofs.CoreLaws.{offers_match, sizes_fit}
-use Rattle.port_laws.proofs.PeerOpens.{InAll, PeerIn, TwoEnds, closed_short, least_heard, least_seven, open_long, peer_is_up, peer_open, row}
+use Rattle.port_laws.proofs.PeerOpens.{InAll, TwoEnds, closed_short, least_heard, least_seven, open_long, peer_is_up, peer_open, row}
 use Rattle.port_laws.proofs.PortCounts.{PortCounts}
 use Rattle.port_laws.proofs.PortRuns.{fresh_port_core, logs_same}
 
@@ -85,12 +85,10 @@ pub record PeerOpen (e : End) (c : LaneCore) : Type 0 where
 
 pub many_open : (shape : NetShape) (c : LaneCore) (l : PortLog) (e : End) → PortTwoEnds shape c l → IsUp e c.wire.wire → 7 ≤ length (heard (transcript_of e l.transcript)) → PeerOpen e c
 many_open shape c l A two_ends up many =
-    let there : PeerIn (sides_of c l.transcript) =
-    peer_open (asks_of shape) (answers_of shape) Initiator (sides_of c l.transcript) (two_ends.two_ends A) up (omega (arith, many, least_seven Initiator)) in
+    let there = peer_open _ _ Initiator (sides_of c l.transcript) (two_ends.two_ends A) up (omega (arith, many, least_seven Initiator)) in
     record { up = there.up; opened = there.opened }
 many_open shape c l B two_ends up many =
-    let there : PeerIn (swapped (sides_of c l.transcript)) =
-    peer_open (asks_of shape) (answers_of shape) Responder (swapped (sides_of c l.transcript)) (two_ends.two_ends B) up (omega (arith, many, least_seven Responder)) in
+    let there = peer_open _ _ Responder (swapped (sides_of c l.transcript)) (two_ends.two_ends B) up (omega (arith, many, least_seven Responder)) in
     record { up = there.up; opened = there.opened }
 
 -- the guest of a switch's end in session is in session, and the peer of a guest in session is up

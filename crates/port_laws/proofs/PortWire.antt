@@ -1,6 +1,6 @@
 -- What an event of a port leaves of its wire: forging isn't undone, no step of an end forges or loses anything, and a calm one leaves the wire
 -- as it was. And what a frame that the switch puts into the out queue adds to what remains.
-use Rattle.std.proofs.Common.{◌≡◌, ℕ, ◌+◌, ◌≤◌, Bool, false, Option, List, length, ap, ◌∙◌, arith, length-append, sym}
+use Rattle.std.proofs.Common.{◌≡◌, ℕ, ◌+◌, ◌≤◌, Bool, false, Option, List, ap, ◌∙◌, arith, length-append, sym}
 use Rattle.ldc_link.specs.declared.phase.Role.TheVariants.{Responder}
 use Rattle.ldc_queue.specs.declared.end.ChannelState.{ChannelState}
 use Rattle.ldc_queue.specs.declared.end.ChannelState.TheVariants.{Up}

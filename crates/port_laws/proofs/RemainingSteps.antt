@@ -1,5 +1,5 @@
 -- What remains on a port falls by each step of an end that takes nothing, and a calm one doesn't raise it.
-use Rattle.std.proofs.Common.{◌≡◌, ◌≢◌, ℕ, ◌+◌, ◌-◌, ◌*◌, ◌<◌, ◌≤◌, Bool, true, false, None, List, [], ◌∷◌, ◌++◌, length, drop, refl, sym, subst, ap, ◌∙◌, arith, length-append, length-drop}
+use Rattle.std.proofs.Common.{◌≡◌, ◌≢◌, ℕ, ◌+◌, ◌-◌, ◌*◌, ◌<◌, ◌≤◌, Bool, true, false, None, List, [], ◌∷◌, ◌++◌, length, refl, sym, subst, ap, ◌∙◌, arith, length-append, length-drop}
 use Rattle.cookie_copy.specs.Faults.{is_up}
 use Rattle.ldc_link.specs.declared.phase.Role.{Role}
 use Rattle.ldc_link.specs.declared.phase.Role.TheVariants.{Initiator, Responder}
@@ -40,7 +40,7 @@ use Rattle.port_laws.proofs.PortCounts.{Ready, port_counts, queue_of, ready_befo
 use Rattle.port_laws.proofs.RemainingEnds.{Lowers, blocks_lower, publishes_lower, sends_lower, up_left}
 use Rattle.port_laws.proofs.RuleFrames.{end_acts}
 use Rattle.port_laws.proofs.LaneMoves.{holds_up, up_of, not_up}
-use Rattle.port_laws.proofs.RuleUnforged.{reach_memory}
+use Rattle.port_laws.proofs.RingActs.{reach_memory}
 
 -- THE FRAME THAT MOVES from the queue counts as before
 moved_end : (x : ChannelState) (memory : List ℕ) (s : NetEndState) (frame : List ℕ) (more queued : ℕ) → length (s.frames ++ frame ∷ []) + more ≡ length s.frames + queued

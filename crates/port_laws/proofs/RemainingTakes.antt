@@ -1,5 +1,5 @@
 -- What remains on a port that nobody forged falls by each packet that an end takes.
-use Rattle.std.proofs.Common.{◌≡◌, ℕ, ◌+◌, ◌-◌, ◌*◌, ◌<◌, ◌≤◌, Bool, false, Some, None, List, length, drop, sym, subst, ap, ◌∙◌, arith, length-drop}
+use Rattle.std.proofs.Common.{◌≡◌, ℕ, ◌+◌, ◌*◌, ◌<◌, ◌≤◌, Bool, false, Some, None, List, length, sym, subst, ap, ◌∙◌, arith, length-drop}
 use Rattle.std.specs.Prelude.{⊤}
 use Rattle.ldc_link.specs.declared.phase.Role.{Role}
 use Rattle.ldc_link.specs.declared.phase.Role.TheVariants.{Initiator, Responder}
@@ -49,8 +49,8 @@ use Rattle.port_laws.proofs.RemainingSteps.{left_at, more_at, ready_here, room_a
 use Rattle.port_laws.proofs.RuleFrames.{end_acts}
 use Rattle.port_laws.proofs.TookWhat.{Fails, Opens, Reads, Stays, TookWhat, took_what}
 use Rattle.port_laws.proofs.EndMoves.{one_most}
-use Rattle.port_laws.proofs.RuleUnforged.{reach_memory}
 use Rattle.port_laws.proofs.StepCounts.{counts_stand}
+use Rattle.port_laws.proofs.RingActs.{reach_memory}
 
 -- WHAT AN END MAY OWE for a packet that it takes: the switch's end an answer to groups
 abbrev slack : Role → ℕ

@@ -1,5 +1,5 @@
 -- What a step of an end leaves of both rings, and of what both logs say, where nobody forged: one proof for either end.
-use Rattle.std.proofs.Common.{◌≡◌, ◌≢◌, ℕ, ◌+◌, ◌≤◌, Bool, true, false, Option, Some, None, List, [], ◌∷◌, length, refl, sym, ap, ◌∙◌, subst, arith}
+use Rattle.std.proofs.Common.{◌≡◌, ◌≢◌, ℕ, ◌+◌, ◌≤◌, Bool, true, false, Option, Some, None, List, [], ◌∷◌, refl, sym, ap, ◌∙◌, subst, arith}
 use Rattle.std.specs.Prelude.{◌/◌, ◌%◌, is_some, if◌then◌else◌, slice_get, slice_index_or}
 use Rattle.std.proofs.lemmas.List.FromFn.{get_or-map-range_with_len, length-map-range_with_len}
 use Rattle.std.proofs.lemmas.List.{get_or_past}
@@ -113,9 +113,6 @@ pub record OpenBoth (s : NetEndState) (l : EndLog) : Type 0 where
 pub open_both : (role : Role) (slots : ℕ) (queue : List (List ℕ)) (s : NetEndState) (l : EndLog) → EndCounts role slots queue s l → OpenBoth s l
 open_both role slots queue s l counts = grind (arith, shut_counts, open_counts, none_some)
 
-some_session : (session : Option NetSession) → session ≡ None → is_some session ≡ false
-some_session session is = ap is_some is
-
 -- NO SESSION OPENS where one is open
 step_shut : (role : Role) (slots : ℕ) (queue : List (List ℕ)) (s : NetEndState) (l : EndLog) (turns : List Utterance) (at : Seen) (memory : List ℕ) (reach : Reach) (answer : NetAnswer) (left : NetLeft)
     → Acting role slots queue s l turns → NetEndStep role s at memory reach answer left → opens_by answer ≡ true → s.session ≡ None
@@ -159,12 +156,12 @@ shut_peer shape A u l two_ends rings none =
     none_taken Responder l.transcript.server u.wire.wire.end_b l.hub.session rings.hub_spoke
     (λ up v is asked.
     let there = many_open shape (lane_core u) l B two_ends up ((spoke_some Responder l.transcript.server l.hub.session v is rings.hub_spoke).many asked) in
-    true_false (sym there.opened ∙ some_session u.guest.session none))
+    true_false (sym there.opened ∙ ap is_some none))
 shut_peer shape B u l two_ends rings none =
     none_taken Initiator l.transcript.client u.wire.wire.end_a l.guest.session rings.guest_spoke
     (λ up v is asked.
     let there = many_open shape (lane_core u) l A two_ends up ((spoke_some Initiator l.transcript.client l.guest.session v is rings.guest_spoke).many asked) in
-    true_false (sym there.opened ∙ some_session u.hub.session none))
+    true_false (sym there.opened ∙ ap is_some none))
 
 -- AN END REACHES ITS PEER'S RING where both are in session
 table_within : (pages index : ℕ) → index + 1 ≤ pages → slice_index_or (own_table pages) index None ≡ Some (own_entry index)
@@ -244,6 +241,9 @@ end_frames shape B u l finds n frame get =
 -- the end's own state, and that of what its channel sees
 pub core_open : (e : End) (u : NetLaneState) (b : Bool) → is_some (net_end e u).session ≡ b → (end_of e (lane_core u)).is_open ≡ b
 core_open e u b is = grind arith
+
+pub reach_memory : (e : End) (u : NetLaneState) → (reach_of e u).memory ≡ memory_of (peer_of e) u
+reach_memory e u = grind arith
 
 pub seen_state : (e : End) (u : NetLaneState) → (seen_at e u).state ≡ state_of e u.wire.wire
 seen_state e u = grind arith

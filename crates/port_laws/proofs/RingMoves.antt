@@ -17,7 +17,6 @@ use Rattle.vio_tag.specs.declared.cause.Cause.{Cause}
 use Rattle.vnet_msg.proofs.FrameSlots.{long}
 use Rattle.vnet_msg.specs.Descriptor.{canonical}
 use Rattle.vnet_msg.specs.Frames.{IsFrame, buffer_place, frame_buffer, frame_desc, moved_size}
-use Rattle.map_table.specs.Cookies.{cookies_bytes}
 use Rattle.port_model.specs.NetEndPutting.{cleared_ring}
 use Rattle.port_model.specs.NetEndStep.{published_memory}
 use Rattle.port_model.specs.NetEndTaking.{first_undone, freed, slot_state}

@@ -30,22 +30,21 @@ use Rattle.vio_tag.specs.Spelling.{SpellsBody, SpellsMessage, envelope_code}
 use Rattle.channel_model.specs.Messages.{end_of, ended_by, is_range, range_if, range_in}
 use Rattle.channel_model.specs.Ranges.{is_other, wrapped}
 use Rattle.channel_model.specs.Sayings.{count_heard, half_heard}
-use Rattle.channel_model.specs.TranscriptLog.{TranscriptLog, transcript_of}
+use Rattle.channel_model.specs.TranscriptLog.{transcript_of}
 use Rattle.channel_model.specs.WireAt.{counts_next}
 use Rattle.channel_laws.proofs.Resets.{reset_says}
 use Rattle.channel_laws.specs.LaneCore.{CoreEvent, CoreStep, end_of as core_of, transcript_behind}
 use Rattle.channel_laws.specs.PacketCauses.{body_cause, decoded_cause, fault_cause, message_cause, mode_cause, names_mode, number_cause, packet_cause, part_cause}
 use Rattle.channel_laws.specs.Resetting.{ResetsFor}
-use Rattle.cookie_copy.specs.Reach.{Reach}
 use Rattle.port_model.proofs.Refuting.{none_some, true_false}
 use Rattle.port_model.proofs.Ruling.{says_of}
 use Rattle.port_model.proofs.SlotsLooked.{first_in_order}
 use Rattle.port_model.specs.EndLog.{SessionLog, range_of}
 use Rattle.port_model.specs.FrameLaws.{Asks, AsksAt, InSession, IsActive, NamesUndone, SomeMessage, UndoneAt}
-use Rattle.port_model.specs.NetEndRule.{NetRule, Takes, port_rule}
+use Rattle.port_model.specs.NetEndRule.{Takes, port_rule}
 use Rattle.port_model.specs.NetEndState.{NetEndState, NetSession}
-use Rattle.port_model.specs.NetEndStep.{NetFails, Reset, Took}
-use Rattle.port_model.specs.NetEndTaking.{GoesOn, first_undone}
+use Rattle.port_model.specs.NetEndStep.{Reset, Took}
+use Rattle.port_model.specs.NetEndTaking.{GoesOn, Resets, first_undone}
 use Rattle.port_model.specs.NetEvent.{NetEvent, Steps}
 use Rattle.port_model.specs.NetLaneState.{IsNetShape, NetLaneState, NetShape, memory_of, net_end, reach_of, role_at, seen_at}
 use Rattle.port_model.specs.Offers.{port_offer}
@@ -56,7 +55,7 @@ use Rattle.port_model.specs.RuleFacts.{IfOpen, MayListen}
 use Rattle.port_model.specs.SlotsLooked.{FirstUndone}
 use Rattle.port_model.specs.Spoken.{RangeInfo, spoken, spoken_by}
 use Rattle.port_laws.specs.NetCore.{fresh_net_core, lane_core}
-use Rattle.port_laws.specs.PortCauses.{ack_cause, info_cause, own_cause, port_cause, session_cause}
+use Rattle.port_laws.specs.PortCauses.{ack_cause, info_cause, own_cause, session_cause}
 use Rattle.port_laws.specs.PortCore.{port_events}
 use Rattle.port_laws.proofs.EndCounting.{OpenCounts, open_counts, open_empty}
 use Rattle.port_laws.proofs.LettingGo.{spoken_same}
@@ -64,10 +63,10 @@ use Rattle.port_laws.proofs.MessageDoes.{not_other}
 use Rattle.port_laws.proofs.CoreLaws.{sizes_fit}
 use Rattle.port_laws.proofs.Fitting.{BothFit}
 use Rattle.port_laws.proofs.LaneMoves.{event_core_step}
-use Rattle.port_laws.proofs.PortCauses.{fails_with, take_cause}
+use Rattle.port_laws.proofs.PortCauses.{cause_before, fails_takes, moves_before, takes_rule}
 use Rattle.port_laws.proofs.PortResets.{opened_is}
 use Rattle.port_laws.proofs.PortCounts.{Ready, port_counts, queue_of, ready_before}
-use Rattle.port_laws.proofs.PortRuns.{by_option, before_core, before_fits, fresh_port_core, lawful_on_lane, port_fits_behind, spoken_behind}
+use Rattle.port_laws.proofs.PortRuns.{by_option, before_fits, lawful_on_lane, port_fits_behind}
 use Rattle.port_laws.proofs.RuleFrames.{both_open, end_acts, end_counted, if_range, if_session}
 use Rattle.port_laws.proofs.RuleRest.{own_reset_event}
 use Rattle.port_laws.proofs.StepCounts.{peer_slots_known}
@@ -151,9 +150,6 @@ record Listens (slots : ℕ) (p : NetSession) (v : SessionLog) : Type 0 where
   seen : v.seen ≡ p.seen
   all : v.published ≡ p.published
 
-same_log : (log : Option SessionLog) (v w : SessionLog) → log ≡ Some v → log ≡ Some w → v ≡ w
-same_log log v w one two = let both : Some v ≡ Some w = sym one ∙ two in cc both
-
 listens : (shape : NetShape) (e : End) (u : PortState) (l : PortLog) (packet : List ℕ) (p : NetSession) (v : SessionLog) → Ready shape u l → port_rule (role_at e) (net_end e u.lane) (seen_at e u.lane) ≡ Takes packet
     → (net_end e u.lane).session ≡ Some p → (log_of_end e l).session ≡ Some v → Listens shape.slots p v
 listens shape e u l packet p v ready rule session log =
@@ -164,7 +160,7 @@ listens shape e u l packet p v ready rule session log =
     let here : OpenCounts (role_at e) shape.slots s.groups (log_of_end e l).published (log_of_end e l).gone None s.link.begun p (log_of_end e l).session =
     open_empty (role_at e) shape.slots (queue_of e u) s (log_of_end e l) p (end_counted shape e u l ready) session empty in
     let may : MayListen p = subst (λ (x : Option NetSession). IfOpen x MayListen) session says.2 in
-    grind (arith, same_log)
+    grind arith
 
 asks_here : (role : Role) (s : NetEndState) (p : NetSession) (memory : List ℕ) (sid slots : ℕ) (turns : List Utterance) (packet message : List ℕ) (v : SessionLog) → s.handshake.draft.peer_slots ≡ slots → Listens slots p v
     → packet_cause (own_cause role s p memory) sid turns packet ≡ None → ended_by (half_heard turns) packet ≡ Some message → spoken message ≡ RangeInfo → Asks slots v message
@@ -255,10 +251,7 @@ undone_here role s p memory sid slots turns packet v slot state same listening i
         ap (λ (n : ℕ). range_length slots n (end_of message)) (sym fields.2) ∙ ap (λ (n : ℕ). range_length slots ack.start n) (sym fields.3) ∙ ap (λ (n : ℕ). range_length n ack.start ack.end) (sym same) in
         grind (arith, with_range, not_other)
 
--- a reset that carries a packet is one of what the end takes; without a session no slot is looked at
-takes_rule : (role : Role) (rule : NetRule) (s : NetEndState) (memory : List ℕ) (reach : Reach) (cause : Cause) (packet : List ℕ) → NetFails role rule s memory reach cause (Some packet) → rule ≡ Takes packet
-takes_rule role rule s memory reach cause packet fails = grind arith
-
+-- without a session no slot is looked at
 never_shut : {X : Type 0} (shape : NetShape) (is : IsNetShape shape) (moves : List CoreEvent) (u t : NetLaneState) (run : Run CoreStep (fresh_net_core shape) moves (lane_core u)) (fits : BothFit u) (e : End)
     (slot state : ℕ) (packet : List ℕ) (lost : ℕ) → (net_end e u).session ≡ None → NetLaneStep u (Steps e (Reset (the_cause.NotDone slot state) (Some packet) lost)) t → X
 never_shut {X} shape is moves u t run fits e slot state packet lost none step =
@@ -275,15 +268,8 @@ module _ (shape : NetShape) (is : IsNetShape shape) (events : List PortEvent) (s
   abbrev l : PortLog
   l = log_of after (no_events shape) events
 
-  moves_run : Run CoreStep (fresh_net_core shape) (port_events events) (lane_core u.lane)
-  moves_run = subst (Run CoreStep (fresh_net_core shape) (port_events events)) (sym (before_core event s)) (fresh_port_core shape events s run)
-
   ready : Ready shape u l
   ready = ready_before shape s l event is (port_counts shape events s is run)
-
-  cause_here : (e : End) (p : NetSession) (packet : List ℕ) (answer : Option Cause) → port_cause u.lane e p (transcript_of e (transcript_behind (port_events events))) packet ≡ answer
-      → port_cause u.lane e p (transcript_of e l.transcript) packet ≡ answer
-  cause_here e p packet answer here = subst (λ (x : TranscriptLog). port_cause u.lane e p (transcript_of e x) packet ≡ answer) (spoken_behind shape events) here
 
 asks_event : (shape : NetShape) (is : IsNetShape shape) (events : List PortEvent) (s : PortState) (event : NetEvent) (t : NetLaneState) → Run PortStep (fresh_port shape) events s
     → NetLaneStep (before event s).lane event t → AsksAt (log_of after (no_events shape) events) (OnLane event)
@@ -296,7 +282,7 @@ asks_event shape is events s (Steps e (Took packet opens)) t run step =
     if_session (log_of_end e v_l).session _ (λ v log.
     let both = both_open (role_at e) shape.slots (queue_of e w) (net_end e w.lane) (log_of_end e v_l) v (end_counted shape e w v_l known) log in
     let acting = end_acts shape e w v_l known says.0.up in
-    let none = cause_here shape is events s event run e both.p packet None (sym (take_cause shape (port_events events) w.lane is (moves_run shape is events s event run) e both.p packet (GoesOn step.left.end opens step.left.own) both.is step.step.1)) in
+    let none = cause_before shape events s is run event e both.p packet (GoesOn step.left.end opens step.left.own) both.is step.step.1 in
     if_range 1 (ended_by (half_heard (transcript_of e v_l.transcript)) packet) (Asks v_l.shape.slots v) (λ message ended kind.
     subst (λ (x : NetShape). Asks x.slots v message) (sym known.shape_is)
     (asks_here (role_at e) (net_end e w.lane) both.p (memory_of e w.lane) (net_end e w.lane).handshake.draft.sid shape.slots (transcript_of e v_l.transcript) packet message v
@@ -329,13 +315,13 @@ module _ (shape : NetShape) (is : IsNetShape shape) (events : List PortEvent) (s
       (λ p some.
       let here = open_counts (role_at e) shape.slots (queue_of e w) own (log_of_end e log) p (end_counted shape e w log known) some in
       let v : SessionLog = here.of_log in
-      let cause = cause_here shape is events s (for_slot (Some bytes)) run e p bytes (Some (the_cause.NotDone slot state))
-      (fails_with shape (port_events events) w.lane is (moves_run shape is events s (for_slot (Some bytes)) run) e p (the_cause.NotDone slot state) bytes some step.step.0) in
+      let cause = cause_before shape events s is run (for_slot (Some bytes)) e p bytes (Resets (the_cause.NotDone slot state)) some
+      (fails_takes _ _ _ _ _ _ bytes step.step.0) in
       let rule : port_rule (role_at e) own (seen_at e w.lane) ≡ Takes bytes = takes_rule (role_at e) (port_rule (role_at e) own (seen_at e w.lane)) own (memory_of e w.lane) (reach_of e w.lane) (the_cause.NotDone slot state) bytes step.step.0 in
       rw (here.is, known.shape_is) (undone_here (role_at e) own p (memory_of e w.lane) own.handshake.draft.sid
       shape.slots (transcript_of e log.transcript) bytes v slot state (end_counted shape e w log known).slots_is
       (listens shape e w log bytes p v known rule some here.is) cause))
-      (λ none. never_shut shape is (port_events events) w.lane t (moves_run shape is events s (for_slot (Some bytes)) run)
+      (λ none. never_shut shape is (port_events events) w.lane t (moves_before shape events s is run (for_slot (Some bytes)))
       (before_fits (for_slot (Some bytes)) s (port_fits_behind shape events s run)) e slot state bytes lost none step)
 
   undone_by : (packet : Option (List ℕ)) → NetLaneStep (before (for_slot packet) s).lane (for_slot packet) t → UndoneAt log (OnLane (for_slot packet))

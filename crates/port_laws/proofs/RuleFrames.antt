@@ -1,5 +1,5 @@
 -- Where the events of a port's frames may stand, by the counts of both ends.
-use Rattle.std.proofs.Common.{◌≡◌, ℕ, ◌+◌, ◌-◌, ◌≤◌, Bool, true, false, Option, Some, None, List, [], ◌++◌, length, drop, refl, sym, subst, ap, ◌∙◌, arith, length-append, length-drop}
+use Rattle.std.proofs.Common.{◌≡◌, ℕ, ◌+◌, ◌≤◌, Bool, true, false, Option, Some, None, List, [], ◌++◌, length, drop, refl, sym, subst, ap, ◌∙◌, arith, length-append, length-drop}
 use Rattle.std.specs.Prelude.{slice_get}
 use Rattle.std.proofs.lemmas.Bool.{and_parts, eqb-true}
 use Rattle.std.proofs.lemmas.List.{append-nil}
@@ -39,6 +39,7 @@ use Rattle.port_laws.proofs.StepCounts.{Acting, sent_right, took_here}
 use Rattle.port_laws.proofs.TookCounts.{TookCounts, free_empty}
 use Rattle.port_laws.proofs.LaneMoves.{holds_up}
 use Rattle.port_laws.proofs.SlotsFound.{fetched_fits}
+use Rattle.channel_laws.proofs.Apart.{some_same}
 
 -- EITHER END
 pub end_counted : (shape : NetShape) (e : End) (u : PortState) (l : PortLog) → Ready shape u l → EndCounts (role_at e) shape.slots (queue_of e u) (net_end e u.lane) (log_of_end e l)
@@ -58,9 +59,6 @@ pub record BothOpen (role : Role) (slots : ℕ) (s : NetEndState) (l : EndLog) (
   pub open_is : OpenCounts role slots s.groups l.published l.gone (unsaid s) s.link.begun p l.session
   pub same : open_is.of_log ≡ v
 
-some_same : {X : Type 0} (x y : X) → Some x ≡ Some y → x ≡ y
-some_same x y same = cc
-
 pub both_open : (role : Role) (slots : ℕ) (queue : List (List ℕ)) (s : NetEndState) (l : EndLog) (v : SessionLog) → EndCounts role slots queue s l → l.session ≡ Some v → BothOpen role slots s l v
 both_open role slots queue s l v counts log = by_session s.session refl
   where
@@ -68,7 +66,7 @@ both_open role slots queue s l v counts log = by_session s.session refl
     by_session None is = none_some v (sym (shut_counts role slots queue s l counts is).is ∙ log)
     by_session (Some p) is =
         let here = open_counts role slots queue s l p counts is in
-        record { p = p; is = is; open_is = here; same = some_same here.of_log v (sym here.is ∙ log) }
+        record { p = p; is = is; open_is = here; same = some_same (sym here.is ∙ log) }
 
 -- 3. LOST
 pub lost_log : (role : Role) (slots : ℕ) (queue : List (List ℕ)) (s : NetEndState) (l : EndLog) → EndCounts role slots queue s l → unseen s.session ≡ lost_in l.session
@@ -176,15 +174,10 @@ taking_event shape u l _ t ready step = tt
 
 -- 1. A FRAME THAT IS SENT
 pub held_frames : (role : Role) (slots : ℕ) (queue : List (List ℕ)) (s : NetEndState) (l : EndLog) → EndCounts role slots queue s l → held l ≡ length s.frames + length queue
-held_frames role slots queue s l counts =
-    let long : length (s.frames ++ queue) ≡ length (drop l.gone l.given) = ap length counts.frames in
-    omega (arith, long, length-append s.frames queue, length-drop l.gone l.given)
+held_frames role slots queue s l counts = omega (arith, ap length counts.frames, length-append s.frames queue, length-drop l.gone l.given)
 
-pub none_more : (n : ℕ) → n + 0 ≡ n
-none_more n = omega arith
-
-guest_held : (slots : ℕ) (s : NetEndState) (l : EndLog) → EndCounts Initiator slots [] s l → held l ≡ length s.frames
-guest_held slots s l counts = held_frames Initiator slots [] s l counts ∙ none_more (length s.frames)
+pub guest_held : (slots : ℕ) (s : NetEndState) (l : EndLog) → EndCounts Initiator slots [] s l → held l ≡ length s.frames
+guest_held slots s l counts = omega (arith, held_frames Initiator slots [] s l counts)
 
 -- ALONG EVERY RUN
 pub along : (shape : NetShape) (May : PortLog → PortEvent → Type 0) → IsNetShape shape

@@ -20,7 +20,6 @@ use Rattle.port_model.specs.EndLog.{EndLog, SessionLog}
 use Rattle.port_model.specs.FrameLaws.{IfSession}
 use Rattle.port_model.specs.FramesStand.{FramesStand}
 use Rattle.port_model.specs.NetEndRule.{Idles, port_rule, publishes, tells_first}
-use Rattle.port_model.specs.NetEndRule as rule
 use Rattle.port_model.specs.NetEndState.{NetEndState, NetSession, unseen_in}
 use Rattle.port_model.specs.NetEndStep.{Idle}
 use Rattle.port_model.specs.NetEvent.{NetEvent, Steps}

@@ -1,6 +1,5 @@
 -- Where an end of a port is idle directly after the other, where nobody forged and nothing was lost, no frame is left.
-use Rattle.std.proofs.Common.{◌≡◌, ◌≢◌, ℕ, ◌-◌, ◌<◌, ◌≤◌, true, false, Option, Some, None, List, [], ◌∷◌, ◌++◌, length, refl, sym, subst, ap, ◌∙◌, arith}
-use Rattle.std.specs.Prelude.{slice_get}
+use Rattle.std.proofs.Common.{◌≡◌, ◌≢◌, ℕ, ◌-◌, ◌<◌, ◌≤◌, true, false, Option, Some, None, List, [], ◌++◌, length, refl, sym, subst, ap, ◌∙◌, arith}
 use Rattle.std.proofs.lemmas.Bool.{cases_lt}
 use Rattle.std.proofs.lemmas.List.{append-nil, append_cancel_left}
 use Rattle.ldc_link.specs.declared.phase.Role.TheVariants.{Initiator, Responder}
@@ -15,11 +14,10 @@ use Rattle.runs.specs.Lawful.{Lawful}
 use Rattle.runs.specs.Run.{Run}
 use Rattle.channel_model.proofs.SameSayings.{heard_is, said_is}
 use Rattle.channel_model.specs.Sayings.{heard, said}
-use Rattle.channel_model.specs.Seeing.{seen}
 use Rattle.channel_model.specs.TranscriptLog.{transcript_of}
 use Rattle.channel_model.specs.WireLog.{WireLog}
 use Rattle.channel_laws.specs.Conversing.{Converse}
-use Rattle.channel_laws.specs.Sides.{Sides, sides_of}
+use Rattle.channel_laws.specs.Sides.{Sides}
 use Rattle.port_model.proofs.Moving.{before_keeps}
 use Rattle.port_model.proofs.Refuting.{true_false}
 use Rattle.port_model.proofs.Ruling.{says_of}
@@ -34,11 +32,10 @@ use Rattle.port_model.specs.PortLog.{PortLog, after, log_of_end, no_events}
 use Rattle.port_model.specs.PortState.{OnLane, PortEvent, PortState, PortStep, before, fresh_port}
 use Rattle.port_model.specs.RestLaws.{TwoIdleAt}
 use Rattle.port_model.specs.RuleFacts.{IfOpen, MayListen}
-use Rattle.port_laws.specs.NetCore.{lane_core}
 use Rattle.port_laws.specs.NoneLeft.{NoneLeft, NoneLeftAt}
 use Rattle.port_laws.specs.WaysStand.{Way, WaysStand, acks_in, infos_in}
-use Rattle.port_laws.proofs.PortCounts.{before_guest, before_wire, queue_of, ready_before}
-use Rattle.port_laws.proofs.PortRuns.{lawful_on_lane}
+use Rattle.port_laws.proofs.PortCounts.{before_wire, queue_of, ready_before}
+use Rattle.port_laws.proofs.PortRuns.{before_guest, lawful_on_lane}
 use Rattle.port_laws.proofs.RingActs.{Finds}
 use Rattle.port_laws.proofs.RingRuns.{finds_before}
 use Rattle.port_laws.proofs.RuleFrames.{both_open, end_acts, end_counted, end_stood, seen_within}
@@ -49,12 +46,9 @@ use Rattle.port_laws.proofs.WayRuns.{KeptWays, port_ways, ways_before}
 use Rattle.channel_laws.proofs.NextPacket.{none_of}
 use Rattle.channel_laws.proofs.LinkPlaced.{up_live}
 use Rattle.port_laws.proofs.LaneMoves.{up_of}
+use Rattle.channel_laws.proofs.EndsAtRest.{none_waits}
 
 -- WHAT WAS SAID WAS HEARD where nothing was lost and nothing waits
-pub no_first : (packets : List (List ℕ)) → slice_get packets 0 ≡ None → packets ≡ []
-no_first [] is = refl
-no_first (packet ∷ packets) is = absurd (cc is)
-
 one_way : (x y : ChannelState) (put took waiting : List (List ℕ)) (lost : ℕ) → OneWay (live x put) (live y took) (numbered waiting) lost → lost ≡ 0 → waiting ≡ [] → x ≡ Up → y ≡ Up → put ≡ took
 one_way x y put took waiting lost way whole none up other = grind (arith, none_of, up_live, append-nil)
 
@@ -117,7 +111,7 @@ both_left shape u l finds ways guest_idles hub_idles lossless opened =
     let other : u.lane.wire.wire.end_b ≡ Up = up_of u.lane.wire.wire.end_b hub_says.0.up in
     let whole : u.lane.wire.lossy ≡ false = ap (λ (w : WireLog). w.lossy) finds.ready.wire ∙ lossless in
     let two_ends = finds.two_ends.two_ends A in
-    let all = heard_all (sides_of (lane_core u.lane) l.transcript) two_ends.meets.converse whole up other (no_first u.lane.wire.wire.to_a guest_says.1) (no_first u.lane.wire.wire.to_b hub_says.1) in
+    let all = heard_all _ two_ends.meets.converse whole up other (none_waits _ guest_says.1) (none_waits _ hub_says.1) in
     let between = ways up other opened.0 in
     let going : between.going ≡ [] = nothing_goes (said l.transcript.client) (heard l.transcript.server) between.going between.goes all.mine in
     let coming : between.coming ≡ [] = nothing_goes (said l.transcript.server) (heard l.transcript.client) between.coming between.comes all.theirs in

@@ -10,7 +10,6 @@ use Rattle.runs.specs.Lawful.{Lawful}
 use Rattle.runs.specs.Run.{Run}
 use Rattle.channel_model.specs.Sayings.{heard, said}
 use Rattle.channel_model.specs.WireLog.{WireLog}
-use Rattle.channel_laws.specs.Sides.{sides_of}
 use Rattle.port_model.proofs.Refuting.{true_false}
 use Rattle.port_model.proofs.Ruling.{says_of}
 use Rattle.port_model.specs.FrameLaws.{InSession, ToldAll}
@@ -24,17 +23,17 @@ use Rattle.port_model.specs.PortLog.{PortLog, after, no_events}
 use Rattle.port_model.specs.PortState.{OnLane, PortEvent, PortState, PortStep, before, fresh_port}
 use Rattle.port_model.specs.RestLaws.{TwoIdleAt}
 use Rattle.port_model.specs.RuleFacts.{IfOpen, MayListen}
-use Rattle.port_laws.specs.NetCore.{lane_core, one_if}
+use Rattle.port_laws.specs.NetCore.{one_if}
 use Rattle.port_laws.specs.NoneUntold.{KnowsAll, NoneUntoldAt}
 use Rattle.port_laws.proofs.EndCounting.{OpenCounts, empty_unsaid}
 use Rattle.port_laws.proofs.Outbox.{count_groups, outbox}
-use Rattle.port_laws.proofs.PortCounts.{before_guest, before_wire, ready_before}
-use Rattle.port_laws.proofs.PortRuns.{lawful_on_lane}
+use Rattle.port_laws.proofs.PortCounts.{before_wire, ready_before}
+use Rattle.port_laws.proofs.PortRuns.{before_guest, lawful_on_lane}
 use Rattle.port_laws.proofs.RingActs.{Finds}
 use Rattle.port_laws.proofs.RingRuns.{finds_before}
 use Rattle.port_laws.proofs.RuleFrames.{both_open, end_acts}
 use Rattle.port_laws.proofs.RuleIdle.{rule_left}
-use Rattle.port_laws.proofs.RuleNoneLeft.{heard_all, moved_guest, before_entries, no_first, some_log}
+use Rattle.port_laws.proofs.RuleNoneLeft.{before_entries, heard_all, moved_guest, some_log}
 use Rattle.port_laws.proofs.RuleTwoIdle.{IdlesKept, idles_kept, two_idle_event}
 use Rattle.port_laws.proofs.RuleGroups.{hub_told}
 use Rattle.port_laws.proofs.GroupsExchanged.{owed_replies, reply_in, AllTold}
@@ -45,6 +44,7 @@ use Rattle.port_laws.proofs.LaneMoves.{up_of}
 use Rattle.port_model.specs.EndLog.{SessionLog}
 use Rattle.port_laws.specs.Counted.{GroupCounts}
 use Rattle.port_laws.specs.GroupsTold.{told_in}
+use Rattle.channel_laws.proofs.EndsAtRest.{none_waits}
 
 none_out : (s : NetEndState) (mine theirs : List Utterance) → said mine ≡ heard theirs → s.link.to_send ≡ [] → outbox s mine theirs ≡ []
 none_out s mine theirs all empty = grind (arith, drop_all, empty_unsaid)
@@ -64,7 +64,7 @@ both_told shape u l finds exchange guest_idles hub_idles lossless opened =
     let up : u.lane.wire.wire.end_a ≡ Up = up_of u.lane.wire.wire.end_a guest_says.0.up in
     let other : u.lane.wire.wire.end_b ≡ Up = up_of u.lane.wire.wire.end_b hub_says.0.up in
     let whole : u.lane.wire.lossy ≡ false = ap (λ (w : WireLog). w.lossy) finds.ready.wire ∙ lossless in
-    let all = heard_all (sides_of (lane_core u.lane) l.transcript) (finds.two_ends.two_ends A).meets.converse whole up other (no_first u.lane.wire.wire.to_a guest_says.1) (no_first u.lane.wire.wire.to_b hub_says.1) in
+    let all = heard_all _ (finds.two_ends.two_ends A).meets.converse whole up other (none_waits _ guest_says.1) (none_waits _ hub_says.1) in
     let guest = some_log l.guest.session opened.0 in
     let hub = some_log l.hub.session opened.1 in
     let both = both_open Initiator shape.slots [] u.lane.guest l.guest guest.0 finds.ready.guest guest.1 in

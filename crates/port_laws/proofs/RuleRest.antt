@@ -28,8 +28,8 @@ use Rattle.port_model.specs.PortState.{OfQueue, OnLane, PortEvent, PortState, Po
 use Rattle.port_model.specs.Spoken.{Spoken, spoken}
 use Rattle.port_laws.specs.Counted.{EndCounts, GroupCounts, IsBehind, LastCounts, SaysRightly}
 use Rattle.port_laws.proofs.EndCounting.{open_counts}
-use Rattle.port_laws.proofs.PortCounts.{Ready, queue_of}
-use Rattle.port_laws.proofs.RuleFrames.{active_here, along, both_open, end_acts, held_frames, none_more}
+use Rattle.port_laws.proofs.PortCounts.{Ready, before_queue, queue_of}
+use Rattle.port_laws.proofs.RuleFrames.{active_here, along, both_open, end_acts, guest_held, held_frames}
 use Rattle.port_laws.proofs.SlotsFound.{fails_fit, fetched_fits}
 use Rattle.port_laws.proofs.TookCounts.{free_empty}
 use Rattle.port_laws.proofs.LaneMoves.{up_of}
@@ -117,7 +117,7 @@ calm_finished shape u l queued ready queue is =
     let two = and_parts (told_all u.lane.guest.session && is_nothing u.lane.guest.frames) (is_nothing u.lane.hub.frames) three.0 in
     let one = and_parts (told_all u.lane.guest.session) (is_nothing u.lane.guest.frames) two.0 in
     let none : queued ≡ 0 = eqb-true queued 0 three.1 in
-    let guest_held = held_frames Initiator shape.slots [] u.lane.guest l.guest ready.guest ∙ none_more (length u.lane.guest.frames) in
+    let guest_held = guest_held shape.slots u.lane.guest l.guest ready.guest in
     let guest_none : length u.lane.guest.frames ≡ 0 = nothing_empty u.lane.guest.frames one.1 in
     let hub_none : length u.lane.hub.frames ≡ 0 = nothing_empty u.lane.hub.frames two.1 in
     record {
@@ -143,7 +143,7 @@ finished_calm shape u l queued ready queue finished =
     let there : SomeTold l = some_told l l.guest.session refl finished.told in
     let told : Told u.lane.guest.groups there.v =
     record { membership = there.membership ∙ ap (λ (x : List (List ℕ)). Some x) (sym ready.members); told = there.told } in
-    let guest_held = held_frames Initiator shape.slots [] u.lane.guest l.guest ready.guest ∙ none_more (length u.lane.guest.frames) in
+    let guest_held = guest_held shape.slots u.lane.guest l.guest ready.guest in
     let hub_held = held_frames Responder shape.slots u.queue u.lane.hub l.hub ready.hub in
     let guest_none : length u.lane.guest.frames ≡ 0 = sym guest_held ∙ finished.guest in
     let hub_none : length u.lane.hub.frames ≡ 0 = omega (arith, hub_held, finished.hub) in
@@ -154,10 +154,7 @@ finished_calm shape u l queued ready queue finished =
 tick_event : (shape : NetShape) (u : PortState) (l : PortLog) (event : NetEvent) (t : NetLaneState) → Ready shape u l → OfQueue u event → NetLaneStep u.lane event t → TickAt l (OnLane event)
 tick_event shape u l event t ready of_queue step = grind (arith, true_false, finished_calm, calm_finished)
 
--- a tick finds the queue as it was
-tick_queue : (s : PortState) (event : NetEvent) → OfQueue s event → OfQueue (before event s) event
-tick_queue s event is = grind arith
-
 pub port_ticks : (shape : NetShape) (events : List PortEvent) (s : PortState) → IsNetShape shape → Run PortStep (fresh_port shape) events s → Lawful TickAt after (no_events shape) events
 port_ticks shape events s is run =
-    along shape TickAt is (λ x l event t counts ready step. tick_event shape (before event x) l event t.lane ready (tick_queue x event step.0) step.1) (λ l frame. tt) events s run
+    along shape TickAt is (λ x l event t counts ready step.
+    tick_event shape (before event x) l event t.lane ready (before_queue event x step.0) step.1) (λ l frame. tt) events s run

@@ -35,7 +35,7 @@ use Rattle.port_laws.proofs.MemoryRoom.{power_room}
 use Rattle.port_laws.proofs.PortCounts.{queue_of}
 use Rattle.port_laws.proofs.PortRuns.{lawful_on_lane}
 use Rattle.port_laws.proofs.PortTwoEnds.{PeerOpen, many_open}
-use Rattle.port_laws.proofs.RingActs.{Finds, core_open, end_reaches, peer_ring_of, place_is, spoke_of}
+use Rattle.port_laws.proofs.RingActs.{Finds, core_open, end_reaches, peer_ring_of, place_is, reach_memory, seen_state, spoke_of}
 use Rattle.port_laws.proofs.RingFinds.{Finding, no_fail, ring_finds}
 use Rattle.port_laws.proofs.RingRuns.{finds_before}
 use Rattle.port_laws.proofs.RuleFrames.{end_acts, end_counted, end_stood}
@@ -45,14 +45,8 @@ use Rattle.port_laws.proofs.WayRuns.{KeptWays, port_ways, ways_before}
 use Rattle.port_laws.proofs.LaneMoves.{up_of}
 
 -- WHAT ITS COPIES WORK ON
-reach_memory : (e : End) (u : NetLaneState) → memory_of (peer_of e) u ≡ (reach_of e u).memory
-reach_memory e u = grind arith
-
 reach_both : (e : End) (u : NetLaneState) → state_of e u.wire.wire ≡ Up → state_of (peer_of e) u.wire.wire ≡ Up → (reach_of e u).both ≡ true
 reach_both e u one two = grind arith
-
-pub seen_up : (e : End) (u : NetLaneState) → state_of e u.wire.wire ≡ (seen_at e u).state
-seen_up e u = grind arith
 
 -- WHAT IS ON THE WAY while an INFO is in work
 record Working (v w : SessionLog) : Type 0 where
@@ -112,7 +106,7 @@ slot_reset shape e u l cause lost left finds ways step = by_rule (port_rule (rol
         → FetchFails (fetched s (reach_of e u.lane) p.place) activity p.place cause → ⊥
     at_work p activity rule fails =
         let says = says_of (role_at e) s (seen_at e u.lane) (Fetches p activity) rule in
-        let up : state_of e u.lane.wire.wire ≡ Up = seen_up e u.lane ∙ up_of (seen_at e u.lane).state says.0.free.up in
+        let up : state_of e u.lane.wire.wire ≡ Up = sym (seen_state e u.lane) ∙ up_of (seen_at e u.lane).state says.0.free.up in
         let acting = end_acts shape e u l finds.ready says.0.free.up in
         let empty = free_empty (role_at e) s (transcript_of e l.transcript) acting.ends says.0.free.quiet in
         let here : OpenCounts (role_at e) shape.slots s.groups (log_of_end e l).published (log_of_end e l).gone None s.link.begun p (log_of_end e l).session =

@@ -25,8 +25,8 @@ use Rattle.port_laws.proofs.CoreLaws.{sizes_fit}
 use Rattle.port_laws.proofs.MemoryLong.{KeptLong, port_long}
 use Rattle.port_laws.proofs.PortCounts.{before_wire}
 use Rattle.port_laws.proofs.PortRuns.{fresh_port_core, lawful_on_lane, logs_same, port_fits_behind, port_step_core}
-use Rattle.port_laws.proofs.RuleSlots.{seen_up}
 use Rattle.port_laws.proofs.LaneMoves.{up_of}
+use Rattle.port_laws.proofs.RingActs.{seen_state}
 
 -- THE SIZES of the log are those of the lane
 record SameSizes (s : NetLaneState) (l : PortLog) : Type 0 where
@@ -57,7 +57,7 @@ full_at e l s same full = grind arith
 -- THE TABLE
 table_event : (s : PortState) (l : PortLog) (event : NetEvent) (t : NetLaneState) → SameSizes s.lane l → CoreStands l.shape.entries l.wire (core_event event)
     → NetLaneStep (before event s).lane event t → OfWire (WireTableAt (sizes_in l) l.wire) (OnLane event)
-table_event s l event t same stands step = grind (arith, full_at, says_of, seen_up, up_of, before_wire, sizes_are)
+table_event s l event t same stands step = grind (arith, full_at, says_of, seen_state, up_of, before_wire, sizes_are)
 
 pub port_table : (shape : NetShape) (events : List PortEvent) (s : PortState) → IsNetShape shape → Run PortStep (fresh_port shape) events s
     → Lawful (λ (l : PortLog) (event : PortEvent). OfWire (WireTableAt (sizes_in l) l.wire) event) after (no_events shape) events

@@ -35,7 +35,7 @@ use Rattle.port_laws.proofs.LogsStand.{EndLogStands, HeadIn, held_given}
 use Rattle.port_laws.proofs.PortCounts.{queue_of}
 use Rattle.port_laws.proofs.PortRuns.{lawful_on_lane}
 use Rattle.port_laws.proofs.PortTwoEnds.{PeerOpen, many_open}
-use Rattle.port_laws.proofs.RingActs.{Finds, end_reaches, place_is, seen_state, spoke_of}
+use Rattle.port_laws.proofs.RingActs.{Finds, end_reaches, place_is, reach_memory, seen_state, spoke_of}
 use Rattle.port_laws.proofs.RingEvents.{acts_up}
 use Rattle.port_laws.proofs.RingFetches.{Fetches as FetchesFrame, ring_fetched}
 use Rattle.port_laws.proofs.RingRuns.{Kept, finds_before, port_kept}
@@ -104,9 +104,6 @@ peer_is_up e u there = grind arith
 
 core_up : (e : End) (u : NetLaneState) → state_of e u.wire.wire ≡ Up → IsUp e (lane_core u).wire.wire
 core_up e u up = grind arith
-
-pub reach_memory : (e : End) (u : NetLaneState) → (reach_of e u).memory ≡ memory_of (peer_of e) u
-reach_memory e u = grind arith
 
 pub takes_published : (shape : NetShape) (e : End) (u : PortState) (l : PortLog) (frame : List ℕ) (t : NetLaneState) → Finds shape u l → (step : EndSteps e u.lane (Frame frame) t)
     → TakesPublished shape e u l frame step.step.new

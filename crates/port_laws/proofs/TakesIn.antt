@@ -17,7 +17,6 @@ use Rattle.vio_tag.specs.declared.message.Message.{Message}
 use Rattle.vio_tag.specs.declared.message.MsgBody.{MsgBody}
 use Rattle.vio_tag.specs.declared.message.MsgBody.TheVariants.{Mcast}
 use Rattle.vio_tag.specs.Spelling.{SpellsBody, SpellsMessage, addresses_at, envelope_at, envelope_code}
-use Rattle.vio_tag.specs.declared.cause.Cause.TheVariants as the_cause
 use Rattle.channel_model.specs.Sayings.{heard, said}
 use Rattle.channel_laws.proofs.HandshakePlaces.{IsOwn, deal}
 use Rattle.channel_laws.proofs.HandshakesPlaced.{envelope_reads, next_own, own_code}
@@ -27,11 +26,13 @@ use Rattle.port_model.specs.Groups.{groups_after}
 use Rattle.port_model.specs.NetEndState.{GroupsReply, NetEndState, NetSession, with_session}
 use Rattle.port_model.specs.NetEndTaking.{GoesOn, NetTake, active, hears_message, in_session, replying}
 use Rattle.port_model.specs.Spoken.{addresses_of, count_of, set_of, seven_of}
-use Rattle.port_laws.proofs.HearsIn.{HearsOne, OwnRead, decodes_as, own_read}
+use Rattle.port_laws.proofs.HearsIn.{HearsOne, OwnRead, own_read}
 use Rattle.port_laws.proofs.MessageDoes.{Acks, Asks, MessageDoes, Names, Told, Declines}
 use Rattle.port_laws.proofs.Outbox.{MessageFits, is_groups}
 use Rattle.port_laws.proofs.PeerOpens.{TwoEnds}
 use Rattle.port_laws.proofs.GroupsExchanged.{ReplyAgrees}
+use Rattle.vio_tag.proofs.Reading.{only_spelled}
+use Rattle.port_model.proofs.Refuting.{true_false}
 
 -- THE NEXT MESSAGE is one of the session, and is read as that
 pub next_is_own : (asks answers : Offer) (role : Role) (s : Sides) (bytes : List ℕ) → (two_ends : TwoEnds asks answers role s) → s.mine.state ≡ Up → s.mine.core.is_open ≡ true → s.theirs.state ≡ Up
@@ -59,7 +60,7 @@ pub record InSession (role : Role) (s : NetEndState) (p : NetSession) (memory : 
 
 pub in_own_session : (role : Role) (s : NetEndState) (p : NetSession) (memory packet : List ℕ) (turns : List Utterance) (take : NetTake) (sid : ℕ) → (one : HearsOne role s memory turns packet take)
     → s.session ≡ Some p → s.handshake.sid ≡ Some sid → (own : OwnRead one.bytes sid) → InSession role (record s { link = one.link }) p memory own.message take
-in_own_session role s p memory packet turns take sid one session knows own = grind (arith, decodes_as, eq-eqb)
+in_own_session role s p memory packet turns take sid one session knows own = grind (arith, only_spelled, eq-eqb)
 
 -- WHAT THE GUEST NOTES
 pub record GuestNotes (s t : NetEndState) (p q : NetSession) (m : List ℕ) : Type 0 where
@@ -78,57 +79,26 @@ range_groups m is = ap (λ (n : ℕ). n == 0x0101) is
 groups_groups : (m : List ℕ) → envelope_at m ≡ 0x0101 → is_groups m ≡ true
 groups_groups m is = ap (λ (n : ℕ). n == 0x0101) is
 
-wrong : {X : Type 0} (b : Bool) → b ≡ true → b ≡ false → X
-wrong {X} b one two = let never : true ≡ false = sym one ∙ two in absurd (cc never)
-
 of_session : {X : Type 0} (s : Subtype) (b : MsgBody) → IsOfSession b → is_declined s b ≡ true → X
 of_session {X} s b of is = grind arith
+
+guest_noted : (s t n : NetEndState) (p q : NetSession) (m : List ℕ) → t ≡ n → n.session ≡ Some q → n.groups ≡ s.groups
+    → n.handshake ≡ s.handshake → n.link.to_send ≡ s.link.to_send → q.reply ≡ p.reply → q.untold ≡ p.untold
+    → (is_groups m ≡ true → q.telling ≡ false) → (is_groups m ≡ false → q.telling ≡ p.telling) → GuestNotes s t p q m
+guest_noted s t n p q m is session groups handshake sends reply untold told same = grind arith
 
 pub guest_notes : (s t : NetEndState) (p : NetSession) (memory new m : List ℕ) (message : Message) → IsOfSession message.body → SpellsMessage m message
     → MessageDoes Initiator s p memory message.subtype message.body t new → (q : NetSession) × GuestNotes s t p q m
 guest_notes s t p memory new m message of spells (Asks seq ident start end state info body place same is) =
-    let range : envelope_at m ≡ 0x0042 = spells.envelope ∙ ap envelope_code body in (
-      active p seq start,
-      record {
-        session = ap (λ (x : NetEndState). x.session) is;
-        groups = ap (λ (x : NetEndState). x.groups) is;
-        handshake = ap (λ (x : NetEndState). x.handshake) is;
-        sends = ap (λ (x : NetEndState). x.link.to_send) is;
-        reply = refl;
-        untold = refl;
-        told = λ one. wrong (is_groups m) one (range_groups m range);
-        same = λ none. refl;
-      },
-    )
+    let range = range_groups m (spells.envelope ∙ ap envelope_code body) in
+    (_, guest_noted s t _ p (active p seq start) m is refl refl refl refl refl refl (λ one. true_false (sym one ∙ range)) (λ none. refl))
 guest_notes s t p memory new m message of spells (Acks seq ident start end state ack body begins inside within done same is) =
-    let range : envelope_at m ≡ 0x0042 = spells.envelope ∙ ap envelope_code body in (
-      _,
-      record {
-        session = ap (λ (x : NetEndState). x.session) is;
-        groups = ap (λ (x : NetEndState). x.groups) is;
-        handshake = ap (λ (x : NetEndState). x.handshake) is;
-        sends = ap (λ (x : NetEndState). x.link.to_send) is;
-        reply = refl;
-        untold = refl;
-        told = λ one. wrong (is_groups m) one (range_groups m range);
-        same = λ none. refl;
-      },
-    )
+    let range = range_groups m (spells.envelope ∙ ap envelope_code body) in
+    (_, guest_noted s t _ p _ m is refl refl refl refl refl refl (λ one. true_false (sym one ∙ range)) (λ none. refl))
 guest_notes s t p memory new m message of spells (Names set count addresses groups reply answers role info body same is) = absurd (cc role)
 guest_notes s t p memory new m message of spells (Told set count addresses role ack body telling same is) =
-    let groups : envelope_at m ≡ 0x0101 = spells.envelope ∙ ap envelope_code body in (
-      record p { telling = false },
-      record {
-        session = ap (λ (x : NetEndState). x.session) is;
-        groups = ap (λ (x : NetEndState). x.groups) is;
-        handshake = ap (λ (x : NetEndState). x.handshake) is;
-        sends = ap (λ (x : NetEndState). x.link.to_send) is;
-        reply = refl;
-        untold = refl;
-        told = λ one. refl;
-        same = λ none. wrong (is_groups m) (groups_groups m groups) none;
-      },
-    )
+    let named = groups_groups m (spells.envelope ∙ ap envelope_code body) in
+    (_, guest_noted s t _ p (record p { telling = false }) m is refl refl refl refl refl refl (λ one. refl) (λ none. true_false (sym named ∙ none)))
 guest_notes s t p memory new m message of spells (Declines h declined same is) = of_session message.subtype message.body of declined
 
 -- WHAT THE SWITCH'S END NOTES of a range
@@ -151,9 +121,9 @@ pub record HubLearns (s t : NetEndState) (q : NetSession) (m : List ℕ) : Type 
   pub reply : q.reply ≡ Some answer
   pub agrees : ReplyAgrees answer
 
-range_notes : (s t : NetEndState) (p q : NetSession) (m : List ℕ) → envelope_at m ≡ 0x0042 → q.reply ≡ p.reply → t.session ≡ Some q → t.handshake ≡ s.handshake → t.link.to_send ≡ s.link.to_send
-    → t.groups ≡ s.groups → HubNotes s t p q m
-range_notes s t p q m range reply session handshake sends groups = grind (arith, range_groups)
+range_notes : (s t n : NetEndState) (p q : NetSession) (m : List ℕ) → envelope_at m ≡ 0x0042 → t ≡ n → q.reply ≡ p.reply → n.session ≡ Some q
+    → n.handshake ≡ s.handshake → n.link.to_send ≡ s.link.to_send → n.groups ≡ s.groups → HubNotes s t p q m
+range_notes s t n p q m range is reply session handshake sends groups = grind (arith, range_groups)
 
 addresses_long : (n at : ℕ) (bytes : List ℕ) → at + 6 * n ≤ length bytes → length (flat_map (λ (address : List ℕ). address) (addresses_at at n bytes)) ≡ 6 * n
 addresses_long zero at bytes within = omega arith
@@ -166,16 +136,10 @@ pub hub_notes : (s t : NetEndState) (p : NetSession) (memory new m : List ℕ) (
     → (envelope_at m ≡ 0x0101 → groups_after (set_of m) (count_of m) (seven_of m) s.groups ≡ Some (addresses_of m))
     → GoesOn t opens new ≡ in_session Responder s p memory message message.subtype message.body → MessageDoes Responder s p memory message.subtype message.body t new
     → (q : NetSession) × (HubNotes s t p q m ⊎ HubLearns s t q m)
-hub_notes s t p memory new m message opens of spells long learns goes (Asks seq ident start end state info body place same is) = (
-  active p seq start,
-  inl (range_notes s t p (active p seq start) m (spells.envelope ∙ ap envelope_code body) refl (ap (λ (x : NetEndState). x.session) is) (ap (λ (x : NetEndState). x.handshake) is)
-      (ap (λ (x : NetEndState). x.link.to_send) is) (ap (λ (x : NetEndState). x.groups) is)),
-)
-hub_notes s t p memory new m message opens of spells long learns goes (Acks seq ident start end state ack body begins inside within done same is) = (
-  _,
-  inl (range_notes s t p _ m (spells.envelope ∙ ap envelope_code body) refl (ap (λ (x : NetEndState). x.session) is) (ap (λ (x : NetEndState). x.handshake) is)
-      (ap (λ (x : NetEndState). x.link.to_send) is) (ap (λ (x : NetEndState). x.groups) is)),
-)
+hub_notes s t p memory new m message opens of spells long learns goes (Asks seq ident start end state info body place same is) =
+    (_, inl (range_notes s t _ p (active p seq start) m (spells.envelope ∙ ap envelope_code body) is refl refl refl refl refl))
+hub_notes s t p memory new m message opens of spells long learns goes (Acks seq ident start end state ack body begins inside within done same is) =
+    (_, inl (range_notes s t _ p _ m (spells.envelope ∙ ap envelope_code body) is refl refl refl refl refl))
 hub_notes s t p memory new m message opens of spells long learns goes (Names set count addresses groups reply answers role info body same is) =
     let named : envelope_at m ≡ 0x0101 = spells.envelope ∙ ap envelope_code body in
     let fields : SpellsBody m (Mcast set count addresses) = subst (SpellsBody m) body spells.body in

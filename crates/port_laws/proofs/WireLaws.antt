@@ -1,29 +1,27 @@
 -- What a port's ends say and hear, and how their sessions open, event by event.
-use Rattle.std.proofs.Common.{◌≡◌, ℕ, Bool, true, false, Option, List, ◌∷◌, refl, sym, subst, ap, ◌∙◌, arith}
+use Rattle.std.proofs.Common.{◌≡◌, ℕ, Bool, true, false, Option, List, ◌∷◌, refl, arith}
 use Rattle.ldc_link.specs.declared.phase.Role.TheVariants.{Initiator, Responder}
 use Rattle.ldc_queue.specs.declared.end.End.{End}
-use Rattle.ldc_queue.specs.Transcript.{Heard, Said, Utterance}
+use Rattle.ldc_queue.specs.Transcript.{Heard, Said}
 use Rattle.runs.specs.Lawful.{Lawful, log_of}
 use Rattle.runs.specs.Run.{Run}
-use Rattle.channel_model.specs.HandshakeOrder.{HandshakeOrder}
 use Rattle.channel_model.specs.TranscriptLog.{TranscriptLog, hears, says, transcript_of}
 use Rattle.channel_model.specs.WireAt.{WireHeardAt, WireSaidAt}
 use Rattle.channel_model.specs.WireEvent.{WireEvent}
 use Rattle.channel_laws.proofs.Numbering.{heard_lawful, said_lawful}
 use Rattle.channel_laws.specs.CoreLog as core
-use Rattle.channel_laws.specs.LaneCore.{end_of, role_of, transcript_behind}
 use Rattle.channel_laws.proofs.OpeningOrder.{opens_hearing, opens_saying}
 use Rattle.port_model.specs.FrameLaws.{OpeningsAt}
 use Rattle.port_model.specs.NetEndStep.{Sent, Took}
 use Rattle.port_model.specs.NetEvent.{Steps}
-use Rattle.port_model.specs.NetLaneState.{IsNetShape, NetShape, role_at}
+use Rattle.port_model.specs.NetLaneState.{IsNetShape, NetShape}
 use Rattle.port_model.specs.Offers.{port_offer}
 use Rattle.port_model.specs.PortLog.{PortLog, after, no_events}
 use Rattle.port_model.specs.PortMay.{IfOnWire, OfWire}
 use Rattle.port_model.specs.PortState.{OnLane, PortEvent, PortState, PortStep, fresh_port}
 use Rattle.port_laws.specs.NetCore.{event_core}
 use Rattle.port_laws.specs.PortCore.{port_core, port_event, port_events}
-use Rattle.port_laws.proofs.CoreLaws.{order_of, role_same, sizes_fit}
+use Rattle.port_laws.proofs.CoreLaws.{order_at, sizes_fit}
 use Rattle.port_laws.proofs.PortRuns.{SameLog, fresh_port_core, lawful_along, lawful_here, port_fits_behind, port_step_core, spoken_behind}
 
 -- of the channel's event
@@ -54,41 +52,28 @@ port_hears shape events s is run =
     (sizes_fit shape is) (fresh_port_core shape events s run))
 
 -- SESSIONS OPEN in the order of the handshake
-port_rings : (s : PortState) (e : End) → (end_of e (port_core s)).offer.both_rings ≡ true
-port_rings s e = grind arith
-
 turn_says : (e : End) (packet : List ℕ) (l : TranscriptLog) → transcript_of e (says e packet l) ≡ Said packet ∷ transcript_of e l
 turn_says e packet l = grind arith
 
 turn_hears : (e : End) (packet : List ℕ) (l : TranscriptLog) → transcript_of e (hears e packet l) ≡ Heard packet ∷ transcript_of e l
 turn_hears e packet l = grind arith
 
-order_in : (e : End) (turns now : List Utterance) → turns ≡ now → HandshakeOrder true (role_at e) turns → HandshakeOrder true (role_at e) now
-order_in e turns now is order = subst (HandshakeOrder true (role_at e)) is order
+module _ (shape : NetShape) (events : List PortEvent) (s : PortState) (is : IsNetShape shape) (run : Run PortStep (fresh_port shape) events s) where
+  says_order : (e : End) (packet : List ℕ) (opens : Bool) (t : PortState) → PortStep s (OnLane (Steps e (Sent packet opens))) t
+      → OpeningsAt (log_of after (no_events shape) events) (OnLane (Steps e (Sent packet opens)))
+  says_order e packet false t step = tt
+  says_order e packet true t step =
+      rw (turn_says e packet (log_of after (no_events shape) events).transcript, ← spoken_behind shape events) (order_at e s.lane _
+      (opens_saying _ _ _ _ _ e packet _ (sizes_fit shape is) (fresh_port_core shape events s run)
+      (port_step_core s (OnLane (Steps e (Sent packet true))) t (port_fits_behind shape events s run) step)))
 
-says_order : (shape : NetShape) (events : List PortEvent) (s : PortState) (e : End) (packet : List ℕ) (opens : Bool) (t : PortState) → IsNetShape shape
-    → Run PortStep (fresh_port shape) events s → PortStep s (OnLane (Steps e (Sent packet opens))) t
-    → OpeningsAt (log_of after (no_events shape) events) (OnLane (Steps e (Sent packet opens)))
-says_order shape events s e packet false t is run step = tt
-says_order shape events s e packet true t is run step =
-    order_in e (Said packet ∷ transcript_of e (transcript_behind (port_events events))) _
-    (ap (λ (x : TranscriptLog). Said packet ∷ transcript_of e x) (spoken_behind shape events) ∙ sym (turn_says e packet (log_of after (no_events shape) events).transcript))
-    (order_of (end_of e (port_core s)).offer.both_rings (role_of e) (role_at e) (Said packet ∷ transcript_of e (transcript_behind (port_events events))) (port_rings s e) (role_same e)
-    (opens_saying shape.entries (port_offer Initiator shape.address shape.slots) (port_offer Responder shape.address shape.slots) (port_events events) (port_core s) e packet (port_core t)
-    (sizes_fit shape is) (fresh_port_core shape events s run)
-    (port_step_core s (OnLane (Steps e (Sent packet true))) t (port_fits_behind shape events s run) step)))
-
-hears_order : (shape : NetShape) (events : List PortEvent) (s : PortState) (e : End) (packet : List ℕ) (opens : Bool) (t : PortState) → IsNetShape shape
-    → Run PortStep (fresh_port shape) events s → PortStep s (OnLane (Steps e (Took packet opens))) t
-    → OpeningsAt (log_of after (no_events shape) events) (OnLane (Steps e (Took packet opens)))
-hears_order shape events s e packet false t is run step = tt
-hears_order shape events s e packet true t is run step =
-    order_in e (Heard packet ∷ transcript_of e (transcript_behind (port_events events))) _
-    (ap (λ (x : TranscriptLog). Heard packet ∷ transcript_of e x) (spoken_behind shape events) ∙ sym (turn_hears e packet (log_of after (no_events shape) events).transcript))
-    (order_of (end_of e (port_core s)).offer.both_rings (role_of e) (role_at e) (Heard packet ∷ transcript_of e (transcript_behind (port_events events))) (port_rings s e) (role_same e)
-    (opens_hearing shape.entries (port_offer Initiator shape.address shape.slots) (port_offer Responder shape.address shape.slots) (port_events events) (port_core s) e packet (port_core t)
-    (sizes_fit shape is) (fresh_port_core shape events s run)
-    (port_step_core s (OnLane (Steps e (Took packet true))) t (port_fits_behind shape events s run) step)))
+  hears_order : (e : End) (packet : List ℕ) (opens : Bool) (t : PortState) → PortStep s (OnLane (Steps e (Took packet opens))) t
+      → OpeningsAt (log_of after (no_events shape) events) (OnLane (Steps e (Took packet opens)))
+  hears_order e packet false t step = tt
+  hears_order e packet true t step =
+      rw (turn_hears e packet (log_of after (no_events shape) events).transcript, ← spoken_behind shape events) (order_at e s.lane _
+      (opens_hearing _ _ _ _ _ e packet _ (sizes_fit shape is) (fresh_port_core shape events s run)
+      (port_step_core s (OnLane (Steps e (Took packet true))) t (port_fits_behind shape events s run) step)))
 
 opens_at : (shape : NetShape) (is : IsNetShape shape) (events : List PortEvent) (s : PortState) (event : PortEvent) (t : PortState) → Run PortStep (fresh_port shape) events s → PortStep s event t
     → OpeningsAt (log_of after (no_events shape) events) event

@@ -1,5 +1,7 @@
-use Rattle.port_laws.proofs.PortResets.{port_gaps_say, port_resets_say}
+use Rattle.channel_model.specs.WireAt.{WireGapAt}
+use Rattle.channel_model.specs.ResetSays.{WireResetAt}
+use Rattle.port_laws.proofs.PortResets.{port_resets_so}
 use Rattle.port_laws.proofs.reset_laws.resets_of_a_port_say_why.Goals as goal
 
 pub returns : goal.returns
-returns c = record { says = port_resets_say; gaps = port_gaps_say }
+returns c = record { says = port_resets_so WireResetAt (λ l x both. both.0); gaps = port_resets_so WireGapAt (λ l x both. both.1) }
