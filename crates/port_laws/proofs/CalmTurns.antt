@@ -1,6 +1,6 @@
 -- A calm turn of a port that nobody forged and on which nothing was lost: first the guest's end and then the switch's is idle or finds no
 -- room. Then the port is finished.
-use Rattle.std.proofs.Common.{◌≡◌, ℕ, ◌+◌, ◌≤◌, Bool, true, false, Some, List, [], ◌∷◌, ◌++◌, length, refl, sym, subst, ap, ◌∙◌, arith, length-append}
+use Rattle.std.proofs.Common.{◌≡◌, ◌≢◌, ℕ, ◌+◌, ◌≤◌, Bool, true, false, Option, Some, None, List, [], ◌∷◌, ◌++◌, length, refl, sym, subst, ap, ◌∙◌, arith, length-append}
 use Rattle.std.specs.Prelude.{is_some, nat_lt}
 use Rattle.std.proofs.lemmas.Bool.Decides.{nat_tests}
 use Rattle.ldc_link.specs.declared.phase.Role.TheVariants.{Initiator, Responder}
@@ -8,7 +8,7 @@ use Rattle.ldc_queue.specs.declared.end.End.TheVariants.{A, B}
 use Rattle.runs.specs.Lawful.{log_append, log_of}
 use Rattle.runs.specs.Run.{Run, run_push}
 use Rattle.channel_model.specs.WireLog.{WireLog}
-use Rattle.port_model.proofs.Refuting.{true_false}
+use Rattle.port_model.proofs.Refuting.{none_some, true_false}
 use Rattle.port_model.specs.EndLog.{SessionLog, held}
 use Rattle.port_model.specs.FrameLaws.{InSession, IsFinished, TickAt, ToldAll}
 use Rattle.port_model.specs.NetEndState.{joined_net_end, unseen}
@@ -33,7 +33,6 @@ use Rattle.port_laws.proofs.RuleNoneUntold.{port_none_untold}
 use Rattle.port_laws.proofs.RuleRest.{port_ticks}
 use Rattle.port_laws.proofs.RuleSlots.{by_forged}
 use Rattle.port_laws.proofs.RuleUnforged.{in_some}
-use Rattle.port_model.proofs.SomeStep.{some_not_none}
 
 lt_some : (n : ℕ) → 1 ≤ n → nat_lt 0 n ≡ true
 lt_some n some = grind (arith, nat_tests, some)
@@ -42,6 +41,9 @@ lt_some n some = grind (arith, nat_tests, some)
 queue_empty : (b : Bool) (queue : List (List ℕ)) (s : PortState) → takes_more s.lane.hub ≡ b → s.queue ≡ queue → 1 ≤ s.lane.hub.slots → is_some s.lane.hub.session ≡ true
     → length (moves_first b queue s).lane.hub.frames ≡ 0 → (moves_first b queue s).queue ≡ []
 queue_empty b queue s takes is slots opened none = grind (arith, length-append, true_false, lt_some)
+
+some_not : {X : Type 0} (o : Option X) (x : X) → o ≡ Some x → o ≢ None
+some_not {X} o x is none = none_some x (sym none ∙ is)
 
 -- BOTH IDLE
 pub idle_turn : (shape : NetShape) (events : List PortEvent) (s m t : PortState) → IsNetShape shape → Run PortStep (fresh_port shape) events s → s.lane.wire.forged ≡ false → s.lane.wire.lossy ≡ false
@@ -70,7 +72,7 @@ idle_turn shape events s m t is run clean whole first second =
     let no_frames : length u.lane.hub.frames ≡ 0 =
     omega (arith, (idle_end shape B u l session.0 finds second.1.step.0 session.1).unseen, session.2) in
     let opened : is_some m.lane.hub.session ≡ true =
-    (open_both Responder shape.slots m.queue m.lane.hub l.hub found.ready.hub).opened (some_not_none l.hub.session session.0 session.1) in
+    (open_both Responder shape.slots m.queue m.lane.hub l.hub found.ready.hub).opened (some_not l.hub.session session.0 session.1) in
     let no_queue : u.queue ≡ [] =
     queue_empty (takes_more m.lane.hub) m.queue m refl refl (omega (arith, found.ready.hub.slots_is, is.some_slots)) opened no_frames in
     let none_held : held l.hub ≡ 0 =

@@ -17,7 +17,7 @@ use Rattle.port_model.specs.NetEndPutting.{answer, announcement, answers, groups
 use Rattle.port_model.specs.Groups.{membership}
 use Rattle.port_model.specs.NetEndRule.{Announces, Fetches, NetRule, Publishes, Replies, Tells, port_rule}
 use Rattle.port_model.specs.NetEndState.{Activity, NetEndState, NetSession, fresh_net_end, joined_net_end, unseen, unseen_in, with_frame}
-use Rattle.port_model.specs.NetEndStep.{Frame, Given, Joined, Joining, NetAnswer, NetEndStep, NetGives, NetJoins, NetLeft, Published, Reset, Took}
+use Rattle.port_model.specs.NetEndStep.{Frame, Given, Joined, Joining, NetAnswer, NetEndStep, NetGives, NetJoins, NetLeft, Published, Reset, Took, untold}
 use Rattle.port_model.specs.NetEvent.{Asked, NetEvent, Ticked}
 use Rattle.port_model.specs.NetLaneState.{NetLaneState, fresh_net, net_end}
 use Rattle.port_model.specs.NetLaneStep.{NetLaneStep, Resets}

@@ -1,5 +1,5 @@
 -- Lists of groups are sets of addresses.
-use Rattle.std.proofs.Common.{◌≡◌, ℕ, zero, suc, ◌<◌, ◌↔◌, Bool, true, false, Some, None, List, [], ◌∷◌, ◌++◌, length, take, refl, sym, ap, ◌∙◌, arith}
+use Rattle.std.proofs.Common.{◌≡◌, ℕ, zero, suc, ◌+◌, ◌<◌, ◌↔◌, Bool, true, false, Some, None, List, [], ◌∷◌, ◌++◌, length, take, refl, sym, ap, ◌∙◌, arith}
 use Rattle.std.specs.Prelude.{◌&&◌, ◌||◌, ◌==◌, nat_eq, nat_le, not, slice_get, if◌then◌else◌}
 use Rattle.std.specs.Cmp.Lexicographic.{pointwise}
 use Rattle.std.proofs.lemmas.Bool.{and_parts, eq-eqb, eqb-true, leb-false, leb-true}
@@ -34,7 +34,11 @@ among_place (x ∷ groups) a is = by_test (pointwise nat_eq a x) refl is (among_
 place_among : (groups : List (List ℕ)) (a : List ℕ) (i : ℕ) → slice_get groups i ≡ Some a → is_in groups a ≡ true
 place_among [] a i is = none_some a is
 place_among (x ∷ groups) a zero is = grind (arith, same_address)
-place_among (x ∷ groups) a (suc i) is = grind (arith, place_among groups a i is)
+place_among (x ∷ groups) a (suc i) is = or_second (pointwise nat_eq a x) (is_in groups a) (place_among groups a i is)
+  where
+    or_second : (b c : Bool) → c ≡ true → (b || c) ≡ true
+    or_second true c here = refl
+    or_second false c here = here
 
 pub among : (groups : List (List ℕ)) (a : List ℕ) → (is_in groups a ≡ true) ↔ ((i : ℕ) × (slice_get groups i ≡ Some a))
 among groups a = (among_place groups a, λ place. place_among groups a place.0 place.1)

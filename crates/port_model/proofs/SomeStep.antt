@@ -137,7 +137,7 @@ slot_step role s at memory reach p activity last (Refuses why) is last_is found 
     )
 
 -- THE RULES
-pub some_not_none : {X : Type 0} (x : Option X) (y : X) → x ≡ Some y → x ≢ None
+some_not_none : {X : Type 0} (x : Option X) (y : X) → x ≡ Some y → x ≢ None
 some_not_none x y is none = none_some y (sym none ∙ is)
 
 rule_step : (role : Role) (s : NetEndState) (at : Seen) (memory : List ℕ) (reach : Reach) (rule : NetRule) → CanStep s at → port_rule role s at ≡ rule → SomeStep role s at memory reach
