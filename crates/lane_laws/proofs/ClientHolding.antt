@@ -15,9 +15,6 @@ use Rattle.lane_laws.specs.RuleFacts.{ClientMay}
 use Rattle.lane_laws.specs.Sound.{ClientSound}
 
 -- an INFO has 56 bytes
-pub info_long : (sid seq ident start end state : ℕ) → length (canonical (info sid (DringData seq ident start end state))) ≡ 56
-info_long sid seq ident start end state = omega (arith, length_canonical (info sid (DringData seq ident start end state)))
-
 -- an end that holds nothing holds no INFO
 pub not_own : (b : Bool) (xs : List ℕ) → (b ≡ true → 1 ≤ length xs) → xs ≡ [] → b ≡ false
 not_own true xs own empty = absurd (omega (arith, own refl, ap length empty))
