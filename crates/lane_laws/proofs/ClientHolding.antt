@@ -1,11 +1,7 @@
 -- A client whose link gets a message to put: what always holds of it holds.
 use Rattle.std.proofs.Common.{◌≡◌, ℕ, ◌≤◌, ◌<◌, Bool, true, false, Some, List, [], length, refl, ap, arith}
 use Rattle.ldc_queue.specs.declared.end.ChannelState.TheVariants.{Up}
-use Rattle.vio_tag.proofs.Canonical.{length_canonical}
 use Rattle.vio_tag.specs.declared.message.Message.{Message}
-use Rattle.vio_tag.specs.declared.message.MsgBody.TheVariants.{DringData}
-use Rattle.vio_tag.specs.Spelling.{canonical}
-use Rattle.vio_handshake.specs.Messages.{info}
 use Rattle.disk_model.specs.ClientPutting.{announcement, announcing, client_holds, holding}
 use Rattle.disk_model.specs.ClientRule.{ClientRule}
 use Rattle.disk_model.specs.ClientState.{ClientSession, ClientState}

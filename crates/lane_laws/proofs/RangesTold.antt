@@ -310,7 +310,10 @@ pub record TheyTell (l : DiskLog) : Type 0 where
   pub server : EachSaid Responder l.shape.slots 0 0 (said l.transcript.server)
 
 tells_more : (r : Role) (slots : ℕ) (told now : List (List ℕ)) → Tells r slots told now → EachSaid r slots 0 0 told → EachSaid r slots 0 0 now
-tells_more r slots told now tells each = grind (arith, each_more)
+tells_more r slots told now (inl is) each = subst (EachSaid r slots 0 0) (sym is) each
+tells_more r slots told now (inr one) each =
+    subst (EachSaid r slots 0 0) (sym one.is) (each_more r slots 0 0 told one.bytes each
+    (same_either r slots (range_count (code_of r) told) (0 + range_count (code_of r) told) (range_sum slots (code_of r) told) (0 + range_sum slots (code_of r) told) one.bytes (omega arith) (omega arith) one.what))
 
 wire_told : (l : DiskLog) (event : WireEvent) → WireTellsAt l event → TheyTell l → TheyTell (after l (OnWire event))
 wire_told l event may tell = grind (arith, tells_more)
