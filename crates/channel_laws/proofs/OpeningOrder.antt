@@ -185,23 +185,20 @@ part_comes : (role : Role) (h : Handshake) (turns : List Utterance) (packet : Li
     → HandshakeComes role h (Said packet ∷ turns)
 part_comes role h turns packet part stop comes = record { coming = comes.coming; stage = by_stage comes.stage }
   where
-    both : Bool
-    both = h.offer.both_rings
-
     aside : (lines : List Line) → ComesUpBelow lines → FollowsRow role (sid_of h) lines turns → FollowsRow role (sid_of h) lines (Said packet ∷ turns)
     aside lines up follows =
         says_aside role (sid_of h) lines turns packet up part (subst (λ (b : Bool). MayEnd b (half_said turns ++ (fragment_at packet).bytes)) (sym stop) tt) follows
 
-    by_stage : Owing both role h.phase (sid_of h) h.owed turns ⊎ Waiting both role h.phase (sid_of h) h.owed turns
-        → Owing both role h.phase (sid_of h) h.owed (Said packet ∷ turns) ⊎ Waiting both role h.phase (sid_of h) h.owed (Said packet ∷ turns)
+    by_stage : Owing h.offer.both_rings role h.phase (sid_of h) h.owed turns ⊎ Waiting h.offer.both_rings role h.phase (sid_of h) h.owed turns
+        → Owing h.offer.both_rings role h.phase (sid_of h) h.owed (Said packet ∷ turns) ⊎ Waiting h.offer.both_rings role h.phase (sid_of h) h.owed (Said packet ∷ turns)
     by_stage (inl owing) = inl (record {
       message = owing.message;
       owed_is = owing.owed_is;
       next = owing.next;
-      follows = aside (drop 1 (met both role h.phase)) (up_behind (met both role h.phase) (sid_of h) owing.message owing.next (comes_up both role h.phase comes.coming)) owing.follows;
+      follows = aside (drop 1 (met h.offer.both_rings role h.phase)) (up_behind (met h.offer.both_rings role h.phase) (sid_of h) owing.message owing.next (comes_up h.offer.both_rings role h.phase comes.coming)) owing.follows;
     })
     by_stage (inr waiting) =
-        inr (record { waits = waiting.waits; refusal = waiting.refusal; follows = aside (met both role h.phase) (comes_up both role h.phase comes.coming) waiting.follows })
+        inr (record { waits = waiting.waits; refusal = waiting.refusal; follows = aside (met h.offer.both_rings role h.phase) (comes_up h.offer.both_rings role h.phase comes.coming) waiting.follows })
 
 -- an open session's handshake stays open, whatever is said
 open_in : (r : Role) (h : Handshake) → put_in r Open h ≡ record h { owed = None }

@@ -117,39 +117,23 @@ initiator_done both d h g mine theirs at there last front = grind arith
 pub both_done : (both : Bool) (d : Deal) (h g : Handshake) (mine theirs : List Utterance) → (at : AtPlace both d Initiator h mine) → (there : AtPlace both d Responder g theirs)
     → h.owed ≡ None → g.owed ≡ None → said mine ≡ heard theirs → said theirs ≡ heard mine → (at.place ≡ AllSaid) × (there.place ≡ AllSaid)
 both_done both d h g mine theirs at there none_h none_g to_there to_here =
-    by_waiting (owes_nothing both d Initiator h mine at none_h) (owes_nothing both d Responder g theirs there none_g)
-  where
-    here : Counts both d Initiator Responder at.place (length (said mine)) (length (heard mine))
-    here = counts both d Initiator h mine at
-
-    yonder : Counts both d Responder Initiator there.place (length (said theirs)) (length (heard theirs))
-    yonder = counts both d Responder g theirs there
-
-    told : length (said mine) ≡ length (heard theirs)
-    told = ap length to_there
-
-    taken : length (said theirs) ≡ length (heard mine)
-    taken = ap length to_here
-
-    -- the initiator waits, and the responder doesn't go before it
-    first_waits : owner at.place ≡ Some Responder → index both at.place < index both there.place → ⊥
-    first_waits turn less =
-        no_lead both d Responder at.place there.place (length (heard mine)) (length (said theirs)) at.here turn (here.taken_is (not_last Responder at.place turn)) yonder.told_least (omega (arith, taken)) less
-
-    last_waits : owner there.place ≡ Some Initiator → index both there.place < index both at.place → ⊥
-    last_waits turn less =
-        no_lead both d Initiator there.place at.place (length (heard theirs)) (length (said mine)) there.here turn (yonder.taken_is (not_last Initiator there.place turn)) here.told_least (omega (arith, told)) less
-
-    by_waiting : (owner at.place ≡ Some Responder) ⊎ (at.place ≡ AllSaid) → (owner there.place ≡ Some Initiator) ⊎ (there.place ≡ AllSaid)
-        → (at.place ≡ AllSaid) × (there.place ≡ AllSaid)
-    by_waiting (inr last) (inr also) = (last, also)
-    by_waiting (inl turn) (inr also) = absurd (first_waits turn (before_last both at.place there.place at.here (not_last Responder at.place turn) also))
-    by_waiting (inr last) (inl turn) = absurd (last_waits turn (before_last both there.place at.place there.here (not_last Initiator there.place turn) last))
-    by_waiting (inl turn) (inl other_turn) = absurd (by_order (order (index both at.place) (index both there.place)))
-      where
-        by_order : Order (index both at.place) (index both there.place) → ⊥
-        by_order (Earlier less) = first_waits turn less
-        by_order (Later less) = last_waits other_turn less
-        by_order (Same same) =
-            both_own there.place at.place
-            (sym (same_place both at.place there.place at.here there.here (not_last Responder at.place turn) (not_last Initiator there.place other_turn) same)) other_turn turn
+    let here = counts both d Initiator h mine at in
+    let yonder = counts both d Responder g theirs there in
+    -- an end that waits for the other doesn't go before it
+    let first_waits = λ (turn : owner at.place ≡ Some Responder) (less : index both at.place < index both there.place). no_lead both d Responder at.place there.place (length (heard mine)) (length (said theirs)) at.here turn (here.taken_is (not_last Responder at.place turn)) yonder.told_least (omega (arith, ap length to_here)) less in
+    let last_waits = λ (turn : owner there.place ≡ Some Initiator) (less : index both there.place < index both at.place). no_lead both d Initiator there.place at.place (length (heard theirs)) (length (said mine)) there.here turn (yonder.taken_is (not_last Initiator there.place turn)) here.told_least (omega (arith, ap length to_there)) less in
+    let waits = owes_nothing both d Responder g theirs there none_g in
+    elim (owes_nothing both d Initiator h mine at none_h) [
+      | inr last ↦ elim waits [
+        | inr also ↦ (last, also)
+        | inl turn ↦ absurd (last_waits turn (before_last both there.place at.place there.here (not_last Initiator there.place turn) last))
+      ]
+      | inl turn ↦ elim waits [
+        | inr also ↦ absurd (first_waits turn (before_last both at.place there.place at.here (not_last Responder at.place turn) also))
+        | inl other_turn ↦ elim (order (index both at.place) (index both there.place)) [
+          | Earlier less ↦ absurd (first_waits turn less)
+          | Later less ↦ absurd (last_waits other_turn less)
+          | Same same ↦ absurd (both_own there.place at.place (sym (same_place both at.place there.place at.here there.here (not_last Responder at.place turn) (not_last Initiator there.place other_turn) same)) other_turn turn)
+        ]
+      ]
+    ]
