@@ -1,5 +1,5 @@
 -- Where the causes of a kind's sessions are as the messages say, each cause that a packet has is as the packet says, and a gap names both numbers.
-use Rattle.std.proofs.Common.{◌≡◌, ℕ, Bool, true, false, Option, Some, None, Ok, Err, List, ◌++◌, refl, sym, subst, inl, inr, ◌⊎◌, arith}
+use Rattle.std.proofs.Common.{◌≡◌, ℕ, Bool, true, false, Option, Some, None, Ok, Err, List, ◌++◌, refl, sym, subst, inl, inr, ◌⊎◌}
 use Rattle.std.specs.Prelude.{◌&&◌, ◌||◌, not, Result, if◌then◌else◌, nat_eq, ⊤}
 use Rattle.std.proofs.lemmas.Bool.{eqb-true}
 use Rattle.ldc_link.specs.Taking.{may_come}
@@ -144,7 +144,13 @@ mode_told turns packet rest sound says =
 
 number_told : (turns : List Utterance) (packet : List ℕ) (rest : Option Cause) → first_fault packet ≡ None → SaysIfAny turns packet rest
     → SaysIfAny turns packet (number_cause (is_numbered packet) (counts_next (count_heard turns)) (seqid_at packet) rest)
-number_told turns packet rest sound says = grind arith
+number_told turns packet rest sound says =
+    let next = counts_next (count_heard turns) in
+    says_if turns packet (is_numbered packet && not (nat_eq (seqid_at packet) next)) (the_cause.Gap next (seqid_at packet)) rest
+    (λ test.
+    let tests = both_true (is_numbered packet) (not (nat_eq (seqid_at packet) next)) test in
+    let other = other_number (seqid_at packet) next (not_true (nat_eq (seqid_at packet) next) tests.1) in
+    (sound, record { has_number = tests.0; next = refl; is = refl; other = λ same. other (sym same) })) says
 
 fault_told : (turns : List Utterance) (packet : List ℕ) (fault : Option PacketFault) (rest : Option Cause) → first_fault packet ≡ fault → (first_fault packet ≡ None → SaysIfAny turns packet rest)
     → SaysIfAny turns packet (fault_cause fault rest)

@@ -1,18 +1,23 @@
 -- A message that a handshake refuses says why.
-use Rattle.std.proofs.Common.{◌≡◌, ℕ, Bool, true, false, Option, Some, None, List, refl, sym, arith}
-use Rattle.std.specs.Prelude.{nat_eq, ◌==◌, if◌then◌else◌, ⊤}
+use Rattle.std.proofs.Common.{◌≡◌, ℕ, Bool, true, false, Option, Some, None, List, refl, sym}
+use Rattle.std.specs.Prelude.{◌&&◌, nat_eq, nat_le, ◌==◌, if◌then◌else◌, ⊤}
 use Rattle.ldc_link.specs.declared.phase.Role.{Role}
+use Rattle.ldc_link.specs.declared.phase.Role.TheVariants.{Initiator, Responder}
 use Rattle.ldc_packet.specs.declared.packet.Subtype.{Subtype}
+use Rattle.ldc_packet.specs.declared.packet.Subtype.TheVariants.{Ack, Info}
 use Rattle.vio_bytes.specs.Place.{number_at}
 use Rattle.vio_tag.specs.declared.cause.Cause.{Cause}
 use Rattle.vio_tag.specs.declared.cause.Cause.TheVariants as the_cause
 use Rattle.vio_tag.specs.declared.message.Message.{Message}
 use Rattle.vio_tag.specs.declared.message.MsgBody.{MsgBody}
+use Rattle.vio_tag.specs.declared.message.MsgBody.TheVariants.{Attr, DringReg, Rdx, Ver}
 use Rattle.vio_tag.specs.Fault.{first_fault}
 use Rattle.vio_tag.specs.Spelling.{SpellsMessage}
 use Rattle.vio_handshake.specs.declared.handshake.Handshake.{Handshake}
 use Rattle.vio_handshake.specs.declared.handshake.Phase.{Phase}
-use Rattle.vio_handshake.specs.Rules.{Faults, Goes, GoesOpen, HandshakeTake, fault_or, is_declined, row, handshake_hear, handshake_take, sid_fault}
+use Rattle.vio_handshake.specs.declared.handshake.Phase.TheVariants.{Attributes, OwnReady, OwnRing, PeerReady, PeerRing, Version}
+use Rattle.vio_handshake.specs.Attributes.{accepts_answered}
+use Rattle.vio_handshake.specs.Rules.{Faults, Goes, GoesOpen, HandshakeTake, answered, asked, attributes_answered, fault_or, is_declined, row, handshake_hear, handshake_take, sid_fault, version_answered}
 use Rattle.channel_model.specs.ResetSays.{MessageSays}
 use Rattle.channel_laws.proofs.LinkResets.{other_number}
 
@@ -31,8 +36,28 @@ handshake_if : (m : List ℕ) (b : Bool) (one other : HandshakeTake) → Handsha
 handshake_if m true one other why rest = why
 handshake_if m false one other why rest = rest
 
+answered_why : (m : List ℕ) (s : Subtype) (t : HandshakeTake) → first_fault m ≡ None → HandshakeWhy m t → HandshakeWhy m (answered s t)
+answered_why m Ack t sound why = why
+answered_why m _ t sound why = sound
+
+asked_why : (m : List ℕ) (s : Subtype) (h : Handshake) → first_fault m ≡ None → HandshakeWhy m (asked s (Goes h))
+asked_why m Info h sound = tt
+asked_why m _ h sound = sound
+
 row_why : (m : List ℕ) (role : Role) (p : Phase) (h : Handshake) (s : Subtype) (sid : ℕ) (b : MsgBody) → first_fault m ≡ None → HandshakeWhy m (row role p h s sid b)
-row_why m role p h s sid b sound = grind arith
+row_why m Initiator Version h s sid (Ver major minor class) sound =
+    answered_why m s (version_answered h sid major minor) sound (handshake_if m (major == 1 && nat_le minor h.offer.minor) (Goes _) (Faults _) tt sound)
+row_why m Responder Version h s sid (Ver major minor class) sound = asked_why m s _ sound
+row_why m Initiator Attributes h s sid (Attr bytes) sound =
+    answered_why m s (attributes_answered h sid bytes) sound (handshake_if m (accepts_answered h.offer h.draft.minor bytes) (Goes _) (Faults _) tt sound)
+row_why m Responder Attributes h s sid (Attr bytes) sound = asked_why m s _ sound
+row_why m role OwnRing h s sid (DringReg ident slots slot_size options count cookies) sound = answered_why m s (Goes _) sound tt
+row_why m role PeerRing h s sid (DringReg ident slots slot_size options count cookies) sound = asked_why m s _ sound
+row_why m Initiator OwnReady h s sid Rdx sound = answered_why m s (Goes _) sound tt
+row_why m Responder OwnReady h s sid Rdx sound = answered_why m s (GoesOpen _) sound tt
+row_why m role PeerReady h s sid Rdx sound = asked_why m s _ sound
+row_why m Initiator p h s sid b sound = sound
+row_why m Responder p h s sid b sound = sound
 
 abbrev pub FaultWhy : List ℕ → Option Cause → Type 0
 FaultWhy m None = ⊤

@@ -222,9 +222,27 @@ ready_put bytes now ready has goes = record {
   heard_theirs = λ packets none. none;
 }
 
+up_waits : (role : Role) (place : LinkPlace) (lossy : Bool) (waiting : List (List ℕ)) (bytes : List ℕ) → phase.Established ≡ phase_at role place → is_numbered bytes ≡ true
+    → Waits (other role) lossy place waiting → Waits (other role) lossy place (waiting ++ bytes ∷ [])
+up_waits role place lossy waiting bytes at has any = grind (arith, all_more)
+
+up_says : (role : Role) (place : LinkPlace) (packets : List (List ℕ)) (bytes : List ℕ) → phase.Established ≡ phase_at role place → IsPartOf bytes → is_numbered bytes ≡ true
+    → SaidAt role place packets → SaidAt role place (packets ++ numbered (bytes ∷ []))
+up_says role place packets bytes at part has any = grind (arith, parts_more)
+
 part_put : (role : Role) (place : LinkPlace) (bytes : List ℕ) (now : LinkPhase) → phase.Established ≡ phase_at role place → IsPartOf bytes → is_numbered bytes ≡ true
     → now ≡ phase.Established → PutPlace role place bytes now
-part_put role place bytes now at part has goes = grind (arith, all_more, parts_more)
+part_put role place bytes now at part has goes = record {
+  next = place;
+  mine = goes ∙ at;
+  theirs = refl;
+  to_mine = λ lossy waiting any. any;
+  to_theirs = λ lossy waiting any. up_waits role place lossy waiting bytes at has any;
+  said_mine = λ packets any. up_says role place packets bytes at part has any;
+  said_theirs = λ packets any. any;
+  heard_mine = λ packets any. any;
+  heard_theirs = λ packets any. any;
+}
 
 -- A PACKET IS PUT
 put_place : (role : Role) (place : LinkPlace) (k m : LinkState) (turns : List Utterance) (bytes : List ℕ) → Follows k turns → k.phase ≡ phase_at role place → LinkPut k bytes m

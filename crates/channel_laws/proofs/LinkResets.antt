@@ -1,6 +1,6 @@
 -- A packet that a link doesn't take says why.
 use Rattle.std.proofs.Common.{◌≡◌, ◌≢◌, ℕ, Bool, true, false, List, None, Ok, Err, refl, sym, ap, ◌∙◌, subst, inl, inr, ◌⊎◌, arith}
-use Rattle.std.specs.Prelude.{IfErr, Result, if◌then◌else◌, nat_eq, ⊤}
+use Rattle.std.specs.Prelude.{◌&&◌, IfErr, Result, if◌then◌else◌, nat_eq, ⊤}
 use Rattle.ldc_link.specs.declared.phase.LinkPhase.{LinkPhase}
 use Rattle.ldc_link.specs.declared.phase.LinkPhase.TheVariants as phase
 use Rattle.ldc_link.specs.Conversing.{IsData, fragment_of}
@@ -14,7 +14,7 @@ use Rattle.ldc_packet.specs.declared.packet.Body.TheVariants.{Part, Rdx, Rtr, Rt
 use Rattle.ldc_packet.specs.declared.packet.Packet.{Packet}
 use Rattle.ldc_packet.specs.declared.packet.PacketFault.{PacketFault}
 use Rattle.ldc_packet.specs.declared.packet.Subtype.{Subtype}
-use Rattle.ldc_packet.specs.declared.packet.Subtype.TheVariants.{Info}
+use Rattle.ldc_packet.specs.declared.packet.Subtype.TheVariants.{Ack, Info, Nack}
 use Rattle.ldc_packet.specs.Decoding.{Unpacks}
 use Rattle.ldc_packet.specs.Fault.{first_fault}
 use Rattle.ldc_packet.specs.Spelling.{SpellsBody, ctrl_at, env_at, seqid_at, subtype_at, subtype_code, type_at, type_code}
@@ -51,9 +51,24 @@ count_why turns bytes (Unheard cause) why = why
 pub other_number : (a b : ℕ) → nat_eq a b ≡ false → a ≢ b
 other_number a b is = grind arith
 
+refuses_why : (turns : List Utterance) (bytes : List ℕ) (major minor : ℕ) (b c : Bool) → nat_eq major 1 ≡ b → nat_eq minor 0 ≡ c → first_fault bytes ≡ None → type_at bytes ≡ 1
+    → SpellsBody bytes (Vers major minor) → subtype_at bytes ≡ 2 → WhyPhase turns bytes (if b && c then Ok phase.OwesRts else Err the_cause.Version)
+refuses_why turns bytes major minor true true one none sound kind spells subtype = tt
+refuses_why turns bytes major minor false c one none sound kind spells subtype =
+    let answer = inr (subtype, inl (λ is. other_number major 1 one (sym spells.1 ∙ is))) in
+    record { says = (sound, record { control = kind; kind = spells.0; answer = answer }); gap = tt; carried = tt }
+refuses_why turns bytes major minor true false one none sound kind spells subtype =
+    let answer = inr (subtype, inr (λ is. other_number minor 0 none (sym spells.2 ∙ is))) in
+    record { says = (sound, record { control = kind; kind = spells.0; answer = answer }); gap = tt; carried = tt }
+
 vers_why : (turns : List Utterance) (bytes : List ℕ) (p : LinkPhase) (s : Subtype) (major minor : ℕ) → first_fault bytes ≡ None → type_at bytes ≡ 1 → SpellsBody bytes (Vers major minor)
     → subtype_at bytes ≡ subtype_code s → WhyPhase turns bytes (phase_behind_vers p s major minor)
-vers_why turns bytes p s major minor sound kind spells subtype = grind arith
+vers_why turns bytes phase.AwaitsVersInfo Info major minor sound kind spells subtype = tt
+vers_why turns bytes phase.AwaitsVersAck Ack major minor sound kind spells subtype =
+    refuses_why turns bytes major minor (nat_eq major 1) (nat_eq minor 0) refl refl sound kind spells subtype
+vers_why turns bytes phase.AwaitsVersAck Nack major minor sound kind spells subtype =
+    record { says = (sound, record { control = kind; kind = spells.0; answer = inl subtype }); gap = tt; carried = tt }
+vers_why turns bytes _ _ major minor sound kind spells subtype = unexpected turns bytes sound
 
 rts_why : (turns : List Utterance) (bytes : List ℕ) (p : LinkPhase) (s : Subtype) → first_fault bytes ≡ None → WhyPhase turns bytes (phase_behind_rts p s)
 rts_why turns bytes phase.AwaitsRts Info sound = tt

@@ -1,5 +1,5 @@
 -- Along every run each session opens in the handshake's order, with one ring and with rings both ways.
-use Rattle.std.proofs.Common.{◌≡◌, ℕ, Bool, true, false, ◌⊎◌, inl, inr, Some, None, List, [], ◌∷◌, ◌++◌, length, refl, sym, ap, ◌∙◌, subst, arith}
+use Rattle.std.proofs.Common.{◌≡◌, ℕ, Bool, true, false, ◌⊎◌, inl, inr, Some, None, List, [], ◌∷◌, ◌++◌, drop, length, refl, sym, ap, ◌∙◌, subst, arith}
 use Rattle.std.specs.Prelude.{if◌then◌else◌, nat_eq}
 use Rattle.std.proofs.lemmas.Bool.{eqb-true, leb-true}
 use Rattle.std.proofs.lemmas.List.{take_all}
@@ -26,7 +26,7 @@ use Rattle.vio_handshake.specs.declared.handshake.Phase.TheVariants.{Open}
 use Rattle.vio_handshake.specs.declared.session.Offer.{Offer}
 use Rattle.vio_handshake.specs.Rules.{opens_by_put, put_in, handshake_sent, sid_fault}
 use Rattle.vio_handshake.specs.State.{handshake_up}
-use Rattle.channel_model.specs.HandshakeOrder.{Control, FollowsRow, HandshakeOrder, IsControlOf, IsVersNack, RdxGiven, RtrAnswered, RtsAsked, VersAgreed, VersOffer}
+use Rattle.channel_model.specs.HandshakeOrder.{ComesUpBelow, Control, FollowsRow, HandshakeOrder, IsControlOf, IsVersNack, Line, MayEnd, RdxGiven, RtrAnswered, RtsAsked, Says as Says_, VersAgreed, VersOffer}
 use Rattle.channel_model.specs.Sayings.{half_said}
 use Rattle.channel_model.specs.TranscriptLog.{transcript_of}
 use Rattle.channel_model.specs.WireEvent.{Sent as Sent_, Took as Took_}
@@ -41,7 +41,7 @@ use Rattle.channel_laws.proofs.HandshakeCases.{RowTaken, row_sent}
 use Rattle.channel_laws.proofs.Conversations.{held_phase}
 use Rattle.channel_laws.proofs.Lifting.{EndsAll, ends_run}
 use Rattle.channel_laws.proofs.LinkCases.{behind_part, ControlHeard, ControlPut, ControlTaken, IsPacket, LinkHeard, ModeAgreed, ModeAsked, PartHeard, ReadyHeard, VersionAgreed, VersionAsked, taken_quiet}
-use Rattle.channel_laws.proofs.Opening.{EndCame, HandshakeComes, IsComing, SaysWhole, hears_aside, hears_control, link_met, says_aside}
+use Rattle.channel_laws.proofs.Opening.{EndCame, HandshakeComes, IsComing, IsNext, Owing, SaysWhole, Waiting, comes_up, hears_aside, hears_control, link_met, met, says_aside, sid_of}
 use Rattle.channel_laws.proofs.OpeningRows.{Comes_, GoesOn, Opens_, initiator_row, responder_row, sent_row}
 use Rattle.channel_laws.proofs.UtteranceCases.{SaysLast}
 use Rattle.channel_laws.specs.Cuts.{Carries, CarriesOwed, CarriesOwn}
@@ -176,10 +176,29 @@ same_comes role h g turns now is goes (inr comes) = inr (subst (λ (x : Handshak
 heard_comes : (role : Role) (h : Handshake) (turns : List Utterance) (packet : List ℕ) → h.owed ≡ None → HandshakeComes role h turns → HandshakeComes role h (Heard packet ∷ turns)
 heard_comes role h turns packet none comes = grind (arith, hears_aside)
 
+up_behind : (lines : List Line) (sid : ℕ) (message : Message) → IsNext lines sid message → ComesUpBelow lines → ComesUpBelow (drop 1 lines)
+up_behind (Says_ subtype envelope ∷ lines) sid message next up = up
+up_behind _ sid message next up = absurd next
+
 -- a part that goes on stands aside, also of the message that is owed
 part_comes : (role : Role) (h : Handshake) (turns : List Utterance) (packet : List ℕ) → is_part packet ≡ true → (fragment_at packet).stop ≡ false → HandshakeComes role h turns
     → HandshakeComes role h (Said packet ∷ turns)
-part_comes role h turns packet part stop comes = grind (arith, says_aside)
+part_comes role h turns packet part stop comes = record { coming = comes.coming; stage = by_stage comes.stage }
+  where
+    aside : (lines : List Line) → ComesUpBelow lines → FollowsRow role (sid_of h) lines turns → FollowsRow role (sid_of h) lines (Said packet ∷ turns)
+    aside lines up follows =
+        says_aside role (sid_of h) lines turns packet up part (subst (λ (b : Bool). MayEnd b (half_said turns ++ (fragment_at packet).bytes)) (sym stop) tt) follows
+
+    by_stage : Owing h.offer.both_rings role h.phase (sid_of h) h.owed turns ⊎ Waiting h.offer.both_rings role h.phase (sid_of h) h.owed turns
+        → Owing h.offer.both_rings role h.phase (sid_of h) h.owed (Said packet ∷ turns) ⊎ Waiting h.offer.both_rings role h.phase (sid_of h) h.owed (Said packet ∷ turns)
+    by_stage (inl owing) = inl (record {
+      message = owing.message;
+      owed_is = owing.owed_is;
+      next = owing.next;
+      follows = aside (drop 1 (met h.offer.both_rings role h.phase)) (up_behind (met h.offer.both_rings role h.phase) (sid_of h) owing.message owing.next (comes_up h.offer.both_rings role h.phase comes.coming)) owing.follows;
+    })
+    by_stage (inr waiting) =
+        inr (record { waits = waiting.waits; refusal = waiting.refusal; follows = aside (met h.offer.both_rings role h.phase) (comes_up h.offer.both_rings role h.phase comes.coming) waiting.follows })
 
 -- an open session's handshake stays open, whatever is said
 open_in : (r : Role) (h : Handshake) → put_in r Open h ≡ record h { owed = None }

@@ -305,7 +305,9 @@ sent_coming role h turns packet p sent at = subst (IsComing h.offer.both_rings r
 
 at_role : (role r : Role) (h t : Handshake) (opens : Bool) (turns : List Utterance) (packet : List ℕ) → h.role ≡ r → (sent : Sent role h turns packet)
     → (Sent r h turns packet → GoesOn r t opens (Said packet ∷ turns)) → GoesOn role t opens (Said packet ∷ turns)
-at_role role r h t opens turns packet is sent goes = grind arith
+at_role role r h t opens turns packet is sent goes =
+    let same : r ≡ role = sym is ∙ sent.role_is in
+    subst (λ (x : Role). GoesOn x t opens (Said packet ∷ turns)) same (goes (subst (λ (x : Role). Sent x h turns packet) (sym same) sent))
 
 opens_by : (h : Handshake) (turns : List Utterance) (packet : List ℕ) → Sent Initiator h turns packet → h.phase ≡ PeerReadyTaken → OpensBy Initiator (sid_of h) (row h.offer.both_rings Initiator) (Said packet ∷ turns)
 opens_by h turns packet sent at = of sent.comes.stage

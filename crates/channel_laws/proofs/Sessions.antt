@@ -18,7 +18,6 @@ use Rattle.vio_handshake.specs.declared.session.Offer.{Offer}
 use Rattle.vio_handshake.specs.Offers.{Match}
 use Rattle.vio_handshake.specs.Pairing.{KnowsBoth}
 use Rattle.vio_handshake.proofs.Places.{AllSaid, Deal, answered_in_all, asked_in_all, handshake_at}
-use Rattle.vio_tag.specs.declared.message.Message.{Message}
 use Rattle.channel_model.specs.Sayings.{heard, said}
 use Rattle.channel_model.specs.TranscriptLog.{transcript_of}
 use Rattle.channel_model.specs.WireAt.{IsUp}
@@ -34,7 +33,6 @@ use Rattle.channel_laws.proofs.WhoOwes.{initiator_done}
 use Rattle.channel_laws.specs.Conversing.{Converse}
 use Rattle.channel_laws.specs.CoreLog.{CoreLog, after, nothing_yet}
 use Rattle.channel_laws.specs.EndCore.{EndCore}
-use Rattle.channel_laws.specs.Grounds.{Among}
 use Rattle.channel_laws.specs.LaneCore.{CoreEvent, CoreFits, CoreStep, LaneCore, end_of, fresh_core, role_of, transcript_after, transcript_behind}
 use Rattle.channel_laws.specs.OneSession.{AreOneSession}
 use Rattle.channel_laws.specs.Sides.{Sides, sides_of, swapped}
@@ -47,10 +45,6 @@ transcript_is l [] = refl
 transcript_is l (event ∷ events) = transcript_is (after l event) events
 
 -- AN OPEN SESSION heard a message
-pub not_among : (message : Message) (messages : List (List ℕ)) → messages ≡ [] → Among message messages → ⊥
-not_among message [] is among = among
-not_among message (bytes ∷ messages) is among = cc is
-
 pub open_heard : (role : Role) (c : EndCore) (turns : List Utterance) → StandsResting role c turns → c.is_open ≡ true → heard turns ≡ [] → ⊥
 open_heard role c turns knows is none = grind arith
 

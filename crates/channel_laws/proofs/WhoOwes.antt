@@ -61,7 +61,12 @@ record Counts (both : Bool) (d : Deal) (mine theirs : Role) (n : Place) (told ta
 
 counts : (both : Bool) (d : Deal) (r : Role) (h : Handshake) (turns : List Utterance) → (at : AtPlace both d r h turns)
     → Counts both d r (other r) at.place (length (said turns)) (length (heard turns))
-counts both d r h turns at = grind arith
+counts both d r h turns at = record {
+  told_least = omega (arith, ap length at.said_is, length-append (said_at both d r at.place) at.mine);
+  taken_least = omega (arith, ap length at.heard_is, length-append (said_at both d (other r) at.place) at.theirs);
+  told_is = λ far. omega (arith, ap length at.said_is, length-append (said_at both d r at.place) at.mine, ap length (at.only far).0);
+  taken_is = λ far. omega (arith, ap length at.heard_is, length-append (said_at both d (other r) at.place) at.theirs, ap length (at.only far).1);
+}
 
 -- WHO OWES a message says the next, and who owes none waits for the other or is through
 owes_nothing : (both : Bool) (d : Deal) (r : Role) (h : Handshake) (turns : List Utterance) → (at : AtPlace both d r h turns) → h.owed ≡ None
@@ -71,10 +76,37 @@ owes_nothing both d r h turns at none = grind arith
 both_own : (n m : Place) → n ≡ m → owner n ≡ Some Initiator → owner m ≡ Some Responder → ⊥
 both_own n m same one other = let wrong : Some Initiator ≡ Some Responder = sym one ∙ ap owner same ∙ other in cc wrong
 
+owes_next : (both : Bool) (d : Deal) (r : Role) (h : Handshake) (turns : List Utterance) → (at : AtPlace both d r h turns) → is_some h.owed ≡ true → owner at.place ≡ Some r
+owes_next both d r h turns at some = grind arith
+
+front_long : (xs ys : List (List ℕ)) → IsFront xs ys → length xs ≤ length ys
+front_long xs ys front = omega (arith, ap length front.1, length-append xs front.0)
+
+-- who owes the message of an earlier place said less than the other heard
+no_lead : (both : Bool) (d : Deal) (r : Role) (n m : Place) (told taken : ℕ) → IsPlace both n → owner n ≡ Some r → told ≡ length (said_at both d r n) → length (said_at both d r m) ≤ taken
+    → taken ≤ told → index both n < index both m → ⊥
+no_lead both d r n m told taken here own is least front less = omega (arith, later both d r n m here own less, is, least, front)
+
 -- NEVER DO BOTH owe one, where each heard a front of what the other said
 pub never_both : (both : Bool) (d : Deal) (h g : Handshake) (mine theirs : List Utterance) → (at : AtPlace both d Initiator h mine) → (there : AtPlace both d Responder g theirs)
     → is_some h.owed ≡ true → (is_some g.owed ≡ true) ⊎ (there.place ≡ AllSaid) → IsFront (heard theirs) (said mine) → IsFront (heard mine) (said theirs) → ⊥
-never_both both d h g mine theirs at there owed owing to_there to_here = grind arith
+never_both both d h g mine theirs at there owed owing to_there to_here =
+    let here = counts both d Initiator h mine at in
+    let yonder = counts both d Responder g theirs there in
+    let turn = owes_next both d Initiator h mine at owed in
+    let far = not_last Initiator at.place turn in
+    let leads = λ (less : index both at.place < index both there.place). no_lead both d Initiator at.place there.place (length (said mine)) (length (heard theirs)) at.here turn (here.told_is far) yonder.taken_least (front_long (heard theirs) (said mine) to_there) less in
+    elim owing [
+      | inr last ↦ leads (before_last both at.place there.place at.here far last)
+      | inl also ↦
+          let other_turn = owes_next both d Responder g theirs there also in
+          let other_far = not_last Responder there.place other_turn in
+          elim (order (index both at.place) (index both there.place)) [
+            | Earlier less ↦ leads less
+            | Later less ↦ no_lead both d Responder there.place at.place (length (said theirs)) (length (heard mine)) there.here other_turn (yonder.told_is other_far) here.taken_least (front_long (heard mine) (said theirs) to_here) less
+            | Same same ↦ both_own at.place there.place (same_place both at.place there.place at.here there.here far other_far same) turn other_turn
+          ]
+    ]
 
 -- THE INITIATOR HAS SAID ALL where a responder that heard a front of it has: the last message is the initiator's
 pub initiator_done : (both : Bool) (d : Deal) (h g : Handshake) (mine theirs : List Utterance) → (at : AtPlace both d Initiator h mine) → (there : AtPlace both d Responder g theirs)
@@ -85,39 +117,23 @@ initiator_done both d h g mine theirs at there last front = grind arith
 pub both_done : (both : Bool) (d : Deal) (h g : Handshake) (mine theirs : List Utterance) → (at : AtPlace both d Initiator h mine) → (there : AtPlace both d Responder g theirs)
     → h.owed ≡ None → g.owed ≡ None → said mine ≡ heard theirs → said theirs ≡ heard mine → (at.place ≡ AllSaid) × (there.place ≡ AllSaid)
 both_done both d h g mine theirs at there none_h none_g to_there to_here =
-    by_waiting (owes_nothing both d Initiator h mine at none_h) (owes_nothing both d Responder g theirs there none_g)
-  where
-    here : Counts both d Initiator Responder at.place (length (said mine)) (length (heard mine))
-    here = counts both d Initiator h mine at
-
-    yonder : Counts both d Responder Initiator there.place (length (said theirs)) (length (heard theirs))
-    yonder = counts both d Responder g theirs there
-
-    told : length (said mine) ≡ length (heard theirs)
-    told = ap length to_there
-
-    taken : length (said theirs) ≡ length (heard mine)
-    taken = ap length to_here
-
-    -- the initiator waits, and the responder doesn't go before it
-    first_waits : owner at.place ≡ Some Responder → index both at.place < index both there.place → ⊥
-    first_waits turn less =
-        omega (arith, later both d Responder at.place there.place at.here turn less, here.taken_is (not_last Responder at.place turn), yonder.told_least, taken)
-
-    last_waits : owner there.place ≡ Some Initiator → index both there.place < index both at.place → ⊥
-    last_waits turn less =
-        omega (arith, later both d Initiator there.place at.place there.here turn less, yonder.taken_is (not_last Initiator there.place turn), here.told_least, told)
-
-    by_waiting : (owner at.place ≡ Some Responder) ⊎ (at.place ≡ AllSaid) → (owner there.place ≡ Some Initiator) ⊎ (there.place ≡ AllSaid)
-        → (at.place ≡ AllSaid) × (there.place ≡ AllSaid)
-    by_waiting (inr last) (inr also) = (last, also)
-    by_waiting (inl turn) (inr also) = absurd (first_waits turn (before_last both at.place there.place at.here (not_last Responder at.place turn) also))
-    by_waiting (inr last) (inl turn) = absurd (last_waits turn (before_last both there.place at.place there.here (not_last Initiator there.place turn) last))
-    by_waiting (inl turn) (inl other_turn) = absurd (by_order (order (index both at.place) (index both there.place)))
-      where
-        by_order : Order (index both at.place) (index both there.place) → ⊥
-        by_order (Earlier less) = first_waits turn less
-        by_order (Later less) = last_waits other_turn less
-        by_order (Same same) =
-            both_own there.place at.place
-            (sym (same_place both at.place there.place at.here there.here (not_last Responder at.place turn) (not_last Initiator there.place other_turn) same)) other_turn turn
+    let here = counts both d Initiator h mine at in
+    let yonder = counts both d Responder g theirs there in
+    -- an end that waits for the other doesn't go before it
+    let first_waits = λ (turn : owner at.place ≡ Some Responder) (less : index both at.place < index both there.place). no_lead both d Responder at.place there.place (length (heard mine)) (length (said theirs)) at.here turn (here.taken_is (not_last Responder at.place turn)) yonder.told_least (omega (arith, ap length to_here)) less in
+    let last_waits = λ (turn : owner there.place ≡ Some Initiator) (less : index both there.place < index both at.place). no_lead both d Initiator there.place at.place (length (heard theirs)) (length (said mine)) there.here turn (yonder.taken_is (not_last Initiator there.place turn)) here.told_least (omega (arith, ap length to_there)) less in
+    let waits = owes_nothing both d Responder g theirs there none_g in
+    elim (owes_nothing both d Initiator h mine at none_h) [
+      | inr last ↦ elim waits [
+        | inr also ↦ (last, also)
+        | inl turn ↦ absurd (last_waits turn (before_last both there.place at.place there.here (not_last Initiator there.place turn) last))
+      ]
+      | inl turn ↦ elim waits [
+        | inr also ↦ absurd (first_waits turn (before_last both at.place there.place at.here (not_last Responder at.place turn) also))
+        | inl other_turn ↦ elim (order (index both at.place) (index both there.place)) [
+          | Earlier less ↦ absurd (first_waits turn less)
+          | Later less ↦ absurd (last_waits other_turn less)
+          | Same same ↦ absurd (both_own there.place at.place (sym (same_place both at.place there.place at.here there.here (not_last Responder at.place turn) (not_last Initiator there.place other_turn) same)) other_turn turn)
+        ]
+      ]
+    ]

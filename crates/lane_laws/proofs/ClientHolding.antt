@@ -1,11 +1,7 @@
 -- A client whose link gets a message to put: what always holds of it holds.
 use Rattle.std.proofs.Common.{◌≡◌, ℕ, ◌≤◌, ◌<◌, Bool, true, false, Some, List, [], length, refl, ap, arith}
 use Rattle.ldc_queue.specs.declared.end.ChannelState.TheVariants.{Up}
-use Rattle.vio_tag.proofs.Canonical.{length_canonical}
 use Rattle.vio_tag.specs.declared.message.Message.{Message}
-use Rattle.vio_tag.specs.declared.message.MsgBody.TheVariants.{DringData}
-use Rattle.vio_tag.specs.Spelling.{canonical}
-use Rattle.vio_handshake.specs.Messages.{info}
 use Rattle.disk_model.specs.ClientPutting.{announcement, announcing, client_holds, holding}
 use Rattle.disk_model.specs.ClientRule.{ClientRule}
 use Rattle.disk_model.specs.ClientState.{ClientSession, ClientState}
@@ -15,9 +11,6 @@ use Rattle.lane_laws.specs.RuleFacts.{ClientMay}
 use Rattle.lane_laws.specs.Sound.{ClientSound}
 
 -- an INFO has 56 bytes
-pub info_long : (sid seq ident start end state : ℕ) → length (canonical (info sid (DringData seq ident start end state))) ≡ 56
-info_long sid seq ident start end state = omega (arith, length_canonical (info sid (DringData seq ident start end state)))
-
 -- an end that holds nothing holds no INFO
 pub not_own : (b : Bool) (xs : List ℕ) → (b ≡ true → 1 ≤ length xs) → xs ≡ [] → b ≡ false
 not_own true xs own empty = absurd (omega (arith, own refl, ap length empty))

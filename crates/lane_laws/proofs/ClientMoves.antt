@@ -28,7 +28,7 @@ use Rattle.channel_laws.specs.EndCore.{EndCore, holds}
 use Rattle.channel_laws.specs.EndStep.{EndBegins, EndFails, EndHears, EndSays, EndStays, EndWaits, HearsWhole, Holding, Holds, HoldsOn, HoldsOwed, HoldsOwn, KeepsOwn, LinkFails, MayTake, WholeFails}
 use Rattle.lane_laws.proofs.ClientAnswers.{Answers, comes_to, goes_by}
 use Rattle.lane_laws.proofs.ClientHolding.{client_held, not_own}
-use Rattle.channel_laws.proofs.EndStanding.{SameSending, heard_leaves, up_empty}
+use Rattle.channel_laws.proofs.EndStanding.{up_empty}
 use Rattle.lane_laws.proofs.RulesFree.{nothing_owed, puts_owe, takes_calm}
 use Rattle.lane_laws.proofs.Ruling.{client_may}
 use Rattle.lane_laws.proofs.Sharing.{in_order, infos_few}
@@ -115,14 +115,6 @@ client_hears s at packet t sound rule takes =
       own = λ before behind. to.0.own;
       most = infos_most t sound;
     }
-
--- its link keeps what it has to send
-pub client_sending : (s t : ClientState) (packet : List ℕ) → ClientTakes s packet (GoesOn t) → SameSending s.link t.link
-client_sending s t packet takes =
-    let by = goes_by s packet t takes in
-    let to : Comes s by.link (GoesOn t) = client_comes s by.link (GoesOn t) by.hears in
-    let same = heard_leaves s.link by.link packet by.takes in
-    subst (SameSending s.link) (sym to.0.link) (record { left = same.left; begun = same.begun; role = same.role })
 
 -- IT RESETS ITSELF
 resets_link : (s : ClientState) (cause : Cause) (link : LinkTake) → HearsLink s link (Resets cause) → LinkFails Initiator (client_core s) link cause

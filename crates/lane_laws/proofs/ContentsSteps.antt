@@ -1,5 +1,5 @@
 -- Each kind of change leaves the buffers of writes holding what they write, and a descriptor in work going on as its request has it.
-use Rattle.std.proofs.Common.{◌≡◌, ◌≢◌, ℕ, suc, ◌+◌, ◌-◌, ◌*◌, ◌%◌, ◌<◌, ◌≤◌, List, ◌∷◌, length, Option, Some, inl, inr, sym, ap, ◌∙◌, subst, arith}
+use Rattle.std.proofs.Common.{◌≡◌, ◌≢◌, ℕ, suc, ◌+◌, ◌-◌, ◌*◌, ◌%◌, ◌<◌, ◌≤◌, List, ◌∷◌, length, Option, Some, inl, inr, refl, sym, ap, ◌∙◌, subst, arith}
 use Rattle.std.specs.Prelude.{slice_get}
 use Rattle.std.proofs.lemmas.Bool.{cases_lt}
 use Rattle.std.proofs.lemmas.Nat.{mod_below}
@@ -19,6 +19,7 @@ use Rattle.lane_laws.proofs.Buffers.{other_buffer, other_slot}
 use Rattle.lane_laws.proofs.Changes.{Accepts, Completes, Disturbs, Keeps, Opens, Placed, Publishes, Unchanged, filled}
 use Rattle.lane_laws.proofs.NearSteps.{get_within}
 use Rattle.lane_laws.proofs.SlotBytes.{same_request}
+use Rattle.channel_laws.proofs.Apart.{none_is_some, some_same}
 
 -- THE SESSION'S PLACES
 pub same_place : (slots i : ℕ) (one other : ClientSession) → one.completed ≡ other.completed → place_of slots one i ≡ place_of slots other i
@@ -41,7 +42,8 @@ pub opens_contents : (v w : View) → Opens v w → ContentsStand v → Contents
 opens_contents v w change stand = grind arith
 
 pub disturbs_contents : (p : ℕ) (v w : View) → Disturbs p v w → ContentsStand v → ContentsStand w
-disturbs_contents p v w change stand = grind (arith, writes_kept)
+disturbs_contents p v w change stand =
+    subst ContentsStand (sym change.is) (record { writes = writes_kept v w.session change.keeps stand.writes; work = λ work is. none_is_some is; none = λ is. refl })
 
 -- A REQUEST IS ACCEPTED
 pub accepts_contents : (blocks : ℕ) (request : Request) (v w : View) → Placed blocks v → Accepts request v w → ContentsStand v → ContentsStand w
@@ -66,7 +68,7 @@ writes_published : (blocks : ℕ) (v w : View) → Placed blocks v → (change :
     → WritesStand (record v { session = Some (record change.session { published = change.session.published + 1 }); buffers = filled change.request (32768 * (change.session.published % v.slots)) v.buffers })
 writes_published blocks v w placed change stand = λ session is i below other got.
     let c = change.session in
-    let same : record c { published = c.published + 1 } ≡ session = cc is in
+    let same : record c { published = c.published + 1 } ≡ session = some_same is in
     let completed : session.completed ≡ c.completed = ap (λ (x : ClientSession). x.completed) (sym same) in
     let published : session.published ≡ c.published + 1 = ap (λ (x : ClientSession). x.published) (sym same) in
     let slot = c.published % v.slots in
@@ -111,7 +113,7 @@ completes_contents v w change stand =
     let last : v.k ≡ suc (v.k - 1) = omega (arith, some) in
     subst ContentsStand (sym change.is) (record {
       writes = λ session is i below other got.
-          let same : record c { completed = c.completed + 1 } ≡ session = cc is in
+          let same : record c { completed = c.completed + 1 } ≡ session = some_same is in
           let completed : session.completed ≡ c.completed + 1 = ap (λ (x : ClientSession). x.completed) (sym same) in
           let published : session.published ≡ c.published = ap (λ (x : ClientSession). x.published) (sym same) in
           let number : session.completed + i ≡ c.completed + suc i = omega (arith, completed) in

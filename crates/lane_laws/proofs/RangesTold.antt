@@ -1,6 +1,6 @@
 -- What each end of a lane that nobody forged said since it last began: messages of its handshake, and ranges of its session, each from the slot on
 -- where those before it end. So what an end in session hears next is the next of them.
-use Rattle.std.proofs.Common.{◌≡◌, ℕ, ◌+◌, ◌%◌, ◌^◌, ◌<◌, ◌≤◌, ◌⊎◌, inl, inr, true, false, Option, Some, List, [], ◌∷◌, ◌++◌, refl, sym, ap, ◌∙◌, subst, arith}
+use Rattle.std.proofs.Common.{◌≡◌, ℕ, ◌+◌, ◌%◌, ◌^◌, ◌<◌, ◌≤◌, ◌⊎◌, inl, inr, true, false, Option, Some, None, List, [], ◌∷◌, ◌++◌, refl, sym, ap, ◌∙◌, subst, arith}
 use Rattle.std.specs.Prelude.{is_none, is_some, ⊤}
 use Rattle.runs.specs.Lawful.{Lawful, log_of}
 use Rattle.runs.specs.Run.{Run}
@@ -34,8 +34,8 @@ use Rattle.disk_model.specs.LaneState.{IsShape, LaneState, Shape, fresh}
 use Rattle.disk_model.specs.LaneStep.{LaneStep}
 use Rattle.disk_model.specs.ServerPutting.{server_kind}
 use Rattle.disk_model.specs.ServerRule as server_rules
-use Rattle.disk_model.specs.ServerState.{ServerState, SlotRange}
-use Rattle.channel_laws.proofs.Apart.{some_is_none}
+use Rattle.disk_model.specs.ServerState.{ServerSession, ServerState, SlotRange}
+use Rattle.channel_laws.proofs.Apart.{some_is_none, some_same}
 use Rattle.channel_laws.proofs.Conversations.{held_phase}
 use Rattle.channel_laws.proofs.EndResting.{held_handshake}
 use Rattle.channel_laws.proofs.EndStanding.{held_stands, owing_up}
@@ -64,7 +64,7 @@ use Rattle.lane_laws.proofs.ServerMoves.{server_waits}
 use Rattle.lane_laws.proofs.ServerPutCounting.{server_holds_counting, none_is}
 use Rattle.lane_laws.specs.ChannelEnds.{client_core, server_core}
 use Rattle.channel_laws.specs.Cuts.{CarriesOwed}
-use Rattle.lane_laws.specs.Counted.{ClientCounted, HoldsAnswer, InServerOrder, RangeStands, ServerCounted, range_count, range_sum}
+use Rattle.lane_laws.specs.Counted.{ClientCounted, HoldsAnswer, InServerOrder, RangeStands, ServerCounted, ServerOrder, range_count, range_sum}
 use Rattle.lane_laws.specs.DiskLog.{DiskLog, after, nothing_yet}
 use Rattle.lane_laws.specs.WorkLog.{ServerCounts, length_in, one_in}
 
@@ -169,7 +169,7 @@ owed_apart role d held turns bytes here holds = by_turn (here.at (owing_up role 
         elim (who role at.place) [
           | inl own ↦ (
               let both : Some holds.message ≡ Some (message_at d at.place) = owed ∙ owes_at false d role at.place own in
-              let same : holds.message ≡ message_at d at.place = cc both in
+              let same : holds.message ≡ message_at d at.place = some_same both in
               subst IsApart (sym (holds.is ∙ ap canonical same)) (other_apart (message_at d at.place) (place_other d at.place)))
           | inr (inl turn) ↦ (some_is_none (owed ∙ owes_not false d role at.place turn))
           | inr (inr last) ↦ (some_is_none (owed ∙ owes_none false d role at.place last))
@@ -247,7 +247,9 @@ client_tells EndsHandshake l d held packet some small here counted says =
 answered_data : (l : DiskLog) (d : Deal) (held : ServerState) (bytes : List ℕ) (q : Option ServerCounts) → IsShape l.shape → HeldAt Responder d (server_core held) l.transcript.server
     → ServerCounted l.shape held l.transcript.server q → HoldsAnswer held bytes
     → IsData Responder l.shape.slots d.sid (range_count 2 (said l.transcript.server)) (range_sum l.shape.slots 2 (said l.transcript.server)) bytes
-answered_data l d held bytes q sound here counted a = grind (arith, answer_data)
+answered_data l d held bytes (Some c) sound here counted a = answer_data l.shape d held l.transcript.server bytes c sound here counted a
+answered_data l d held bytes None sound here counted a =
+    absurd (subst (λ (x : Option ServerSession). ServerOrder l.shape.slots x None l.transcript.server) a.session_is counted.order)
 
 server_tells : (kind : PutKind) (l : DiskLog) (d : Deal) (held : ServerState) (packet : List ℕ) → IsShape l.shape → d.sid < 2 ^ 32 → HeldAt Responder d (server_core held) l.transcript.server
     → ServerCounted l.shape held l.transcript.server l.work.server → PutSays kind (is_none held.handshake.owed) held.link l.transcript.server packet
@@ -308,7 +310,10 @@ pub record TheyTell (l : DiskLog) : Type 0 where
   pub server : EachSaid Responder l.shape.slots 0 0 (said l.transcript.server)
 
 tells_more : (r : Role) (slots : ℕ) (told now : List (List ℕ)) → Tells r slots told now → EachSaid r slots 0 0 told → EachSaid r slots 0 0 now
-tells_more r slots told now tells each = grind (arith, each_more)
+tells_more r slots told now (inl is) each = subst (EachSaid r slots 0 0) (sym is) each
+tells_more r slots told now (inr one) each =
+    subst (EachSaid r slots 0 0) (sym one.is) (each_more r slots 0 0 told one.bytes each
+    (same_either r slots (range_count (code_of r) told) (0 + range_count (code_of r) told) (range_sum slots (code_of r) told) (0 + range_sum slots (code_of r) told) one.bytes (omega arith) (omega arith) one.what))
 
 wire_told : (l : DiskLog) (event : WireEvent) → WireTellsAt l event → TheyTell l → TheyTell (after l (OnWire event))
 wire_told l event may tell = grind (arith, tells_more)

@@ -13,6 +13,7 @@ use Rattle.lane_laws.proofs.Changes.{Completes, Keeps, Placed}
 use Rattle.lane_laws.proofs.ContentsSteps.{next_got, same_place}
 use Rattle.lane_laws.proofs.NearSteps.{get_within}
 use Rattle.lane_laws.proofs.PendingWrites.{shows_done, shows_pushed}
+use Rattle.channel_laws.proofs.Apart.{some_same}
 
 -- WHAT SHOWS goes on to show
 units_map : (progress : Progress) (content other : List ℕ) (pending after : List Request) (m n k i block count place : ℕ) (buffers : List ℕ)
@@ -61,7 +62,7 @@ pub done_completed : (content : List ℕ) (v : View) → (change : (w : View) ×
     })
 done_completed content v change done = λ session is i below block count got.
     let c = change.1.session in
-    let same : record c { completed = c.completed + 1 } ≡ session = cc is in
+    let same : record c { completed = c.completed + 1 } ≡ session = some_same is in
     let completed : session.completed ≡ c.completed + 1 = ap (λ (x : ClientSession). x.completed) (sym same) in
     let number : session.completed + i ≡ c.completed + suc i = omega (arith, completed) in
     let old = done c change.1.there (suc i) (omega (arith, below)) block count (next_got v.pending change.1.request change.1.behind i (Read block count) change.1.front got) in
@@ -83,7 +84,7 @@ work_completed content v change shows = λ session is work now block count got.
     let some = change.1.finished in
     let i = v.k - 1 in
     let last : v.k ≡ suc i = omega (arith, some) in
-    let same : record c { completed = c.completed + 1 } ≡ session = cc is in
+    let same : record c { completed = c.completed + 1 } ≡ session = some_same is in
     let completed : session.completed ≡ c.completed + 1 = ap (λ (x : ClientSession). x.completed) (sym same) in
     let number : session.completed + i ≡ c.completed + v.k = omega (arith, completed, last) in
     let old = shows c change.1.there work now block count (ap (slice_get v.pending) last ∙ next_got v.pending change.1.request change.1.behind i (Read block count) change.1.front got) in

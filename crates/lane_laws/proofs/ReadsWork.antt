@@ -24,6 +24,7 @@ use Rattle.lane_laws.proofs.BlockWrites.{admitted_blocks}
 use Rattle.lane_laws.proofs.Buffers.{other_buffer, other_slot}
 use Rattle.lane_laws.proofs.Changes.{Fetches, Placed, Publishes, Serves, filled}
 use Rattle.lane_laws.proofs.ContentsSteps.{same_place}
+use Rattle.channel_laws.proofs.Apart.{some_same}
 
 -- OTHER BYTES that are the same where the blocks stand
 pub blocks_moved : (content : List ℕ) (pending : List Request) (m k block n place : ℕ) (buffers new : List ℕ)
@@ -68,7 +69,7 @@ pub done_published : (blocks : ℕ) (content : List ℕ) (v w : View) → Placed
 done_published blocks content v w placed change done = λ session is i below block count got.
     let c = change.session in
     let new = filled change.request (32768 * (c.published % v.slots)) v.buffers in
-    let same : record c { published = c.published + 1 } ≡ session = cc is in
+    let same : record c { published = c.published + 1 } ≡ session = some_same is in
     let completed : session.completed ≡ c.completed = ap (λ (x : ClientSession). x.completed) (sym same) in
     let first = placed.published c change.there in
     subst (λ (p : ℕ). BlocksShow content v.pending v.m i block count p new) (sym (same_place v.slots i session c completed))
@@ -80,7 +81,7 @@ pub work_published : (blocks : ℕ) (content : List ℕ) (v w : View) → Placed
 work_published blocks content v w placed stand change shows = λ session is work now block count got.
     let c = change.session in
     let new = filled change.request (32768 * (c.published % v.slots)) v.buffers in
-    let same : record c { published = c.published + 1 } ≡ session = cc is in
+    let same : record c { published = c.published + 1 } ≡ session = some_same is in
     let completed : session.completed ≡ c.completed = ap (λ (x : ClientSession). x.completed) (sym same) in
     subst (λ (p : ℕ). UnitsShow work.progress content v.pending v.m v.k block count p new) (sym (same_place v.slots v.k session c completed))
     (units_moved work.progress content v.pending v.m v.k v.u block count (place_of v.slots c v.k) v.buffers new (stand.work work now (Read block count) got)

@@ -104,7 +104,9 @@ id_below slots done c slot id j stands since below turn is = grind (arith, one_t
 -- the id in the slot of a number is that number's
 pub id_is : (slots done : ℕ) (c : ClientCounts) (slot id j : ℕ) → IdStands slots done c slot id → done ≤ c.base + j → j < c.published → c.base + c.published ≤ done + slots
     → slot ≡ j % slots → id ≡ c.base + j
-id_is slots done c slot id j stands since below turn is = grind (arith, id_below)
+id_is slots done c slot id j stands since below turn is =
+    let same = id_below slots done c slot id j stands since below turn is in
+    omega (arith, same, stands.based, stands.since)
 
 -- the next number to publish has a slot in which no id stands
 pub none_next : (slots done : ℕ) (c : ClientCounts) (slot id : ℕ) → IdStands slots done c slot id → c.base + c.published < done + slots → slot ≢ c.published % slots

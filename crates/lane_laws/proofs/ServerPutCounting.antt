@@ -97,9 +97,21 @@ goes_counting shape v turns packet d on counted =
       agrees = agrees_same v.session v.work d (length_in shape.slots (range_ended 2 (half_said turns) packet)) none counted.agrees;
     }
 
+nothing_left : (xs : List ℕ) → xs ≡ [] → 1 ≤ length xs → ⊥
+nothing_left xs none some = omega (arith, ap length none)
+
 pub comes_counting : (shape : Shape) (v : ServerState) (turns : List Utterance) (packet : List ℕ) (d : Option ServerCounts) → ServerUtters v turns → is_up v.link ≡ false → SaysOn v.link turns packet
     → ServerCounted shape v turns d → ServerCounted shape (put_as ComesUp v) (Said packet ∷ turns) (answers_more shape turns packet d)
-comes_counting shape v turns packet d utters down on counted = grind arith
+comes_counting shape v turns packet d utters down on counted =
+    let same = goes_counting shape v turns packet d on counted in
+    record {
+      slots = same.slots;
+      blocks = same.blocks;
+      holds = λ owing some. absurd (nothing_left v.link.to_send (utters.idle down) (on.some some));
+      order = same.order;
+      unit = same.unit;
+      agrees = same.agrees;
+    }
 
 -- A MESSAGE OF THE HANDSHAKE is put whole
 pub handshake_counting : (shape : Shape) (v : ServerState) (turns : List Utterance) (packet : List ℕ) (d : Option ServerCounts) → ServerRests v turns → is_none v.handshake.owed ≡ false → SaysWhole v.link turns packet

@@ -11,6 +11,7 @@ use Rattle.vio_bytes.specs.Place.{put_at}
 use Rattle.lane_laws.specs.RingLog.{Done, Ready, SlotLog}
 use Rattle.disk_model.specs.ServerWork.{header_of}
 use Rattle.lane_laws.specs.RingSlots.{HoldsIssued, RingOf, SlotHolds}
+use Rattle.channel_laws.proofs.Apart.{some_same}
 
 -- the descriptor of a request with a state and a status
 abbrev pub stated : ℕ → Request → ℕ → ℕ → ℕ → ℕ → DiskDesc
@@ -68,7 +69,7 @@ marked_holds r slot id bytes sizes holds = grind arith
 
 -- THE END: the status, and then DONE
 pub same_request : (issued : List Request) (id : ℕ) (one other : Request) → slice_get issued id ≡ Some one → slice_get issued id ≡ Some other → one ≡ other
-same_request issued id one other is also = let both : Some one ≡ Some other = sym is ∙ also in cc both
+same_request issued id one other is also = let both : Some one ≡ Some other = sym is ∙ also in some_same both
 
 pub ended_holds : (r : RingOf) (slot id status : ℕ) (fetched bytes : List ℕ) → Sizes r slot → status < 2 ^ 32 → HoldsIssued r slot id 2 0 fetched → HoldsIssued r slot id 3 0 bytes
     → HoldsIssued r slot id 4 status (put_at 0 (header_of 4 fetched) (put_at 16 (status_word fetched status) bytes))

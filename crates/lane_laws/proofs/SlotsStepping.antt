@@ -3,7 +3,7 @@ use Rattle.std.proofs.Common.{◌≡◌, ℕ, ◌+◌, ◌-◌, ◌%◌, ◌<◌
 use Rattle.ldc_queue.specs.declared.end.ChannelState.{ChannelState}
 use Rattle.ldc_queue.specs.declared.end.ChannelState.TheVariants.{Up}
 use Rattle.ldc_queue.specs.declared.end.End.TheVariants.{A, B}
-use Rattle.ldc_queue.specs.Wire.{Wire, configured, peer_behind, upset}
+use Rattle.ldc_queue.specs.Wire.{closed, Wire, configured, peer_behind, upset}
 use Rattle.channel_model.specs.WireEvent.{Injected, Joined, Lost, Reset, Sent, Took, WireEvent}
 use Rattle.lane_laws.specs.Agreement.{ServerAgrees, WorkAgrees}
 use Rattle.lane_laws.specs.DiskLog.{DiskLog, after}
@@ -12,7 +12,7 @@ use Rattle.lane_laws.specs.RingLog.{Accepted as IsAccepted, Done as IsDone, Slot
 use Rattle.lane_laws.specs.WorkLaws.{IfServer}
 use Rattle.lane_laws.specs.WorkLog.{ClientCounts, ServerCounts, WorkLog, change_client, change_server, length_in, one_in}
 use Rattle.disk_model.specs.ClientRule as client_rules
-use Rattle.disk_model.specs.DiskEvent.{Desc, DiskEvent, Done, Finished, Misplaced, Moved, OnWire, Published, Stored, Worked, Works}
+use Rattle.disk_model.specs.DiskEvent.{Accepted, Asks, Desc, DiskEvent, Done, Finished, Misplaced, Moved, OnWire, Published, Stopped, Stored, Switches, Worked, Works}
 use Rattle.disk_model.specs.LaneState.{LaneState}
 use Rattle.disk_model.specs.LaneStep.{LaneStep, WorkStep}
 use Rattle.channel_model.specs.Sayings.{half_heard, half_said}
@@ -85,6 +85,9 @@ behind_up x y is = grind arith
 at_begun : (wire : Wire) (q : Option ServerCounts) (finished descs : ℕ) → ServerAt wire q finished descs → ServerAt (configured B wire) None finished descs
 at_begun wire q finished descs at = grind arith
 
+at_closed : (wire : Wire) (q : Option ServerCounts) (finished descs : ℕ) → ServerAt wire q finished descs → ServerAt (closed B wire) None finished descs
+at_closed wire q finished descs at = grind arith
+
 same_at : (wire next : Wire) (q : Option ServerCounts) (finished descs : ℕ) → next.end_a ≡ wire.end_a → next.end_b ≡ wire.end_b → ServerAt wire q finished descs → ServerAt next q finished descs
 same_at wire next q finished descs a b at = record { works = λ up. at.works (sym b ∙ up); rests = λ up none. at.rests (sym a ∙ up) (λ now. none (b ∙ now)) }
 
@@ -120,7 +123,7 @@ opened_slots s l packet t facts =
     )
   where
     published_of : {sid base : ℕ} {c : ClientCounts} → Some (record { sid = sid; base = base; published = 0; announced = 0; infos = 0; acked = 0 }) ≡ Some c → c.published ≡ 0
-    published_of {sid} {base} {c} is = let same : record { sid = sid; base = base; published = 0; announced = 0; infos = 0; acked = 0 } ≡ c = cc is in ap (λ (x : ClientCounts). x.published) (sym same)
+    published_of {sid} {base} {c} is = let same : record { sid = sid; base = base; published = 0; announced = 0; infos = 0; acked = 0 } ≡ c = some_same is in ap (λ (x : ClientCounts). x.published) (sym same)
 
 took_server : (opens : Bool) (s : LaneState) (l : DiskLog) (packet : List ℕ) (t : LaneState) → StepFacts s l (OnWire (Took B packet opens)) t → SlotsInOrder l
     → SlotsInOrder (after l (OnWire (Took B packet opens)))
@@ -315,4 +318,9 @@ work_slots s l Misplaced t step facts slots = absurd step
 
 -- EACH EVENT
 pub event_slots : (s : LaneState) (l : DiskLog) (event : DiskEvent) (t : LaneState) → LaneStep s event t → StepFacts s l event t → SlotsInOrder l → SlotsInOrder (after l event)
-event_slots s l event t step facts slots = grind (arith, wire_slots, work_slots)
+event_slots s l (OnWire event) t step facts slots = wire_slots s l event t step facts slots
+event_slots s l (Works event) t step facts slots = work_slots s l event t step facts slots
+event_slots s l (Switches Stopped) t step facts slots =
+    keep_server l.shape.slots l.work (after l (Switches Stopped)).work l.wire.wire (closed B l.wire.wire) l.ring l.work.client refl (λ finished descs at. at_closed l.wire.wire l.work.server finished descs at) slots
+event_slots s l (Asks (Accepted id request)) t step facts slots = slots
+event_slots s l event t step facts slots = slots

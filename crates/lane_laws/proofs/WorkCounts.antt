@@ -65,7 +65,7 @@ published_near s l id t before step =
         most = omega (arith, most, ever, next, within, issued);
         session = λ other is.
             let both : Some (record p.session { published = p.session.published + 1 }) ≡ Some other = sym session ∙ is in
-            let same : record p.session { published = p.session.published + 1 } ≡ other = cc both in
+            let same : record p.session { published = p.session.published + 1 } ≡ other = some_same both in
             subst (λ (x : ClientSession). x.base + x.published ≤ t.client.ever_published) same (omega (arith, ever, id_is));
       };
     }
@@ -145,7 +145,7 @@ completed_near s l id operation status bytes t before step =
         most = omega (arith, most, ever, next);
         session = λ other is.
             let both : Some (record c.session { completed = c.session.completed + 1 }) ≡ Some other = sym session ∙ is in
-            let same : record c.session { completed = c.session.completed + 1 } ≡ other = cc both in
+            let same : record c.session { completed = c.session.completed + 1 } ≡ other = some_same both in
             subst (λ (x : ClientSession). x.base + x.published ≤ t.client.ever_published) same (omega (arith, ever, published));
       };
     }
