@@ -162,7 +162,7 @@ nothing_held (Some bytes) = refl
 
 -- memory was wanted before the first line
 pub lines_unread : (start old : Option (List ℕ)) (gathered : List ℕ) → gathered ≡ [] → DumpsLines start start the_status.NoMemory old old gathered 0 0 0
-lines_unread start old gathered none = lines_stop Going start start start old old [] the_status.NoMemory gathered 0 0 0 0 (so_far_none Going start old gathered 0 refl none) tt (nothing_held start) (λ _. refl) refl
+lines_unread start old gathered none = lines_stop Going start start start old old [] the_status.NoMemory gathered 0 0 0 0 (so_far_none Going start old gathered 0 refl none) tt (refl, refl, nothing_held start) (λ _. refl) refl
 
 -- how a last line was written after what was gathered
 ends : (why status : Status) (old mid new : Option (List ℕ)) (gathered text last whole : List ℕ) → whole ≡ text ++ last → Gathers old mid gathered text

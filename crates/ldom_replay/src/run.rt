@@ -41,8 +41,8 @@ fn read_opening<S: Source>(reader: &mut Reader, source: &mut S) -> Result<Event,
     requires names { reader.old.names ≡ no_names }
     requires empty { reader.old.journal.entries ≡ [] }
 
-    ensures opens { IfOk result (λ event. Opens reader.new.lines.stop (to_come reader.old.lines (S.left source.old))
-        (to_come reader.new.lines (S.left source.new)) event reader.new.names reader.new.lines.number) }
+    ensures opens { IfOk result (λ event. Opens (to_come reader.old.lines (S.left source.old)) reader.new.lines
+        (S.left source.new) event reader.new.names) }
     ensures declared { IfOk result (IsDeclared reader.new.names) }
     ensures goes { OnOk result (GoesOn reader.new.lines (S.left source.new)) }
     ensures ended { OnOk result (reader.new.names.ended ≡ true) }

@@ -7,7 +7,6 @@ use Rattle.vio_io.specs.declared.host.AttachFault.TheVariants.{Failed, Memory}
 use Rattle.disk_law.specs.ListState.{ImageState}
 use Rattle.domain_script.specs.declared.event.Event.{Event}
 use Rattle.domain_script.specs.declared.event.Event.TheVariants as line
-use Rattle.script_reader.specs.declared.lines.LinesStop.{LinesStop}
 use Rattle.script_reader.specs.declared.lines.LinesStop.TheVariants.{Going}
 use Rattle.script_reader.specs.LinesState.{AllFed, LinesState, to_come}
 use Rattle.domain_script.specs.Declarations.{Declared}
@@ -26,7 +25,7 @@ use Rattle.script_laws.specs.Opening.{Opened, Opens, OpensAndStops}
 use Rattle.world_parts.specs.Lines.{EventStep, line_of}
 use Rattle.world_parts.specs.Parts.{Fits, FitsSoFar}
 use Rattle.ldom_report.specs.LinesEnd.{counted_lines}
-use Rattle.script_laws.specs.Reading.{StopsAt}
+use Rattle.script_laws.specs.Reading.{HasReason, IsDeclaredOut, Leaves, StopsAt}
 use Rattle.script_laws.specs.Replayed.{FaultsAre, Replayed, Stopped, attach_status, ended_status, start_of}
 use Rattle.script_laws.specs.LanesStand.{LanesStand}
 use Rattle.script_laws.specs.Script.{ReadSoFar}
@@ -153,24 +152,29 @@ stopped_as start now why ended events all names entries number lines is stopped 
 }
 
 -- a run that stopped after the first such line
-abbrev stopped_behind : (start now : Option (List ℕ)) (held : List ℕ) (event : Event) (names : NamesState) (count : ℕ) (why : Status) → why ≢ status.SourceFault → {stop : LinesStop} (opens : Opens stop start (prepend_known held now) event names count)
+abbrev stopped_behind : (start now : Option (List ℕ)) (reader : LinesState) (event : Event) (names : NamesState) (why : Status) → why ≢ status.SourceFault → (opens : Opens start reader now event names)
     → (all : List Event) → all ≡ opens.opening ++ event ∷ []
-    → (entries : ℕ) → StopsAt why (prepend_known held now) held now names count entries → count ≡ counted_lines why count → Stopped start now why all names entries count
-stopped_behind start now held event names count why other opens all all_is entries stops is = record {
-  left = prepend_known held now;
-  count = count;
-  read = read_as start (prepend_known held now) (opens.opening ++ event ∷ []) all names count all_is opens.read;
-  held = held;
-  stop = stops;
+    → (entries : ℕ) → HasReason why (to_come reader now) (to_come reader now) reader.held names reader.number entries → Leaves why (to_come reader now) (to_come reader now)
+    → reader.number ≡ counted_lines why reader.number → Stopped start now why all names entries reader.number
+stopped_behind start now reader event names why other opens all all_is entries reason leaves is = record {
+  left = to_come reader now;
+  count = reader.number;
+  read = read_as start (to_come reader now) (opens.opening ++ event ∷ []) all names reader.number all_is opens.read;
+  held = reader.held;
+  stop = (reason, leaves);
   feeds = λ failed. absurd (other failed);
   lines_are = is;
 }
 
 -- THE FIRST EVENT that isn't a declaration, and the lines after it
-module _ (stop : LinesStop) (start rest now : Option (List ℕ)) (event : Event) (names after : NamesState) (s m t : DomainState)
-    (journal new : List Entry) (number lines : ℕ) (why : Status) (readers : IsReaders why)
-    (opens : Opens stop start rest event names number) (fits : Fits s (line_of event) [] journal m)
-    (runs : RunsLines rest now names journal m number why after new t lines) (going : why ≡ status.SourceFault → stop ≡ Going) where
+module _ (start now : Option (List ℕ)) (reader : LinesState) (began : Option (List ℕ)) (event : Event) (names after : NamesState) (s m t : DomainState)
+    (journal new : List Entry) (lines : ℕ) (why : Status) (readers : IsReaders why)
+    (opens : Opens start reader began event names) (fits : Fits s (line_of event) [] journal m)
+    (runs : RunsLines (to_come reader began) now names journal m reader.number why after new t lines)
+    (going : why ≡ status.SourceFault → reader.stop ≡ Going) where
+  abbrev rest : Option (List ℕ)
+  rest = to_come reader began
+
   abbrev front : List (Event × List Entry)
   front = first_lines opens.opening event fits.adds.part
 
@@ -198,12 +202,12 @@ module _ (stop : LinesStop) (start rest now : Option (List ℕ)) (event : Event)
 
   pub runs_all : RunsAll start now names s why after new t lines
   runs_all =
-      let count : number + length runs.read.texts ≡ length (opens.read.texts ++ runs.read.texts) = omega (arith, opens.read.counts, length-append opens.read.texts runs.read.texts) in
+      let count : reader.number + length runs.read.texts ≡ length (opens.read.texts ++ runs.read.texts) = omega (arith, opens.read.counts, length-append opens.read.texts runs.read.texts) in
       record {
         parts = parts;
         stopped = record {
           left = runs.left;
-          count = number + length runs.read.texts;
+          count = reader.number + length runs.read.texts;
           read = record {
             texts = opens.read.texts ++ runs.read.texts;
             taken = taken-append start rest runs.left opens.read.texts runs.read.texts opens.read.taken
@@ -229,15 +233,16 @@ module _ (stop : LinesStop) (start rest now : Option (List ℕ)) (event : Event)
       }
 
 -- memory was wanted in the midst of that first event
-pub runs_first_cut : {stop : LinesStop} (start now : Option (List ℕ)) (held : List ℕ) (event : Event) (names : NamesState) (s t : DomainState) (journal : List Entry) (number : ℕ)
-    → Opens stop start (prepend_known held now) event names number → FitsSoFar s (line_of event) [] journal t → RunsAll start now names s status.NoMemory names journal t number
-runs_first_cut start now held event names s t journal number opens fits =
+pub runs_first_cut : (start now : Option (List ℕ)) (reader : LinesState) (event : Event) (names : NamesState) (s t : DomainState) (journal : List Entry)
+    → Opens start reader now event names → FitsSoFar s (line_of event) [] journal t → RunsAll start now names s status.NoMemory names journal t reader.number
+runs_first_cut start now reader event names s t journal opens fits =
     let are : events_of (begun_parts opens.opening event fits.adds.part) ≡ opens.opening ++ event ∷ [] =
     first_events opens.opening event fits.adds.part in
     record {
       parts = begun_parts opens.opening event fits.adds.part;
-      stopped = stopped_behind start now held event names number status.NoMemory (λ failed. cc failed) opens
-          (events_of (begun_parts opens.opening event fits.adds.part)) are (length journal) (tt, keeps_same (prepend_known held now)) refl;
+      stopped = stopped_behind start now reader event names status.NoMemory (λ failed. cc failed) opens
+          (events_of (begun_parts opens.opening event fits.adds.part)) are (length journal)
+          (inr (inl (opens.ended, opens.held))) (keeps_same (to_come reader now)) refl;
       journal_is = record {
         is = first_entries opens.opening event fits.adds.part ∙ sym fits.adds.grew;
         fits = record {
@@ -329,9 +334,13 @@ refused_ends : (fault : AttachFault) (all : ScriptParts) → journal_of all ≡ 
 refused_ends Failed all none = none
 refused_ends Memory all none = tt
 
-refused_stop : (fault : AttachFault) (left now : Option (List ℕ)) (held : List ℕ) (names : NamesState) (count : ℕ) → Keeps left (prepend_known held now) → StopsAt (attach_status fault) left held now names count 0
-refused_stop Failed left now held names count kept = (tt, kept)
-refused_stop Memory left now held names count kept = (tt, kept)
+refused_reason : (fault : AttachFault) (rest left : Option (List ℕ)) (held : List ℕ) (names : NamesState) (count : ℕ) → IsDeclaredOut rest held names → HasReason (attach_status fault) rest left held names count 0
+refused_reason Failed rest left held names count declared = declared
+refused_reason Memory rest left held names count declared = inr declared
+
+refused_leaves : (fault : AttachFault) (rest left : Option (List ℕ)) → Keeps rest left → Leaves (attach_status fault) rest left
+refused_leaves Failed rest left kept = kept
+refused_leaves Memory rest left kept = kept
 
 refused_unfailed : (fault : AttachFault) → attach_status fault ≢ status.SourceFault
 refused_unfailed Failed failed = cc failed
@@ -408,7 +417,8 @@ module _ {D : Type 0} (seen : D → ImageState) (start now : Option (List ℕ)) 
       record {
         parts = parts;
         stopped = declared_stopped start now status.Done (attach_status fault) names reader.number opened
-            (refused_stop fault opened.stopped.left now opened.stopped.held names opened.stopped.count opened.stopped.stop.1)
+            (refused_reason fault opened.stopped.left (prepend_known opened.stopped.held now) opened.stopped.held names opened.stopped.count (inr opened.stopped.stop.0),
+            refused_leaves fault opened.stopped.left (prepend_known opened.stopped.held now) opened.stopped.stop.1)
             (λ failed. absurd (refused_unfailed fault failed))
             (opened.stopped.lines_are ∙ refused_count fault opened.stopped.count);
         final = start_of names gives;
@@ -427,8 +437,9 @@ module _ {D : Type 0} (seen : D → ImageState) (start now : Option (List ℕ)) 
       let parts : ScriptParts = begun_parts opened.opening event [] in
       record {
         parts = parts;
-        stopped = stopped_behind start now reader.held event names reader.number (attach_status fault) (refused_unfailed fault) opened (events_of parts) (first_events opened.opening event []) 0
-            (refused_stop fault (to_come reader now) now reader.held names reader.number (keeps_same (to_come reader now))) (refused_count fault reader.number);
+        stopped = stopped_behind start now reader event names (attach_status fault) (refused_unfailed fault) opened (events_of parts) (first_events opened.opening event []) 0
+            (refused_reason fault (to_come reader now) (to_come reader now) reader.held names reader.number (inl (opened.ended, opened.held)))
+            (refused_leaves fault (to_come reader now) (to_come reader now) (keeps_same (to_come reader now))) (refused_count fault reader.number);
         final = start_of names gives;
         journal_is = record {
           is = first_entries opened.opening event [];
@@ -449,7 +460,7 @@ module _ {D : Type 0} (seen : D → ImageState) (start now : Option (List ℕ)) 
       let parts : ScriptParts = declared_parts opened.opening in
       record {
         parts = parts;
-        stopped = declared_stopped start now status.Done (status.ImageSize need have) names reader.number opened (tt, opened.stopped.stop.1) (λ failed. cc failed) opened.stopped.lines_are;
+        stopped = declared_stopped start now status.Done (status.ImageSize need have) names reader.number opened (inr opened.stopped.stop.0, opened.stopped.stop.1) (λ failed. cc failed) opened.stopped.lines_are;
         final = start_of names gives;
         journal_is = record {
           is = opening_entries opened.opening;
@@ -465,7 +476,8 @@ module _ {D : Type 0} (seen : D → ImageState) (start now : Option (List ℕ)) 
       let parts : ScriptParts = begun_parts opened.opening event [] in
       record {
         parts = parts;
-        stopped = stopped_behind start now reader.held event names reader.number (status.ImageSize need have) (λ failed. cc failed) opened (events_of parts) (first_events opened.opening event []) 0 (tt, keeps_same (to_come reader now)) refl;
+        stopped = stopped_behind start now reader event names (status.ImageSize need have) (λ failed. cc failed) opened (events_of parts) (first_events opened.opening event []) 0
+            (inl (opened.ended, opened.held)) (keeps_same (to_come reader now)) refl;
         final = start_of names gives;
         journal_is = record {
           is = first_entries opened.opening event [];
@@ -482,7 +494,7 @@ module _ {D : Type 0} (seen : D → ImageState) (start now : Option (List ℕ)) 
   pub replayed_none : (names : NamesState) → names ≡ no_names → now ≡ start → Replayed seen start now gives status.NoMemory 0 names [] None None
   replayed_none names is same = record {
     parts = declared_parts [];
-    stopped = record { left = start; count = 0; read = read_none start names 0 is refl; held = []; stop = (tt, nothing_held start now same); feeds = λ failed. cc failed; lines_are = refl };
+    stopped = record { left = start; count = 0; read = read_none start names 0 is refl; held = []; stop = (inl (refl, refl), nothing_held start now same); feeds = λ failed. cc failed; lines_are = refl };
     final = start_of names gives;
     journal_is = record { is = refl; fits = declared_fit (start_of names gives) [] tt; ends = tt };
     image_is = tt;

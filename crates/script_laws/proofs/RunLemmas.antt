@@ -1,5 +1,5 @@
 -- A script's lines run one after another.
-use Rattle.std.proofs.Common.{◌≡◌, ℕ, ◌+◌, ◌<◌, ◌≤◌, List, [], ◌∷◌, ◌++◌, length, refl, sym, ◌∙◌, ap, subst, append_assoc, length-append, arith, Option, Some, None}
+use Rattle.std.proofs.Common.{◌≡◌, inl, inr, true, ℕ, ◌+◌, ◌<◌, ◌≤◌, List, [], ◌∷◌, ◌++◌, length, refl, sym, ◌∙◌, ap, subst, append_assoc, length-append, arith, Option, Some, None}
 use Rattle.std.specs.Io.KnownBytes.{Keeps, prepend_known}
 use Rattle.std.proofs.lemmas.List.{append-nil}
 use Rattle.runs.specs.Run.{Run, run_push}
@@ -12,7 +12,7 @@ use Rattle.ldom_report.specs.declared.status.Status.TheVariants as status
 use Rattle.ldom_report.specs.Stops.{IsReaders}
 use Rattle.script_reader.specs.declared.lines.LinesStop.{LinesStop}
 use Rattle.script_reader.specs.declared.lines.LinesStop.TheVariants.{Going}
-use Rattle.script_reader.specs.LinesState.{AllFed}
+use Rattle.script_reader.specs.LinesState.{AllFed, most_of_a_read}
 use Rattle.script_laws.specs.Going.{ReadsOn, RunsLines}
 use Rattle.world_parts.specs.Lines.{LineStarts, EventStep, line_of}
 use Rattle.world_parts.specs.Parts.{Fits, FitsSoFar}
@@ -127,8 +127,8 @@ keeps_same (Some bytes) = refl
 pub runs_cut : {was stop : LinesStop} (start rest now : Option (List ℕ)) (held : List ℕ) (before names after : NamesState) (old mid new : List Entry) (s m t : DomainState)
     (number count next : ℕ) (event : Event) → RunsSoFar was start before old s number rest names mid m count
     → ReadsEvent stop rest (prepend_known held now) names event after → next ≡ count + 1 → next ≤ 20000 → length mid < 2000000 → FitsSoFar m (line_of event) mid new t
-    → RunsLines start now before old s number status.NoMemory after new t next
-runs_cut start rest now held before names after old mid new s m t number count next event so_far reads is few below fits = record {
+    → after.ended ≡ true → length held ≤ most_of_a_read → RunsLines start now before old s number status.NoMemory after new t next
+runs_cut start rest now held before names after old mid new s m t number count next event so_far reads is few below fits ended short = record {
   parts = record { whole = so_far.lines; cut = Some (event, fits.adds.part) };
   left = prepend_known held now;
   read = on_more start rest (prepend_known held now) before names after number count next (events_in so_far.lines)
@@ -138,7 +138,7 @@ runs_cut start rest now held before names after old mid new s m t number count n
   fits = grind (arith, line_starts, below_push, below_here);
   ends = tt;
   held = held;
-  stop = (tt, keeps_same (prepend_known held now));
+  stop = (inr (inl (ended, short)), keeps_same (prepend_known held now));
   feeds = λ failed. cc failed;
   lines_are = omega (arith, is, so_far.counts, length-append so_far.read.texts (reads.text ∷ []));
 }

@@ -61,6 +61,9 @@ returns-in-Err-apply-clause-runs g c =
     c.args.world.now c.loop-stop.world c.apply.new.self c.args.reader.now.lines.number c.loop-stop.reader.lines.number c.read_event.new.self.lines.number c.read_event.new.event
     c.loop-stop.invariant.so_far c.in-Ok.ensures.event c.in-Ok.ensures.next.0 c.in-Ok.ensures.next.1 c.in-Ok.ensures.below
     (subst (λ (j : JournalState). FitsSoFar c.loop-stop.world (line_of c.read_event.new.event) j.entries c.apply.new.journal.entries c.apply.new.self) c.in-Ok.ensures.journal c.in-Err-apply.ensures.so_far)
+    (still_ended (to_come c.loop-stop.reader.lines (g.S.Source.left c.loop-stop.source)) (to_come c.read_event.new.self.lines (g.S.Source.left c.read_event.new.source)) c.read_event.new.event
+    c.loop-stop.reader.names c.read_event.new.self.names c.in-Ok.ensures.event c.loop-stop.invariant.ended)
+    c.in-Ok.ensures.held
 
 pub returns-in-Err-clause-runs : goal.returns-in-Err-clause-runs
 returns-in-Err-clause-runs g c =
