@@ -17,7 +17,7 @@ use Rattle.ldom_entries.specs.declared.entry.Entry.{Entry}
 use Rattle.ldom_report.specs.declared.status.Status.{Status}
 use Rattle.ldom_report.specs.declared.status.Status.TheVariants as status
 use Rattle.world_parts.specs.Endings.{EndsSo, JournalIs, ending}
-use Rattle.script_laws.specs.Going.{RunsAll, RunsLines}
+use Rattle.script_laws.specs.Going.{RunAt, RunsAll, RunsLines, run_at}
 use Rattle.ldom_report.specs.Stops.{IsReaders}
 use Rattle.script_laws.specs.Attached.{AreOpening, AttachesAt, ImageStands, is_opening}
 use Rattle.script_laws.specs.Behind.{StandsBehind}
@@ -167,10 +167,10 @@ stopped_behind start now reader event names why other opens all all_is entries r
 }
 
 -- THE FIRST EVENT that isn't a declaration, and the lines after it
-module _ (start now : Option (List ℕ)) (reader : LinesState) (began : Option (List ℕ)) (event : Event) (names after : NamesState) (s m t : DomainState)
-    (journal new : List Entry) (lines : ℕ) (why : Status) (readers : IsReaders why)
+module _ (start now : Option (List ℕ)) (reader : LinesState) (began : Option (List ℕ)) (event : Event) (names : NamesState) (s m : DomainState)
+    (journal : List Entry) (why : Status) (after : RunAt) (readers : IsReaders why)
     (opens : Opens start reader began event names) (fits : Fits s (line_of event) [] journal m)
-    (runs : RunsLines (to_come reader began) now names journal m reader.number why after new t lines)
+    (runs : RunsLines (to_come reader began) now (run_at names journal m reader.number) why after)
     (going : why ≡ status.SourceFault → reader.stop ≡ Going) where
   abbrev rest : Option (List ℕ)
   rest = to_come reader began
@@ -192,7 +192,7 @@ module _ (start now : Option (List ℕ)) (reader : LinesState) (began : Option (
   events_are : events_of parts ≡ (opens.opening ++ event ∷ []) ++ events_of runs.parts
   events_are = grind (arith, events_behind, first_events)
 
-  all_fit : FitsScript 0 s parts t
+  all_fit : FitsScript 0 s parts after.world
   all_fit = record {
     middle = runs.fits.middle;
     run = run_append EventStep s m runs.fits.middle front runs.parts.whole front_run runs.fits.run;
@@ -200,7 +200,7 @@ module _ (start now : Option (List ℕ)) (reader : LinesState) (began : Option (
     begin_below = grind (arith, entries_are, front_run, all_behind, below_both, first_below);
   }
 
-  pub runs_all : RunsAll start now names s why after new t lines
+  pub runs_all : RunsAll start now names s why after
   runs_all =
       let count : reader.number + length runs.read.texts ≡ length (opens.read.texts ++ runs.read.texts) = omega (arith, opens.read.counts, length-append opens.read.texts runs.read.texts) in
       record {
@@ -212,29 +212,29 @@ module _ (start now : Option (List ℕ)) (reader : LinesState) (began : Option (
             texts = opens.read.texts ++ runs.read.texts;
             taken = taken-append start rest runs.left opens.read.texts runs.read.texts opens.read.taken
                 (record { taken = runs.read.taken; short = runs.read.short; few = omega (arith, runs.read.few) }) (omega (arith, runs.read.few, opens.read.counts));
-            spell = subst (λ (l : List Event). AllSpell (opens.read.texts ++ runs.read.texts) no_names l after) (sym events_are)
-                (spell_append opens.read.texts runs.read.texts no_names names after (opens.opening ++ event ∷ []) (events_of runs.parts) opens.read.spell runs.read.spell);
+            spell = subst (λ (l : List Event). AllSpell (opens.read.texts ++ runs.read.texts) no_names l after.names) (sym events_are)
+                (spell_append opens.read.texts runs.read.texts no_names names after.names (opens.opening ++ event ∷ []) (events_of runs.parts) opens.read.spell runs.read.spell);
             counts = count;
           };
           held = runs.held;
           stop = runs.stop;
           feeds = λ failed. fed_both start rest runs.left opens.read.texts runs.read.texts (opens.feeds (going failed)) (runs.feeds failed);
-          lines_are = runs.lines_are;
+          lines_are = runs.counted;
         };
         journal_is = record {
           is = journal_behind front runs.parts ∙ ap (λ (l : List Entry). l ++ journal_of runs.parts) entries_are ∙ sym runs.grew;
           fits = all_fit;
           ends = behind_ends front runs.parts why readers runs.ends;
         };
-        declared = same_declared names after (same_disks runs.read.texts names after (events_of runs.parts) opens.ended runs.read.spell)
-            (same_ports runs.read.texts names after (events_of runs.parts) opens.ended runs.read.spell);
+        declared = same_declared names after.names (same_disks runs.read.texts names after.names (events_of runs.parts) opens.ended runs.read.spell)
+            (same_ports runs.read.texts names after.names (events_of runs.parts) opens.ended runs.read.spell);
         attached = λ _ are. not_opening opens.opening event (other_line event opens.other)
             (opening_halves (opens.opening ++ event ∷ []) (events_of runs.parts) (subst AreOpening events_are are)).0;
       }
 
 -- memory was wanted in the midst of that first event
 pub runs_first_cut : (start now : Option (List ℕ)) (reader : LinesState) (event : Event) (names : NamesState) (s t : DomainState) (journal : List Entry)
-    → Opens start reader now event names → FitsSoFar s (line_of event) [] journal t → RunsAll start now names s status.NoMemory names journal t reader.number
+    → Opens start reader now event names → FitsSoFar s (line_of event) [] journal t → RunsAll start now names s status.NoMemory (run_at names journal t reader.number)
 runs_first_cut start now reader event names s t journal opens fits =
     let are : events_of (begun_parts opens.opening event fits.adds.part) ≡ opens.opening ++ event ∷ [] =
     first_events opens.opening event fits.adds.part in
@@ -268,7 +268,7 @@ declared_stopped start now why ended names lines opens stop feeds counted =
     stopped_as start now why ended opens.opening (events_of (declared_parts opens.opening)) names 0 0 lines
     (opening_events opens.opening) opens.stopped stop feeds counted
 
-pub runs_none_more : (start now : Option (List ℕ)) (names : NamesState) (s : DomainState) (lines : ℕ) → OpensAndStops start now status.Done names lines → RunsAll start now names s status.Done names [] s lines
+pub runs_none_more : (start now : Option (List ℕ)) (names : NamesState) (s : DomainState) (lines : ℕ) → OpensAndStops start now status.Done names lines → RunsAll start now names s status.Done (run_at names [] s lines)
 runs_none_more start now names s lines opens = record {
   parts = declared_parts opens.opening;
   stopped = declared_stopped start now status.Done status.Done names lines opens opens.stopped.stop opens.stopped.feeds opens.stopped.lines_are;
@@ -371,24 +371,24 @@ nothing_between seen image is = grind arith
 
 module _ {D : Type 0} (seen : D → ImageState) (start now : Option (List ℕ)) (gives : ℕ → Option (List ℕ)) where
   -- A RUN in a world that ended
-  pub replayed_of : (why : Status) (faulty : Bool) (names after : NamesState) (s t : DomainState) (journal : List Entry) (lines : ℕ) (image : D) (lanes : Lanes) → IsReaders why → RunsAll start now names s why after journal t lines → s ≡ start_of names gives
-      → StandsBehind (seen image) t.first.image → lanes ≡ lanes_in t → (IsTrue faulty ↔ (0 < t.first.image.faults))
-      → Replayed seen start now gives (ended_status why faulty) lines after journal (Some image) (Some lanes)
-  replayed_of why faulty names after s t journal lines image lanes readers runs begins told left tells =
-      let begin : s ≡ start_of after gives = begins ∙ ap (λ (d : Declared). start_of (record { disks = d.disks; ports = d.ports; ended = true }) gives) (sym runs.declared) in
+  pub replayed_of : (why : Status) (faulty : Bool) (names : NamesState) (s : DomainState) (after : RunAt) (image : D) (lanes : Lanes) → IsReaders why → RunsAll start now names s why after → s ≡ start_of names gives
+      → StandsBehind (seen image) after.world.first.image → lanes ≡ lanes_in after.world → (IsTrue faulty ↔ (0 < after.world.first.image.faults))
+      → Replayed seen start now gives (ended_status why faulty) after.count after.names after.journal (Some image) (Some lanes)
+  replayed_of why faulty names s after image lanes readers runs begins told left tells =
+      let begin : s ≡ start_of after.names gives = begins ∙ ap (λ (d : Declared). start_of (record { disks = d.disks; ports = d.ports; ended = true }) gives) (sym runs.declared) in
       record {
         parts = runs.parts;
-        stopped = stopped_as start now why (ended_status why faulty) (events_of runs.parts) (events_of runs.parts) after (length journal) (length journal) lines refl runs.stopped
-            (ended_stop why faulty after runs.stopped.left now runs.stopped.held runs.stopped.count (length journal) readers runs.stopped.stop)
+        stopped = stopped_as start now why (ended_status why faulty) (events_of runs.parts) (events_of runs.parts) after.names (length after.journal) (length after.journal) after.count refl runs.stopped
+            (ended_stop why faulty after.names runs.stopped.left now runs.stopped.held runs.stopped.count (length after.journal) readers runs.stopped.stop)
             (ended_as (λ (w : Status). w ≡ status.SourceFault → AllFed start runs.stopped.left runs.stopped.read.texts) why faulty readers (λ _ failed. cc failed) runs.stopped.feeds)
             (runs.stopped.lines_are ∙ ended_count why faulty runs.stopped.count readers);
-        final = t;
-        journal_is = ended_journal why faulty (start_of after gives) t runs.parts journal readers
-            (subst (λ (x : DomainState). JournalIs (ending why) x runs.parts journal t) begin runs.journal_is);
+        final = after.world;
+        journal_is = ended_journal why faulty (start_of after.names gives) after.world runs.parts after.journal readers
+            (subst (λ (x : DomainState). JournalIs (ending why) x runs.parts after.journal after.world) begin runs.journal_is);
         image_is = told;
-        faults_are = ended_faults image why faulty t.first.image.faults readers tells;
-        image_stands = ended_image image why faulty (events_of runs.parts) runs.stopped.left journal readers runs.attached;
-        lanes_stand = ended_lanes image why faulty lanes t readers left;
+        faults_are = ended_faults image why faulty after.world.first.image.faults readers tells;
+        image_stands = ended_image image why faulty (events_of runs.parts) runs.stopped.left after.journal readers runs.attached;
+        lanes_stand = ended_lanes image why faulty lanes after.world readers left;
       }
 
   -- one that ended before an image was attached: in its declarations

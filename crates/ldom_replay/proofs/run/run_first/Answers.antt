@@ -3,7 +3,7 @@ use Rattle.domain_script.specs.declared.event.Event.{Event}
 use Rattle.ldom_entries.specs.declared.entry.Entry.{Entry}
 use Rattle.ldom_report.specs.declared.status.Status.TheVariants as status
 use Rattle.ldom_report.specs.Stops.{stop_lines, stop_status}
-use Rattle.script_laws.specs.Going.{RunsAll}
+use Rattle.script_laws.specs.Going.{RunsAll, run_at}
 use Rattle.script_laws.specs.Opening.{Opened}
 use Rattle.ldom_world.specs.world_parts.Lines.{line_of}
 use Rattle.ldom_world.specs.world_parts.Parts.{Fits, FitsSoFar}
@@ -16,15 +16,16 @@ use Rattle.ldom_replay.proofs.run.run_first.Goals as goal
 pub returns-in-None-clause-runs : goal.returns-in-None-clause-runs
 returns-in-None-clause-runs g c start opened =
     let now = g.S.Source.left c.args.source.now in
-    subst (λ (l : List Entry). RunsAll start now c.args.reader.now.names c.args.world.now status.Done c.args.reader.now.names l c.args.world.now c.args.reader.now.lines.number) (sym c.requires.journal)
+    subst (λ (l : List Entry). RunsAll start now c.args.reader.now.names c.args.world.now status.Done (run_at c.args.reader.now.names l c.args.world.now c.args.reader.now.lines.number)) (sym c.requires.journal)
     (runs_none_more start now c.args.reader.now.names c.args.world.now c.args.reader.now.lines.number
     (subst (λ (first : Option Event). Opened start c.args.reader.now.lines now first c.args.reader.now.names) c.in-None.is opened))
 
 pub returns-in-Ok-clause-runs : goal.returns-in-Ok-clause-runs
 returns-in-Ok-clause-runs g c start opened =
     let now = g.S.Source.left c.args.source.now in
-    runs_all start (g.S.Source.left c.run_lines.new.source) c.args.reader.now.lines now c.in-Some.event c.args.reader.now.names c.run_lines.new.reader.names c.args.world.now c.apply.new.self c.run_lines.new.world c.apply.new.journal.entries c.run_lines.new.reader.journal.entries
-    (stop_lines c.run_lines.result c.run_lines.new.reader.lines.number) (stop_status c.run_lines.result c.run_lines.new.reader.lines.number)
+    runs_all start (g.S.Source.left c.run_lines.new.source) c.args.reader.now.lines now c.in-Some.event c.args.reader.now.names c.args.world.now c.apply.new.self c.apply.new.journal.entries
+    (stop_status c.run_lines.result c.run_lines.new.reader.lines.number)
+    (run_at c.run_lines.new.reader.names c.run_lines.new.reader.journal.entries c.run_lines.new.world (stop_lines c.run_lines.result c.run_lines.new.reader.lines.number))
     (readers_of c.run_lines.result c.run_lines.new.reader.lines.number)
     (subst (λ (first : Option Event). Opened start c.args.reader.now.lines now first c.args.reader.now.names) c.in-Some.is opened)
     (subst (λ (l : List Entry). Fits c.args.world.now (line_of c.in-Some.event) l c.apply.new.journal.entries c.apply.new.self) c.requires.journal c.in-Ok.ensures.fits)
