@@ -85,9 +85,9 @@ opens was start rest reader now event names after count so_far reads is few held
   are = so_far.are;
   read = read_more start rest (to_come reader now) so_far.opening event names after count reader.number so_far.read reads is few;
   feeds = fed_more reader.stop start rest (to_come reader now) so_far.read.texts reads.text so_far.read.taken.taken reads.ends;
-  held = held;
   other = not_opening;
   ended = ap (λ (n : NamesState). n.ended) reads.noted_is ∙ ends names event (other_line event not_opening);
+  held = held;
 }
 
 -- no further line is taken up: a source fails where the reader goes on
