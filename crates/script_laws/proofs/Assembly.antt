@@ -25,7 +25,7 @@ use Rattle.script_laws.specs.Opening.{Opened, Opens, OpensAndStops}
 use Rattle.world_parts.specs.Lines.{EventStep, line_of}
 use Rattle.world_parts.specs.Parts.{Fits, FitsSoFar}
 use Rattle.ldom_report.specs.LinesEnd.{counted_lines}
-use Rattle.script_laws.specs.Reading.{HasReason, IsDeclaredOut, Leaves, StopsAt}
+use Rattle.script_laws.specs.Reading.{IsDeclaredOut, StopsAt}
 use Rattle.script_laws.specs.Replayed.{FaultsAre, Replayed, Stopped, attach_status, ended_status, start_of}
 use Rattle.script_laws.specs.LanesStand.{LanesStand}
 use Rattle.script_laws.specs.Script.{ReadSoFar}
@@ -154,14 +154,14 @@ stopped_as start now why ended events all names entries number lines is stopped 
 -- a run that stopped after the first such line
 abbrev stopped_behind : (start now : Option (List ℕ)) (reader : LinesState) (event : Event) (names : NamesState) (why : Status) → why ≢ status.SourceFault → (opens : Opens start reader now event names)
     → (all : List Event) → all ≡ opens.opening ++ event ∷ []
-    → (entries : ℕ) → HasReason why (to_come reader now) (to_come reader now) reader.held names reader.number entries → Leaves why (to_come reader now) (to_come reader now)
-    → reader.number ≡ counted_lines why reader.number → Stopped start now why all names entries reader.number
-stopped_behind start now reader event names why other opens all all_is entries reason leaves is = record {
+    → (entries : ℕ) → StopsAt why (to_come reader now) reader.held now names reader.number entries → reader.number ≡ counted_lines why reader.number
+    → Stopped start now why all names entries reader.number
+stopped_behind start now reader event names why other opens all all_is entries stops is = record {
   left = to_come reader now;
   count = reader.number;
   read = read_as start (to_come reader now) (opens.opening ++ event ∷ []) all names reader.number all_is opens.read;
   held = reader.held;
-  stop = (reason, leaves);
+  stop = stops;
   feeds = λ failed. absurd (other failed);
   lines_are = is;
 }
@@ -172,9 +172,6 @@ module _ (start now : Option (List ℕ)) (reader : LinesState) (began : Option (
     (opens : Opens start reader began event names) (fits : Fits s (line_of event) [] journal m)
     (runs : RunsLines (to_come reader began) now (run_at names journal m reader.number) why after)
     (going : why ≡ status.SourceFault → reader.stop ≡ Going) where
-  abbrev rest : Option (List ℕ)
-  rest = to_come reader began
-
   abbrev front : List (Event × List Entry)
   front = first_lines opens.opening event fits.adds.part
 
@@ -210,7 +207,7 @@ module _ (start now : Option (List ℕ)) (reader : LinesState) (began : Option (
           count = reader.number + length runs.read.texts;
           read = record {
             texts = opens.read.texts ++ runs.read.texts;
-            taken = taken-append start rest runs.left opens.read.texts runs.read.texts opens.read.taken
+            taken = taken-append start (to_come reader began) runs.left opens.read.texts runs.read.texts opens.read.taken
                 (record { taken = runs.read.taken; short = runs.read.short; few = omega (arith, runs.read.few) }) (omega (arith, runs.read.few, opens.read.counts));
             spell = subst (λ (l : List Event). AllSpell (opens.read.texts ++ runs.read.texts) no_names l after.names) (sym events_are)
                 (spell_append opens.read.texts runs.read.texts no_names names after.names (opens.opening ++ event ∷ []) (events_of runs.parts) opens.read.spell runs.read.spell);
@@ -218,7 +215,7 @@ module _ (start now : Option (List ℕ)) (reader : LinesState) (began : Option (
           };
           held = runs.held;
           stop = runs.stop;
-          feeds = λ failed. fed_both start rest runs.left opens.read.texts runs.read.texts (opens.feeds (going failed)) (runs.feeds failed);
+          feeds = λ failed. fed_both start (to_come reader began) runs.left opens.read.texts runs.read.texts (opens.feeds (going failed)) (runs.feeds failed);
           lines_are = runs.counted;
         };
         journal_is = record {
@@ -242,7 +239,7 @@ runs_first_cut start now reader event names s t journal opens fits =
       parts = begun_parts opens.opening event fits.adds.part;
       stopped = stopped_behind start now reader event names status.NoMemory (λ failed. cc failed) opens
           (events_of (begun_parts opens.opening event fits.adds.part)) are (length journal)
-          (inr (inl (opens.ended, opens.held))) (keeps_same (to_come reader now)) refl;
+          (inr (inl (opens.ended, opens.held)), keeps_same (to_come reader now)) refl;
       journal_is = record {
         is = first_entries opens.opening event fits.adds.part ∙ sym fits.adds.grew;
         fits = record {
@@ -334,13 +331,10 @@ refused_ends : (fault : AttachFault) (all : ScriptParts) → journal_of all ≡ 
 refused_ends Failed all none = none
 refused_ends Memory all none = tt
 
-refused_reason : (fault : AttachFault) (rest left : Option (List ℕ)) (held : List ℕ) (names : NamesState) (count : ℕ) → IsDeclaredOut rest held names → HasReason (attach_status fault) rest left held names count 0
-refused_reason Failed rest left held names count declared = declared
-refused_reason Memory rest left held names count declared = inr declared
-
-refused_leaves : (fault : AttachFault) (rest left : Option (List ℕ)) → Keeps rest left → Leaves (attach_status fault) rest left
-refused_leaves Failed rest left kept = kept
-refused_leaves Memory rest left kept = kept
+refused_stop : (fault : AttachFault) (left now : Option (List ℕ)) (held : List ℕ) (names : NamesState) (count : ℕ) → IsDeclaredOut left held names → Keeps left (prepend_known held now)
+    → StopsAt (attach_status fault) left held now names count 0
+refused_stop Failed left now held names count declared kept = (declared, kept)
+refused_stop Memory left now held names count declared kept = (inr declared, kept)
 
 refused_unfailed : (fault : AttachFault) → attach_status fault ≢ status.SourceFault
 refused_unfailed Failed failed = cc failed
@@ -417,8 +411,7 @@ module _ {D : Type 0} (seen : D → ImageState) (start now : Option (List ℕ)) 
       record {
         parts = parts;
         stopped = declared_stopped start now status.Done (attach_status fault) names reader.number opened
-            (refused_reason fault opened.stopped.left (prepend_known opened.stopped.held now) opened.stopped.held names opened.stopped.count (inr opened.stopped.stop.0),
-            refused_leaves fault opened.stopped.left (prepend_known opened.stopped.held now) opened.stopped.stop.1)
+            (refused_stop fault opened.stopped.left now opened.stopped.held names opened.stopped.count (inr opened.stopped.stop.0) opened.stopped.stop.1)
             (λ failed. absurd (refused_unfailed fault failed))
             (opened.stopped.lines_are ∙ refused_count fault opened.stopped.count);
         final = start_of names gives;
@@ -438,8 +431,7 @@ module _ {D : Type 0} (seen : D → ImageState) (start now : Option (List ℕ)) 
       record {
         parts = parts;
         stopped = stopped_behind start now reader event names (attach_status fault) (refused_unfailed fault) opened (events_of parts) (first_events opened.opening event []) 0
-            (refused_reason fault (to_come reader now) (to_come reader now) reader.held names reader.number (inl (opened.ended, opened.held)))
-            (refused_leaves fault (to_come reader now) (to_come reader now) (keeps_same (to_come reader now))) (refused_count fault reader.number);
+            (refused_stop fault (to_come reader now) now reader.held names reader.number (inl (opened.ended, opened.held)) (keeps_same (to_come reader now))) (refused_count fault reader.number);
         final = start_of names gives;
         journal_is = record {
           is = first_entries opened.opening event [];
@@ -477,7 +469,7 @@ module _ {D : Type 0} (seen : D → ImageState) (start now : Option (List ℕ)) 
       record {
         parts = parts;
         stopped = stopped_behind start now reader event names (status.ImageSize need have) (λ failed. cc failed) opened (events_of parts) (first_events opened.opening event []) 0
-            (inl (opened.ended, opened.held)) (keeps_same (to_come reader now)) refl;
+            (inl (opened.ended, opened.held), keeps_same (to_come reader now)) refl;
         final = start_of names gives;
         journal_is = record {
           is = first_entries opened.opening event [];
