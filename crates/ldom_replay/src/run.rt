@@ -87,8 +87,8 @@ fn run_lines<S: Source, D: Store>(reader: &mut Reader, source: &mut S, world: &m
 
     ensures runs { RunsLines (to_come reader.old.lines (S.left source.old)) (S.left source.new)
         (run_at reader.old.names reader.old.journal.entries world.old reader.old.lines.number)
-        (stop_status result reader.new.lines.number) (run_at reader.new.names reader.new.journal.entries world.new
-        (stop_lines result reader.new.lines.number)) }
+        (stop_status result reader.new.lines.number)
+        (run_at reader.new.names reader.new.journal.entries world.new (stop_lines result reader.new.lines.number)) }
     ensures going { result ≡ Stop.Source → reader.old.lines.stop ≡ Going }
     ensures most { reader.new.lines.number ≤ most_lines }
     ensures source { Fails (result ≡ Stop.Source) (S.faults source.old) (S.faults source.new) }
