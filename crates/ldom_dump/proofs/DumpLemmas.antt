@@ -17,7 +17,8 @@ use Rattle.vio_io.specs.Causes.{Fails}
 use Rattle.ldom_report.specs.LinesEnd.{counted_lines}
 use Rattle.gathered_text.proofs.GatheredText.{appends_last, gathers_all, gathers_more, gathers_then, wrote_front_last}
 use Rattle.ldom_dump.specs.Decoded.{AreOfLines, Decoded, IsOfLine, decoded_lines, decoded_text, is_fault, is_ok, is_packet}
-use Rattle.ldom_dump.specs.DumpReport.{Dumps, Written, dump_text, end_line}
+use Rattle.ldom_dump.specs.declared.lines.Ended.{Ended}
+use Rattle.ldom_dump.specs.DumpReport.{Dumps, SourceTells, Written, dump_text, end_line}
 use Rattle.ldom_dump.specs.Going.{DumpsLines, Finishes, GathersUnlessSinkFault, PutsPacket, TellsCarried, TellsMessage}
 use Rattle.ldom_report.specs.Stops.{EndsTold, IsReaders}
 use Rattle.ldom_dump.specs.Reading.{ReadsBytes, DumpStopsAt}
@@ -122,26 +123,31 @@ unless_sink_fault (the_status.ImageSize need have) old new gathered text readers
 unless_sink_fault (the_status.Limit line kind) old new gathered text readers g = g
 unless_sink_fault the_status.NoMemory old new gathered text readers g = g
 
+-- how the lines ended
+abbrev pub ended_so : Status → ℕ → ℕ → ℕ → Ended
+ended_so why lines packets faults = record { why = why; lines = lines; packets = packets; faults = faults }
+
 -- no further line is read
-pub lines_stop : (stop : LinesStop) (start rest now old new : Option (List ℕ)) (held : List ℕ) (why : Status) (gathered : List ℕ) (count lines packets faults : ℕ)
-    → LinesSoFar stop start rest old new gathered count packets faults → IsReaders why → DumpStopsAt why rest held now count → (why ≡ the_status.SourceFault → stop ≡ Going) → lines ≡ counted_lines why count → DumpsLines start now why old new gathered lines packets faults
-lines_stop stop start rest now old new held why gathered count lines packets faults so_far readers stops going is = record {
+pub lines_stop : (stop : LinesStop) (start rest now old new : Option (List ℕ)) (held : List ℕ) (ended : Ended) (gathered : List ℕ) (count : ℕ)
+    → LinesSoFar stop start rest old new gathered count ended.packets ended.faults → IsReaders ended.why → DumpStopsAt ended.why rest held now count → (ended.why ≡ the_status.SourceFault → stop ≡ Going)
+    → ended.lines ≡ counted_lines ended.why count → DumpsLines start now ended old new gathered
+lines_stop stop start rest now old new held ended gathered count so_far readers stops going is = record {
   all = so_far.all;
   left = rest;
   taken = so_far.taken;
   are = so_far.are;
   held = held;
-  stop = subst (λ (n : ℕ). DumpStopsAt why rest held now n) so_far.counts stops;
+  stop = subst (λ (n : ℕ). DumpStopsAt ended.why rest held now n) so_far.counts stops;
   feeds = λ failed. so_far.feeds (going failed);
-  lines_are = λ other. is ∙ ap (λ (n : ℕ). counted_lines why n) so_far.counts;
+  lines_are = λ other. is ∙ ap (λ (n : ℕ). counted_lines ended.why n) so_far.counts;
   packets_are = so_far.packets_are;
   faults_are = so_far.faults_are;
-  gathers = unless_sink_fault why old new gathered (decoded_lines so_far.all) readers so_far.gathers;
+  gathers = unless_sink_fault ended.why old new gathered (decoded_lines so_far.all) readers so_far.gathers;
 }
 
 -- the sink failed before the next line's text was gathered
 pub lines_cut : (stop : LinesStop) (start rest now old mid new : Option (List ℕ)) (held line gathered after : List ℕ) (count lines packets faults : ℕ)
-    → LinesSoFar stop start rest old mid gathered count packets faults → TakesLine rest (prepend_known held now) line → WroteFront mid new gathered → DumpsLines start now the_status.SinkFault old new after lines packets faults
+    → LinesSoFar stop start rest old mid gathered count packets faults → TakesLine rest (prepend_known held now) line → WroteFront mid new gathered → DumpsLines start now (ended_so the_status.SinkFault lines packets faults) old new after
 lines_cut stop start rest now old mid new held line gathered after count lines packets faults so_far next front = record {
   all = so_far.all;
   left = rest;
@@ -161,8 +167,8 @@ nothing_held None = tt
 nothing_held (Some bytes) = refl
 
 -- memory was wanted before the first line
-pub lines_unread : (start old : Option (List ℕ)) (gathered : List ℕ) → gathered ≡ [] → DumpsLines start start the_status.NoMemory old old gathered 0 0 0
-lines_unread start old gathered none = lines_stop Going start start start old old [] the_status.NoMemory gathered 0 0 0 0 (so_far_none Going start old gathered 0 refl none) tt (nothing_held start) (λ _. refl) refl
+pub lines_unread : (start old : Option (List ℕ)) (gathered : List ℕ) → gathered ≡ [] → DumpsLines start start (ended_so the_status.NoMemory 0 0 0) old old gathered
+lines_unread start old gathered none = lines_stop Going start start start old old [] (ended_so the_status.NoMemory 0 0 0) gathered 0 (so_far_none Going start old gathered 0 refl none) tt (refl, refl, nothing_held start) (λ _. refl) refl
 
 -- how a last line was written after what was gathered
 ends : (why status : Status) (old mid new : Option (List ℕ)) (gathered text last whole : List ℕ) → whole ≡ text ++ last → Gathers old mid gathered text
@@ -189,26 +195,25 @@ written (the_status.Limit at kind) status old mid new gathered last all is g f =
 written the_status.NoMemory status old mid new gathered last all is g f = ends the_status.NoMemory status old mid new gathered (decoded_lines all) last (dump_text all the_status.NoMemory) (is (λ e. cc e)) g f
 
 -- the lines were read and the dump ended
-pub dumps : (start now old mid new : Option (List ℕ)) (why status : Status) (gathered : List ℕ) (lines packets faults : ℕ)
-    → DumpsLines start now why old mid gathered lines packets faults → Finishes why status mid new gathered (end_line lines packets faults why)
-    → (before after : ℕ) → Fails (why ≡ the_status.SourceFault) before after → (ends_old ends_new : ℕ) → EndsTold why ends_old ends_new
-    → Dumps start now status old new before after ends_old ends_new
-dumps start now old mid new why status gathered lines packets faults read finishes before after told ends_old ends_new said =
-    let last : why ≢ the_status.SinkFault → dump_text read.all why ≡ decoded_lines read.all ++ end_line lines packets faults why =
+pub dumps : (before now : SourceTells) (old mid new : Option (List ℕ)) (ended : Ended) (status : Status) (gathered : List ℕ)
+    → DumpsLines before.left now.left ended old mid gathered → Finishes ended.why status mid new gathered (end_line ended.lines ended.packets ended.faults ended.why)
+    → Fails (ended.why ≡ the_status.SourceFault) before.faults now.faults → EndsTold ended.why before.ends now.ends → Dumps before now status old new
+dumps before now old mid new ended status gathered read finishes told said =
+    let last : ended.why ≢ the_status.SinkFault → dump_text read.all ended.why ≡ decoded_lines read.all ++ end_line ended.lines ended.packets ended.faults ended.why =
     λ other. ap (λ (l : List ℕ). decoded_lines read.all ++ l)
-    (ap (λ (n : ℕ). end_line n (count_by is_packet read.all) (count_by is_fault read.all) why) (sym (read.lines_are other))
-    ∙ ap (λ (n : ℕ). end_line lines n (count_by is_fault read.all) why) (sym read.packets_are)
-    ∙ ap (λ (n : ℕ). end_line lines packets n why) (sym read.faults_are)) in
+    (ap (λ (n : ℕ). end_line n (count_by is_packet read.all) (count_by is_fault read.all) ended.why) (sym (read.lines_are other))
+    ∙ ap (λ (n : ℕ). end_line ended.lines n (count_by is_fault read.all) ended.why) (sym read.packets_are)
+    ∙ ap (λ (n : ℕ). end_line ended.lines ended.packets n ended.why) (sym read.faults_are)) in
     record {
       all = read.all;
       left = read.left;
       taken = read.taken;
       are = read.are;
       held = read.held;
-      why = why;
+      why = ended.why;
       told = told;
       ends = said;
       stop = read.stop;
       feeds = read.feeds;
-      written = written why status old mid new gathered (end_line lines packets faults why) read.all last read.gathers finishes;
+      written = written ended.why status old mid new gathered (end_line ended.lines ended.packets ended.faults ended.why) read.all last read.gathers finishes;
     }

@@ -10,7 +10,7 @@ use Rattle.ldom_report.specs.declared.status.LimitKind.TheVariants.{Lines, Bytes
 use Rattle.ldom_report.specs.declared.status.Status.{Status}
 use Rattle.ldom_report.specs.declared.status.Status.TheVariants as the_status
 use Rattle.ldom_dump.specs.Decoded.{Decoded}
-use Rattle.ldom_dump.specs.DumpReport.{Dumps, Written}
+use Rattle.ldom_dump.specs.DumpReport.{Dumps, SourceTells, Written}
 use Rattle.ldom_dump.specs.Reading.{IsNoDigits, DumpStopsAt}
 use Rattle.ldom_dump.specs.Whole.{AreDigits, IsDigits, IsWhole}
 
@@ -75,7 +75,7 @@ ended the_status.HostFault status old new rest now held all bytes taken stop wri
 ended the_status.StoreFault status old new rest now held all bytes taken stop written whole source sink = absurd stop
 ended (the_status.ImageSize need have) status old new rest now held all bytes taken stop written whole source sink = absurd stop
 
-pub completes : (start now : Option (List ℕ)) (status : Status) (old new : Option (List ℕ)) (bytes : List ℕ) (before after ends_old ends_new : ℕ) → Dumps start now status old new before after ends_old ends_new → start ≡ Some bytes → IsWhole bytes
+pub completes : (before now : SourceTells) (status : Status) (old new : Option (List ℕ)) (bytes : List ℕ) → Dumps before now status old new → before.left ≡ Some bytes → IsWhole bytes
     → status ≢ the_status.SourceFault → status ≢ the_status.SinkFault → (status ≡ the_status.Done) ⊎ (status ≡ the_status.NoMemory)
-completes start now status old new bytes before after ends_old ends_new dumps is whole source sink =
-    ended dumps.why status old new dumps.left now dumps.held dumps.all bytes (subst (λ (s : Option (List ℕ)). TakesLines s dumps.left (map (λ (d : Decoded). d.line) dumps.all)) is dumps.taken.taken) dumps.stop dumps.written whole source sink
+completes before now status old new bytes dumps is whole source sink =
+    ended dumps.why status old new dumps.left now.left dumps.held dumps.all bytes (subst (λ (s : Option (List ℕ)). TakesLines s dumps.left (map (λ (d : Decoded). d.line) dumps.all)) is dumps.taken.taken) dumps.stop dumps.written whole source sink

@@ -34,21 +34,31 @@ abbrev pub Written : Status → Status → Option (List ℕ) → Option (List �
 Written SinkFault status old new all = (status ≡ SinkFault) × WroteFront old new (decoded_lines all)
 Written why status old new all = ((status ≡ why) × Appends old new (dump_text all why)) ⊎ ((status ≡ SinkFault) × WroteFront old new (dump_text all why))
 
--- These lines were read and decoded from the front of what a source had, and then no further one. It has `now` left, and had
--- failed and said that it is at its end so often before and after. Where it failed, each line that was taken up had its line
--- feed: so a source that was at its end behind a last line isn't asked again.
-pub record Dumps (start now : Option (List ℕ)) (status : Status) (old new : Option (List ℕ)) (before after ends_old ends_new : ℕ) : Type 0 where
+-- A source at one moment: the bytes that it has left, where it tells them, and how often it failed and said that it is at
+-- its end.
+pub record SourceTells : Type 0 where
+  pub left : Option (List ℕ)
+  pub faults : ℕ
+  pub ends : ℕ
+
+abbrev pub source_tells : Option (List ℕ) → ℕ → ℕ → SourceTells
+source_tells left faults ends = record { left = left; faults = faults; ends = ends }
+
+-- These lines were read and decoded from the front of what the source had, and then no further one; `old` was written before,
+-- and `new` is now. Where the source failed, each line that was taken up had its line feed: so one that was at its end behind
+-- a last line isn't asked again.
+pub record Dumps (before now : SourceTells) (status : Status) (old new : Option (List ℕ)) : Type 0 where
   pub all : List Decoded
   -- what was to come after these lines
   pub left : Option (List ℕ)
-  pub taken : LinesTaken start left (map (λ decoded. decoded.line) all)
+  pub taken : LinesTaken before.left left (map (λ decoded. decoded.line) all)
   pub are : AreOfLines all
   -- bytes that were taken from the source and are in no line
   pub held : List ℕ
   -- why reading ended: for a fault of the source exactly where that failed
   pub why : Status
-  pub told : Fails (why ≡ SourceFault) before after
-  pub ends : EndsTold why ends_old ends_new
-  pub stop : DumpStopsAt why left held now (length all)
-  pub feeds : why ≡ SourceFault → AllFed start left (map (λ decoded. decoded.line) all)
+  pub told : Fails (why ≡ SourceFault) before.faults now.faults
+  pub ends : EndsTold why before.ends now.ends
+  pub stop : DumpStopsAt why left held now.left (length all)
+  pub feeds : why ≡ SourceFault → AllFed before.left left (map (λ decoded. decoded.line) all)
   pub written : Written why status old new all

@@ -15,6 +15,7 @@ use Rattle.ldom_report.specs.declared.status.Status.TheVariants.{SinkFault, Sour
 use Rattle.script_reader.specs.LinesState.{AllFed}
 use Rattle.gathered_text.specs.Gathered.{Gathers, WroteFront}
 use Rattle.ldom_report.specs.LinesEnd.{counted_lines}
+use Rattle.ldom_dump.specs.declared.lines.Ended.{Ended}
 use Rattle.ldom_dump.specs.Decoded.{AreOfLines, Carries, CarriesIn, Decoded, decoded_lines, is_fault, is_ok, is_packet}
 use Rattle.ldom_dump.specs.MessageText.{carried_line, message_line}
 use Rattle.ldom_dump.specs.PacketText.{packet_line}
@@ -52,20 +53,20 @@ abbrev pub GathersUnlessSinkFault : Status → Option (List ℕ) → Option (Lis
 GathersUnlessSinkFault SinkFault old new gathered text = WroteFront old new text
 GathersUnlessSinkFault why old new gathered text = Gathers old new gathered text
 
--- These lines were decoded from the front of what is to come, and then no further one. Their text is gathered. Where the
--- source failed, each had its line feed.
-pub record DumpsLines (start now : Option (List ℕ)) (why : Status) (old new : Option (List ℕ)) (gathered : List ℕ) (lines packets faults : ℕ) : Type 0 where
+-- These lines were decoded from the front of what is to come, and then no further one, as `ended` says. Their text is
+-- gathered. Where the source failed, each had its line feed.
+pub record DumpsLines (start now : Option (List ℕ)) (ended : Ended) (old new : Option (List ℕ)) (gathered : List ℕ) : Type 0 where
   pub all : List Decoded
   pub left : Option (List ℕ)
   pub taken : LinesTaken start left (map (λ decoded. decoded.line) all)
   pub are : AreOfLines all
   pub held : List ℕ
-  pub stop : DumpStopsAt why left held now (length all)
-  pub feeds : why ≡ SourceFault → AllFed start left (map (λ decoded. decoded.line) all)
-  pub lines_are : why ≢ SinkFault → lines ≡ counted_lines why (length all)
-  pub packets_are : packets ≡ count_by is_packet all
-  pub faults_are : faults ≡ count_by is_fault all
-  pub gathers : GathersUnlessSinkFault why old new gathered (decoded_lines all)
+  pub stop : DumpStopsAt ended.why left held now (length all)
+  pub feeds : ended.why ≡ SourceFault → AllFed start left (map (λ decoded. decoded.line) all)
+  pub lines_are : ended.why ≢ SinkFault → ended.lines ≡ counted_lines ended.why (length all)
+  pub packets_are : ended.packets ≡ count_by is_packet all
+  pub faults_are : ended.faults ≡ count_by is_fault all
+  pub gathers : GathersUnlessSinkFault ended.why old new gathered (decoded_lines all)
 
 -- what was gathered and the last line were written, or a front of them; nothing after a fault of the sink
 abbrev pub Finishes : Status → Status → Option (List ℕ) → Option (List ℕ) → List ℕ → List ℕ → Type 0

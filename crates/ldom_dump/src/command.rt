@@ -1,7 +1,7 @@
 // The command `dump`.
 ghost use Rattle.std.specs.Prelude.{◌≡◌, ◌≢◌, ◌≤◌, ◌⊎◌, ℕ, List, Some};
 ghost use Rattle.vio_io.specs.Causes.{Fails, Rose};
-ghost use Rattle.ldom_dump.specs.DumpReport.{Dumps};
+ghost use Rattle.ldom_dump.specs.DumpReport.{Dumps, source_tells};
 ghost use Rattle.ldom_dump.specs.Whole.{IsWhole};
 
 use crate::end_line::finish;
@@ -20,8 +20,9 @@ use vio_io::{Sink, Source};
 pub fn dump<S: Source, K: Sink>(alloc: Global, script: &mut S, out: &mut K) -> Status
     // The text is that of the lines up to where the reading ended, and an end line that says why. Of it all was written,
     // or a front where the sink failed. A source says at most once that it is at its end, and never where it failed.
-    ensures dumps { Dumps (S.left script.old) (S.left script.new) result (K.written out.old) (K.written out.new)
-        (S.faults script.old) (S.faults script.new) (S.ends script.old) (S.ends script.new) }
+    ensures dumps { Dumps (source_tells (S.left script.old) (S.faults script.old) (S.ends script.old))
+        (source_tells (S.left script.new) (S.faults script.new) (S.ends script.new))
+        result (K.written out.old) (K.written out.new) }
 
     // A script of packets alone is dumped to its end, unless something failed.
     ensures complete { (bytes : List ℕ) → S.left script.old ≡ Some bytes → IsWhole bytes

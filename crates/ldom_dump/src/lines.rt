@@ -93,8 +93,8 @@ pub fn dump_all<S: Source, K: Sink>(
     out: &mut K,
 ) -> Ended
     requires { text.old ≡ [] }
-    ensures dumps { DumpsLines (S.left source.old) (S.left source.new) result.why (K.written out.old)
-        (K.written out.new) text.new result.lines result.packets result.faults }
+    ensures dumps { DumpsLines (S.left source.old) (S.left source.new) result (K.written out.old) (K.written out.new)
+        text.new }
     ensures source { Fails (result.why ≡ Status.SourceFault) (S.faults source.old) (S.faults source.new) }
     ensures ends { EndsTold result.why (S.ends source.old) (S.ends source.new) }
     ensures sink { Fails (result.why ≡ Status.SinkFault) (K.faults out.old) (K.faults out.new) }
@@ -120,8 +120,8 @@ fn dump_lines<S: Source, K: Sink>(
     requires goes { GoesOn lines.old (S.left source.old) }
     requires first { lines.old.number ≡ 0 }
     requires empty { text.old ≡ [] }
-    ensures dumps { DumpsLines (to_come lines.old (S.left source.old)) (S.left source.new) result.why
-        (K.written out.old) (K.written out.new) text.new result.lines result.packets result.faults }
+    ensures dumps { DumpsLines (to_come lines.old (S.left source.old)) (S.left source.new) result
+        (K.written out.old) (K.written out.new) text.new }
     ensures source { Fails (result.why ≡ Status.SourceFault) (S.faults source.old) (S.faults source.new) }
     ensures ends { (base : ℕ) → S.ends source.old ≡ ends_after lines.old.stop base
         → EndsTold result.why base (S.ends source.new) }

@@ -1,7 +1,7 @@
 // What a run has read of its script.
 ghost use Rattle.std.specs.Prelude.{◌≡◌, ◌≢◌, ◌+◌, ◌<◌, ◌≤◌, [], length, IfErr, IfOk, OnOk};
 ghost use Rattle.script_reader.specs.declared.lines.LinesStop.TheVariants.{Going};
-ghost use Rattle.script_reader.specs.LinesState.{GoesOn, KeepsEnds, to_come};
+ghost use Rattle.script_reader.specs.LinesState.{GoesOn, KeepsEnds, most_of_a_read, to_come};
 ghost use Rattle.domain_script.specs.ScriptEvents.{no_names};
 ghost use Rattle.domain_script.specs.Spells.{IsDeclared};
 ghost use Rattle.ldom_report.specs.LinesEnd.{counted_lines, most_entries};
@@ -53,6 +53,7 @@ impl Reader {
         ensures declared { OnOk result (IsDeclared self.new.names event.new) }
         ensures next { OnOk result ((self.new.lines.number ≡ self.old.lines.number + 1)
             × (self.new.lines.number ≤ most_lines) × GoesOn self.new.lines (S.left source.new)) }
+        ensures held { OnOk result (length self.new.lines.held ≤ most_of_a_read) }
         ensures most { self.new.lines.number ≤ most_lines }
         ensures below { OnOk result (length self.old.journal.entries < most_entries) }
         ensures journal { self.new.journal ≡ self.old.journal }

@@ -11,7 +11,7 @@ ghost use Rattle.domain_script.specs.Spells.{IsDeclared};
 ghost use Rattle.ldom_replay.specs.NamesLanes.{HasLanes};
 ghost use Rattle.ldom_report.specs.Stops.{EndsTold, StandsAt, stop_lines, stop_status};
 ghost use Rattle.vio_io.specs.Causes.{Fails};
-ghost use Rattle.script_laws.specs.Going.{RunsAll, RunsLines};
+ghost use Rattle.script_laws.specs.Going.{RunsAll, RunsLines, run_at};
 ghost use Rattle.script_laws.specs.Attached.{AreOpening};
 ghost use Rattle.script_laws.specs.Opening.{Opened, Opens, OpensAndStops};
 ghost use Rattle.script_laws.specs.Replayed.{Replayed, attach_status, ended_status, start_of};
@@ -41,8 +41,8 @@ fn read_opening<S: Source>(reader: &mut Reader, source: &mut S) -> Result<Event,
     requires names { reader.old.names ≡ no_names }
     requires empty { reader.old.journal.entries ≡ [] }
 
-    ensures opens { IfOk result (λ event. Opens reader.new.lines.stop (to_come reader.old.lines (S.left source.old))
-        (to_come reader.new.lines (S.left source.new)) event reader.new.names reader.new.lines.number) }
+    ensures opens { IfOk result (λ event. Opens (to_come reader.old.lines (S.left source.old)) reader.new.lines
+        (S.left source.new) event reader.new.names) }
     ensures declared { IfOk result (IsDeclared reader.new.names) }
     ensures goes { OnOk result (GoesOn reader.new.lines (S.left source.new)) }
     ensures ended { OnOk result (reader.new.names.ended ≡ true) }
@@ -85,10 +85,10 @@ fn run_lines<S: Source, D: Store>(reader: &mut Reader, source: &mut S, world: &m
     requires lanes { HasLanes reader.old.names world.old }
     requires agrees { Counted reader.old.journal.entries world.old }
 
-    ensures runs { RunsLines (to_come reader.old.lines (S.left source.old)) (S.left source.new) reader.old.names
-        reader.old.journal.entries world.old reader.old.lines.number
-        (stop_status result reader.new.lines.number) reader.new.names reader.new.journal.entries world.new
-        (stop_lines result reader.new.lines.number) }
+    ensures runs { RunsLines (to_come reader.old.lines (S.left source.old)) (S.left source.new)
+        (run_at reader.old.names reader.old.journal.entries world.old reader.old.lines.number)
+        (stop_status result reader.new.lines.number)
+        (run_at reader.new.names reader.new.journal.entries world.new (stop_lines result reader.new.lines.number)) }
     ensures going { result ≡ Stop.Source → reader.old.lines.stop ≡ Going }
     ensures most { reader.new.lines.number ≤ most_lines }
     ensures source { Fails (result ≡ Stop.Source) (S.faults source.old) (S.faults source.new) }
@@ -344,7 +344,7 @@ fn run_first<S: Source, D: Store>(
     ensures runs { (start : Option (List ℕ))
         → Opened start reader.old.lines (S.left source.old) first reader.old.names
         → RunsAll start (S.left source.new) reader.old.names world.old (stop_status result reader.new.lines.number)
-        reader.new.names reader.new.journal.entries world.new (stop_lines result reader.new.lines.number) }
+        (run_at reader.new.names reader.new.journal.entries world.new (stop_lines result reader.new.lines.number)) }
     ensures most { reader.new.lines.number ≤ most_lines }
     ensures source { Fails (result ≡ Stop.Source) (S.faults source.old) (S.faults source.new) }
     ensures stands { StandsAt result reader.new.lines.stop }

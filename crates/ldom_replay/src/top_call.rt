@@ -12,7 +12,7 @@ ghost use Rattle.gathered_text.specs.Gathered.{WroteFront};
 ghost use Rattle.ldom_report.specs.HasWords.{HasWords};
 ghost use Rattle.ldom_report.specs.Report.{report, usage_line};
 ghost use Rattle.ldom_report.specs.Stops.{EndsTold};
-ghost use Rattle.ldom_dump.specs.DumpReport.{Dumps};
+ghost use Rattle.ldom_dump.specs.DumpReport.{Dumps, source_tells};
 ghost use Rattle.ldom_dump.specs.Whole.{IsWhole};
 ghost use Rattle.script_laws.specs.Counts.{FaultsTold, NoneFailed, counts};
 ghost use Rattle.script_laws.specs.Clean.{EndsClean, IsCleanScript, NeverFails, StandsStill};
@@ -144,8 +144,9 @@ pub fn replay<H: Host, S: Source, K: Sink>(
 
     // Packets are dumped up to where the lines end.
     ensures dumps { AsksDump (map string_bytes words.now)
-        → Dumps (S.left script.old) (S.left script.new) result.status (K.written out.old) (K.written out.new)
-        (S.faults script.old) (S.faults script.new) (S.ends script.old) (S.ends script.new) }
+        → Dumps (source_tells (S.left script.old) (S.faults script.old) (S.ends script.old))
+        (source_tells (S.left script.new) (S.faults script.new) (S.ends script.new))
+        result.status (K.written out.old) (K.written out.new) }
 
     // A script of packets alone is dumped to its end, where no count rose and memory suffices.
     ensures dumps_whole { AsksDump (map string_bytes words.now)
@@ -200,8 +201,9 @@ fn report_dump<D: Store, S: Source, K: Sink>(
     script: &mut S,
     out: &mut K,
 ) -> Outcome<D>
-    ensures dumps { Dumps (S.left script.old) (S.left script.new) result.status (K.written out.old) (K.written out.new)
-        (S.faults script.old) (S.faults script.new) (S.ends script.old) (S.ends script.new) }
+    ensures dumps { Dumps (source_tells (S.left script.old) (S.faults script.old) (S.ends script.old))
+        (source_tells (S.left script.new) (S.faults script.new) (S.ends script.new))
+        result.status (K.written out.old) (K.written out.new) }
     ensures whole { (bytes : List ℕ) → S.left script.old ≡ Some bytes → IsWhole bytes
         → ¬ Rose (S.faults script.old) (S.faults script.new) → ¬ Rose (K.faults out.old) (K.faults out.new)
         → (result.status ≡ Status.Done) ⊎ (result.status ≡ Status.NoMemory) }

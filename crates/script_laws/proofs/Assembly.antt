@@ -6,8 +6,6 @@ use Rattle.vio_io.specs.declared.host.AttachFault.{AttachFault}
 use Rattle.vio_io.specs.declared.host.AttachFault.TheVariants.{Failed, Memory}
 use Rattle.disk_law.specs.ListState.{ImageState}
 use Rattle.domain_script.specs.declared.event.Event.{Event}
-use Rattle.domain_script.specs.declared.event.Event.TheVariants as line
-use Rattle.script_reader.specs.declared.lines.LinesStop.{LinesStop}
 use Rattle.script_reader.specs.declared.lines.LinesStop.TheVariants.{Going}
 use Rattle.script_reader.specs.LinesState.{AllFed, LinesState, to_come}
 use Rattle.domain_script.specs.Declarations.{Declared}
@@ -18,7 +16,7 @@ use Rattle.ldom_entries.specs.declared.entry.Entry.{Entry}
 use Rattle.ldom_report.specs.declared.status.Status.{Status}
 use Rattle.ldom_report.specs.declared.status.Status.TheVariants as status
 use Rattle.world_parts.specs.Endings.{EndsSo, JournalIs, ending}
-use Rattle.script_laws.specs.Going.{RunsAll, RunsLines}
+use Rattle.script_laws.specs.Going.{RunAt, RunsAll, RunsLines, run_at}
 use Rattle.ldom_report.specs.Stops.{IsReaders}
 use Rattle.script_laws.specs.Attached.{AreOpening, AttachesAt, ImageStands, is_opening}
 use Rattle.script_laws.specs.Behind.{StandsBehind}
@@ -26,7 +24,7 @@ use Rattle.script_laws.specs.Opening.{Opened, Opens, OpensAndStops}
 use Rattle.world_parts.specs.Lines.{EventStep, line_of}
 use Rattle.world_parts.specs.Parts.{Fits, FitsSoFar}
 use Rattle.ldom_report.specs.LinesEnd.{counted_lines}
-use Rattle.script_laws.specs.Reading.{StopsAt}
+use Rattle.script_laws.specs.Reading.{IsDeclaredOut, StopsAt}
 use Rattle.script_laws.specs.Replayed.{FaultsAre, Replayed, Stopped, attach_status, ended_status, start_of}
 use Rattle.script_laws.specs.LanesStand.{LanesStand}
 use Rattle.script_laws.specs.Script.{ReadSoFar}
@@ -153,24 +151,26 @@ stopped_as start now why ended events all names entries number lines is stopped 
 }
 
 -- a run that stopped after the first such line
-abbrev stopped_behind : (start now : Option (List ℕ)) (held : List ℕ) (event : Event) (names : NamesState) (count : ℕ) (why : Status) → why ≢ status.SourceFault → {stop : LinesStop} (opens : Opens stop start (prepend_known held now) event names count)
+abbrev stopped_behind : (start now : Option (List ℕ)) (reader : LinesState) (event : Event) (names : NamesState) (why : Status) → why ≢ status.SourceFault → (opens : Opens start reader now event names)
     → (all : List Event) → all ≡ opens.opening ++ event ∷ []
-    → (entries : ℕ) → StopsAt why (prepend_known held now) held now names count entries → count ≡ counted_lines why count → Stopped start now why all names entries count
-stopped_behind start now held event names count why other opens all all_is entries stops is = record {
-  left = prepend_known held now;
-  count = count;
-  read = read_as start (prepend_known held now) (opens.opening ++ event ∷ []) all names count all_is opens.read;
-  held = held;
+    → (entries : ℕ) → StopsAt why (to_come reader now) reader.held now names reader.number entries → reader.number ≡ counted_lines why reader.number
+    → Stopped start now why all names entries reader.number
+stopped_behind start now reader event names why other opens all all_is entries stops is = record {
+  left = to_come reader now;
+  count = reader.number;
+  read = read_as start (to_come reader now) (opens.opening ++ event ∷ []) all names reader.number all_is opens.read;
+  held = reader.held;
   stop = stops;
   feeds = λ failed. absurd (other failed);
   lines_are = is;
 }
 
 -- THE FIRST EVENT that isn't a declaration, and the lines after it
-module _ (stop : LinesStop) (start rest now : Option (List ℕ)) (event : Event) (names after : NamesState) (s m t : DomainState)
-    (journal new : List Entry) (number lines : ℕ) (why : Status) (readers : IsReaders why)
-    (opens : Opens stop start rest event names number) (fits : Fits s (line_of event) [] journal m)
-    (runs : RunsLines rest now names journal m number why after new t lines) (going : why ≡ status.SourceFault → stop ≡ Going) where
+module _ (start now : Option (List ℕ)) (reader : LinesState) (began : Option (List ℕ)) (event : Event) (names : NamesState) (s m : DomainState)
+    (journal : List Entry) (why : Status) (after : RunAt) (readers : IsReaders why)
+    (opens : Opens start reader began event names) (fits : Fits s (line_of event) [] journal m)
+    (runs : RunsLines (to_come reader began) now (run_at names journal m reader.number) why after)
+    (going : why ≡ status.SourceFault → reader.stop ≡ Going) where
   abbrev front : List (Event × List Entry)
   front = first_lines opens.opening event fits.adds.part
 
@@ -188,7 +188,7 @@ module _ (stop : LinesStop) (start rest now : Option (List ℕ)) (event : Event)
   events_are : events_of parts ≡ (opens.opening ++ event ∷ []) ++ events_of runs.parts
   events_are = grind (arith, events_behind, first_events)
 
-  all_fit : FitsScript 0 s parts t
+  all_fit : FitsScript 0 s parts after.world
   all_fit = record {
     middle = runs.fits.middle;
     run = run_append EventStep s m runs.fits.middle front runs.parts.whole front_run runs.fits.run;
@@ -196,48 +196,49 @@ module _ (stop : LinesStop) (start rest now : Option (List ℕ)) (event : Event)
     begin_below = grind (arith, entries_are, front_run, all_behind, below_both, first_below);
   }
 
-  pub runs_all : RunsAll start now names s why after new t lines
+  pub runs_all : RunsAll start now names s why after
   runs_all =
-      let count : number + length runs.read.texts ≡ length (opens.read.texts ++ runs.read.texts) = omega (arith, opens.read.counts, length-append opens.read.texts runs.read.texts) in
+      let count : reader.number + length runs.read.texts ≡ length (opens.read.texts ++ runs.read.texts) = omega (arith, opens.read.counts, length-append opens.read.texts runs.read.texts) in
       record {
         parts = parts;
         stopped = record {
           left = runs.left;
-          count = number + length runs.read.texts;
+          count = reader.number + length runs.read.texts;
           read = record {
             texts = opens.read.texts ++ runs.read.texts;
-            taken = taken-append start rest runs.left opens.read.texts runs.read.texts opens.read.taken
+            taken = taken-append start (to_come reader began) runs.left opens.read.texts runs.read.texts opens.read.taken
                 (record { taken = runs.read.taken; short = runs.read.short; few = omega (arith, runs.read.few) }) (omega (arith, runs.read.few, opens.read.counts));
-            spell = subst (λ (l : List Event). AllSpell (opens.read.texts ++ runs.read.texts) no_names l after) (sym events_are)
-                (spell_append opens.read.texts runs.read.texts no_names names after (opens.opening ++ event ∷ []) (events_of runs.parts) opens.read.spell runs.read.spell);
+            spell = subst (λ (l : List Event). AllSpell (opens.read.texts ++ runs.read.texts) no_names l after.names) (sym events_are)
+                (spell_append opens.read.texts runs.read.texts no_names names after.names (opens.opening ++ event ∷ []) (events_of runs.parts) opens.read.spell runs.read.spell);
             counts = count;
           };
           held = runs.held;
           stop = runs.stop;
-          feeds = λ failed. fed_both start rest runs.left opens.read.texts runs.read.texts (opens.feeds (going failed)) (runs.feeds failed);
-          lines_are = runs.lines_are;
+          feeds = λ failed. fed_both start (to_come reader began) runs.left opens.read.texts runs.read.texts (opens.feeds (going failed)) (runs.feeds failed);
+          lines_are = runs.counted;
         };
         journal_is = record {
           is = journal_behind front runs.parts ∙ ap (λ (l : List Entry). l ++ journal_of runs.parts) entries_are ∙ sym runs.grew;
           fits = all_fit;
           ends = behind_ends front runs.parts why readers runs.ends;
         };
-        declared = same_declared names after (same_disks runs.read.texts names after (events_of runs.parts) opens.ended runs.read.spell)
-            (same_ports runs.read.texts names after (events_of runs.parts) opens.ended runs.read.spell);
+        declared = same_declared names after.names (same_disks runs.read.texts names after.names (events_of runs.parts) opens.ended runs.read.spell)
+            (same_ports runs.read.texts names after.names (events_of runs.parts) opens.ended runs.read.spell);
         attached = λ _ are. not_opening opens.opening event (other_line event opens.other)
             (opening_halves (opens.opening ++ event ∷ []) (events_of runs.parts) (subst AreOpening events_are are)).0;
       }
 
 -- memory was wanted in the midst of that first event
-pub runs_first_cut : {stop : LinesStop} (start now : Option (List ℕ)) (held : List ℕ) (event : Event) (names : NamesState) (s t : DomainState) (journal : List Entry) (number : ℕ)
-    → Opens stop start (prepend_known held now) event names number → FitsSoFar s (line_of event) [] journal t → RunsAll start now names s status.NoMemory names journal t number
-runs_first_cut start now held event names s t journal number opens fits =
+pub runs_first_cut : (start now : Option (List ℕ)) (reader : LinesState) (event : Event) (names : NamesState) (s t : DomainState) (journal : List Entry)
+    → Opens start reader now event names → FitsSoFar s (line_of event) [] journal t → RunsAll start now names s status.NoMemory (run_at names journal t reader.number)
+runs_first_cut start now reader event names s t journal opens fits =
     let are : events_of (begun_parts opens.opening event fits.adds.part) ≡ opens.opening ++ event ∷ [] =
     first_events opens.opening event fits.adds.part in
     record {
       parts = begun_parts opens.opening event fits.adds.part;
-      stopped = stopped_behind start now held event names number status.NoMemory (λ failed. cc failed) opens
-          (events_of (begun_parts opens.opening event fits.adds.part)) are (length journal) (tt, keeps_same (prepend_known held now)) refl;
+      stopped = stopped_behind start now reader event names status.NoMemory (λ failed. cc failed) opens
+          (events_of (begun_parts opens.opening event fits.adds.part)) are (length journal)
+          (inr (inl (opens.ended, opens.held)), keeps_same (to_come reader now)) refl;
       journal_is = record {
         is = first_entries opens.opening event fits.adds.part ∙ sym fits.adds.grew;
         fits = record {
@@ -263,7 +264,7 @@ declared_stopped start now why ended names lines opens stop feeds counted =
     stopped_as start now why ended opens.opening (events_of (declared_parts opens.opening)) names 0 0 lines
     (opening_events opens.opening) opens.stopped stop feeds counted
 
-pub runs_none_more : (start now : Option (List ℕ)) (names : NamesState) (s : DomainState) (lines : ℕ) → OpensAndStops start now status.Done names lines → RunsAll start now names s status.Done names [] s lines
+pub runs_none_more : (start now : Option (List ℕ)) (names : NamesState) (s : DomainState) (lines : ℕ) → OpensAndStops start now status.Done names lines → RunsAll start now names s status.Done (run_at names [] s lines)
 runs_none_more start now names s lines opens = record {
   parts = declared_parts opens.opening;
   stopped = declared_stopped start now status.Done status.Done names lines opens opens.stopped.stop opens.stopped.feeds opens.stopped.lines_are;
@@ -329,9 +330,10 @@ refused_ends : (fault : AttachFault) (all : ScriptParts) → journal_of all ≡ 
 refused_ends Failed all none = none
 refused_ends Memory all none = tt
 
-refused_stop : (fault : AttachFault) (left now : Option (List ℕ)) (held : List ℕ) (names : NamesState) (count : ℕ) → Keeps left (prepend_known held now) → StopsAt (attach_status fault) left held now names count 0
-refused_stop Failed left now held names count kept = (tt, kept)
-refused_stop Memory left now held names count kept = (tt, kept)
+refused_stop : (fault : AttachFault) (left now : Option (List ℕ)) (held : List ℕ) (names : NamesState) (count : ℕ) → IsDeclaredOut left held names → Keeps left (prepend_known held now)
+    → StopsAt (attach_status fault) left held now names count 0
+refused_stop Failed left now held names count declared kept = (declared, kept)
+refused_stop Memory left now held names count declared kept = (inr declared, kept)
 
 refused_unfailed : (fault : AttachFault) → attach_status fault ≢ status.SourceFault
 refused_unfailed Failed failed = cc failed
@@ -362,24 +364,24 @@ nothing_between seen image is = grind arith
 
 module _ {D : Type 0} (seen : D → ImageState) (start now : Option (List ℕ)) (gives : ℕ → Option (List ℕ)) where
   -- A RUN in a world that ended
-  pub replayed_of : (why : Status) (faulty : Bool) (names after : NamesState) (s t : DomainState) (journal : List Entry) (lines : ℕ) (image : D) (lanes : Lanes) → IsReaders why → RunsAll start now names s why after journal t lines → s ≡ start_of names gives
-      → StandsBehind (seen image) t.first.image → lanes ≡ lanes_in t → (IsTrue faulty ↔ (0 < t.first.image.faults))
-      → Replayed seen start now gives (ended_status why faulty) lines after journal (Some image) (Some lanes)
-  replayed_of why faulty names after s t journal lines image lanes readers runs begins told left tells =
-      let begin : s ≡ start_of after gives = begins ∙ ap (λ (d : Declared). start_of (record { disks = d.disks; ports = d.ports; ended = true }) gives) (sym runs.declared) in
+  pub replayed_of : (why : Status) (faulty : Bool) (names : NamesState) (s : DomainState) (after : RunAt) (image : D) (lanes : Lanes) → IsReaders why → RunsAll start now names s why after → s ≡ start_of names gives
+      → StandsBehind (seen image) after.world.first.image → lanes ≡ lanes_in after.world → (IsTrue faulty ↔ (0 < after.world.first.image.faults))
+      → Replayed seen start now gives (ended_status why faulty) after.count after.names after.journal (Some image) (Some lanes)
+  replayed_of why faulty names s after image lanes readers runs begins told left tells =
+      let begin : s ≡ start_of after.names gives = begins ∙ ap (λ (d : Declared). start_of (record { disks = d.disks; ports = d.ports; ended = true }) gives) (sym runs.declared) in
       record {
         parts = runs.parts;
-        stopped = stopped_as start now why (ended_status why faulty) (events_of runs.parts) (events_of runs.parts) after (length journal) (length journal) lines refl runs.stopped
-            (ended_stop why faulty after runs.stopped.left now runs.stopped.held runs.stopped.count (length journal) readers runs.stopped.stop)
+        stopped = stopped_as start now why (ended_status why faulty) (events_of runs.parts) (events_of runs.parts) after.names (length after.journal) (length after.journal) after.count refl runs.stopped
+            (ended_stop why faulty after.names runs.stopped.left now runs.stopped.held runs.stopped.count (length after.journal) readers runs.stopped.stop)
             (ended_as (λ (w : Status). w ≡ status.SourceFault → AllFed start runs.stopped.left runs.stopped.read.texts) why faulty readers (λ _ failed. cc failed) runs.stopped.feeds)
             (runs.stopped.lines_are ∙ ended_count why faulty runs.stopped.count readers);
-        final = t;
-        journal_is = ended_journal why faulty (start_of after gives) t runs.parts journal readers
-            (subst (λ (x : DomainState). JournalIs (ending why) x runs.parts journal t) begin runs.journal_is);
+        final = after.world;
+        journal_is = ended_journal why faulty (start_of after.names gives) after.world runs.parts after.journal readers
+            (subst (λ (x : DomainState). JournalIs (ending why) x runs.parts after.journal after.world) begin runs.journal_is);
         image_is = told;
-        faults_are = ended_faults image why faulty t.first.image.faults readers tells;
-        image_stands = ended_image image why faulty (events_of runs.parts) runs.stopped.left journal readers runs.attached;
-        lanes_stand = ended_lanes image why faulty lanes t readers left;
+        faults_are = ended_faults image why faulty after.world.first.image.faults readers tells;
+        image_stands = ended_image image why faulty (events_of runs.parts) runs.stopped.left after.journal readers runs.attached;
+        lanes_stand = ended_lanes image why faulty lanes after.world readers left;
       }
 
   -- one that ended before an image was attached: in its declarations
@@ -408,7 +410,7 @@ module _ {D : Type 0} (seen : D → ImageState) (start now : Option (List ℕ)) 
       record {
         parts = parts;
         stopped = declared_stopped start now status.Done (attach_status fault) names reader.number opened
-            (refused_stop fault opened.stopped.left now opened.stopped.held names opened.stopped.count opened.stopped.stop.1)
+            (refused_stop fault opened.stopped.left now opened.stopped.held names opened.stopped.count (inr opened.stopped.stop.0) opened.stopped.stop.1)
             (λ failed. absurd (refused_unfailed fault failed))
             (opened.stopped.lines_are ∙ refused_count fault opened.stopped.count);
         final = start_of names gives;
@@ -427,8 +429,8 @@ module _ {D : Type 0} (seen : D → ImageState) (start now : Option (List ℕ)) 
       let parts : ScriptParts = begun_parts opened.opening event [] in
       record {
         parts = parts;
-        stopped = stopped_behind start now reader.held event names reader.number (attach_status fault) (refused_unfailed fault) opened (events_of parts) (first_events opened.opening event []) 0
-            (refused_stop fault (to_come reader now) now reader.held names reader.number (keeps_same (to_come reader now))) (refused_count fault reader.number);
+        stopped = stopped_behind start now reader event names (attach_status fault) (refused_unfailed fault) opened (events_of parts) (first_events opened.opening event []) 0
+            (refused_stop fault (to_come reader now) now reader.held names reader.number (inl (opened.ended, opened.held)) (keeps_same (to_come reader now))) (refused_count fault reader.number);
         final = start_of names gives;
         journal_is = record {
           is = first_entries opened.opening event [];
@@ -449,7 +451,7 @@ module _ {D : Type 0} (seen : D → ImageState) (start now : Option (List ℕ)) 
       let parts : ScriptParts = declared_parts opened.opening in
       record {
         parts = parts;
-        stopped = declared_stopped start now status.Done (status.ImageSize need have) names reader.number opened (tt, opened.stopped.stop.1) (λ failed. cc failed) opened.stopped.lines_are;
+        stopped = declared_stopped start now status.Done (status.ImageSize need have) names reader.number opened (inr opened.stopped.stop.0, opened.stopped.stop.1) (λ failed. cc failed) opened.stopped.lines_are;
         final = start_of names gives;
         journal_is = record {
           is = opening_entries opened.opening;
@@ -465,7 +467,8 @@ module _ {D : Type 0} (seen : D → ImageState) (start now : Option (List ℕ)) 
       let parts : ScriptParts = begun_parts opened.opening event [] in
       record {
         parts = parts;
-        stopped = stopped_behind start now reader.held event names reader.number (status.ImageSize need have) (λ failed. cc failed) opened (events_of parts) (first_events opened.opening event []) 0 (tt, keeps_same (to_come reader now)) refl;
+        stopped = stopped_behind start now reader event names (status.ImageSize need have) (λ failed. cc failed) opened (events_of parts) (first_events opened.opening event []) 0
+            (inl (opened.ended, opened.held), keeps_same (to_come reader now)) refl;
         final = start_of names gives;
         journal_is = record {
           is = first_entries opened.opening event [];
@@ -482,7 +485,7 @@ module _ {D : Type 0} (seen : D → ImageState) (start now : Option (List ℕ)) 
   pub replayed_none : (names : NamesState) → names ≡ no_names → now ≡ start → Replayed seen start now gives status.NoMemory 0 names [] None None
   replayed_none names is same = record {
     parts = declared_parts [];
-    stopped = record { left = start; count = 0; read = read_none start names 0 is refl; held = []; stop = (tt, nothing_held start now same); feeds = λ failed. cc failed; lines_are = refl };
+    stopped = record { left = start; count = 0; read = read_none start names 0 is refl; held = []; stop = (inl (refl, refl), nothing_held start now same); feeds = λ failed. cc failed; lines_are = refl };
     final = start_of names gives;
     journal_is = record { is = refl; fits = declared_fit (start_of names gives) [] tt; ends = tt };
     image_is = tt;

@@ -11,7 +11,7 @@ use Rattle.domain_script.specs.declared.event.DiskDecl.{DiskDecl}
 use Rattle.domain_script.specs.declared.event.Lane.{Lane}
 use Rattle.domain_script.specs.declared.event.Side.{Side}
 use Rattle.domain_script.specs.declared.event.Side.TheVariants.{Client, Server}
-use Rattle.world_parts.specs.world_laws.Settle.{OfLane, OfPort, SettleEntry, Settled, Unsettled, UnsettledPort}
+use Rattle.world_parts.specs.world_laws.Settle.{OfLane, OfPort, SettleEntry, UnsettledPort}
 use Rattle.world_parts.specs.port_model.NetEndStep.{Frame}
 use Rattle.world_parts.specs.port_model.NetEvent.{Steps}
 use Rattle.world_parts.specs.switch_laws.Events.{Switched}

@@ -11,8 +11,6 @@ use Rattle.ldc_queue.specs.declared.end.End.TheVariants.{A, B}
 use Rattle.vdisk_msg.specs.Requests.{BadCount, BadRange, Defect}
 use Rattle.world_parts.specs.channel_model.WireEvent.{Reset}
 use Rattle.disk_law.proofs.Counted.{completed-append}
-use Rattle.disk_law.specs.Issued.{completed}
-use Rattle.disk_law.specs.ListStep as plain
 use Rattle.world_parts.specs.disk_model.DiskEvent.{Asks, Done, Full, OnWire, Refused, Works}
 use Rattle.domain_script.specs.declared.event.DiskDecl.{DiskDecl}
 use Rattle.domain_script.specs.LaneKinds.{disk_lane}

@@ -7,7 +7,6 @@ use Rattle.runs.specs.Run.{Run, run_push}
 use Rattle.ldc_queue.specs.Transcript.{Utterance}
 use Rattle.ldc_queue.specs.declared.end.End.{End}
 use Rattle.vio_tag.specs.declared.cause.Cause.{Cause}
-use Rattle.vio_tag.specs.declared.cause.Cause.TheVariants as the_cause
 use Rattle.world_parts.specs.channel_model.ResetSays.{ResetSays}
 use Rattle.world_parts.specs.channel_model.TranscriptLog.{transcript_of}
 use Rattle.lane_kinds.proofs.Moving.{each_there}

@@ -31,7 +31,7 @@ use Rattle.world_parts.specs.switch_laws.Ports.{is_calm, ports, waits_on}
 use Rattle.world_parts.specs.disk_model.LaneState.{LaneState}
 use Rattle.world_parts.specs.world_laws.DiskKind.{disk_kind}
 use Rattle.world_parts.specs.world_laws.Rounds.{LaneRound}
-use Rattle.world_parts.specs.world_laws.Settle.{OfLane, OfPort, SettleEntry, Settled, Unsettled, UnsettledPort, disk_entries, disks}
+use Rattle.world_parts.specs.world_laws.Settle.{OfPort, SettleEntry, Settled, Unsettled, UnsettledPort, disk_entries, disks}
 use Rattle.world_parts.proofs.domain_laws.Arriving.{at_there, sound_at}
 use Rattle.world_parts.proofs.domain_laws.LineEntries.{AllRound, EachEntry, each_in}
 use Rattle.world_parts.proofs.domain_laws.Resting.{port_ticks_begun, port_ticks_once, ports_end}

@@ -16,7 +16,7 @@ use Rattle.script_reader.specs.declared.lines.LinesStop.TheVariants.{Going}
 use Rattle.ldom_report.specs.LinesEnd.{counted_lines}
 use Rattle.ldom_report.specs.declared.status.Status.{Status}
 use Rattle.ldom_report.specs.declared.status.Status.TheVariants as status
-use Rattle.script_reader.specs.LinesState.{AllFed}
+use Rattle.script_reader.specs.LinesState.{AllFed, LinesState, most_of_a_read, to_come}
 use Rattle.script_laws.specs.Attached.{AreOpening, is_opening}
 use Rattle.script_laws.specs.Opening.{Opens, OpensAndStops}
 use Rattle.script_laws.specs.Reading.{ReadsEvent, StopsAt}
@@ -77,15 +77,17 @@ opens_more was stop start rest left event names after count next so_far reads is
   feeds = fed_more stop start rest left so_far.read.texts reads.text so_far.read.taken.taken reads.ends;
 }
 
-pub opens : (was stop : LinesStop) (start rest left : Option (List ℕ)) (event : Event) (names after : NamesState) (count next : ℕ) → OpensSoFar was start rest names count → ReadsEvent stop rest left names event after → next ≡ count + 1
-    → next ≤ 20000 → (AreOpening (event ∷ []) → ⊥) → Opens stop start left event after next
-opens was stop start rest left event names after count next so_far reads is few not_opening = record {
+pub opens : (was : LinesStop) (start rest : Option (List ℕ)) (reader : LinesState) (now : Option (List ℕ)) (event : Event) (names after : NamesState) (count : ℕ) → OpensSoFar was start rest names count
+    → ReadsEvent reader.stop rest (to_come reader now) names event after → reader.number ≡ count + 1
+    → reader.number ≤ 20000 → length reader.held ≤ most_of_a_read → (AreOpening (event ∷ []) → ⊥) → Opens start reader now event after
+opens was start rest reader now event names after count so_far reads is few held not_opening = record {
   opening = so_far.opening;
   are = so_far.are;
-  read = read_more start rest left so_far.opening event names after count next so_far.read reads is few;
-  feeds = fed_more stop start rest left so_far.read.texts reads.text so_far.read.taken.taken reads.ends;
+  read = read_more start rest (to_come reader now) so_far.opening event names after count reader.number so_far.read reads is few;
+  feeds = fed_more reader.stop start rest (to_come reader now) so_far.read.texts reads.text so_far.read.taken.taken reads.ends;
   other = not_opening;
   ended = ap (λ (n : NamesState). n.ended) reads.noted_is ∙ ends names event (other_line event not_opening);
+  held = held;
 }
 
 -- no further line is taken up: a source fails where the reader goes on

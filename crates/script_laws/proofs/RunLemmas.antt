@@ -1,5 +1,5 @@
 -- A script's lines run one after another.
-use Rattle.std.proofs.Common.{◌≡◌, ℕ, ◌+◌, ◌<◌, ◌≤◌, List, [], ◌∷◌, ◌++◌, length, refl, sym, ◌∙◌, ap, subst, append_assoc, length-append, arith, Option, Some, None}
+use Rattle.std.proofs.Common.{◌≡◌, inl, inr, true, ℕ, ◌+◌, ◌<◌, ◌≤◌, List, [], ◌∷◌, ◌++◌, length, refl, sym, ◌∙◌, ap, subst, append_assoc, length-append, arith, Option, Some, None}
 use Rattle.std.specs.Io.KnownBytes.{Keeps, prepend_known}
 use Rattle.std.proofs.lemmas.List.{append-nil}
 use Rattle.runs.specs.Run.{Run, run_push}
@@ -12,8 +12,8 @@ use Rattle.ldom_report.specs.declared.status.Status.TheVariants as status
 use Rattle.ldom_report.specs.Stops.{IsReaders}
 use Rattle.script_reader.specs.declared.lines.LinesStop.{LinesStop}
 use Rattle.script_reader.specs.declared.lines.LinesStop.TheVariants.{Going}
-use Rattle.script_reader.specs.LinesState.{AllFed}
-use Rattle.script_laws.specs.Going.{ReadsOn, RunsLines}
+use Rattle.script_reader.specs.LinesState.{AllFed, most_of_a_read}
+use Rattle.script_laws.specs.Going.{ReadsOn, RunAt, RunsLines, run_at}
 use Rattle.world_parts.specs.Lines.{LineStarts, EventStep, line_of}
 use Rattle.world_parts.specs.Parts.{Fits, FitsSoFar}
 use Rattle.ldom_report.specs.LinesEnd.{counted_lines}
@@ -50,22 +50,20 @@ on_more start rest left before names after number count next events all event re
 }
 
 -- the lines that were run so far, each with its line feed where the reader goes on
-pub record RunsSoFar (stop : LinesStop) (start : Option (List ℕ)) (before : NamesState) (old : List Entry) (s : DomainState) (number : ℕ)
-    (rest : Option (List ℕ)) (names : NamesState) (new : List Entry) (t : DomainState) (count : ℕ) : Type 0 where
+pub record RunsSoFar (stop : LinesStop) (start rest : Option (List ℕ)) (before now : RunAt) : Type 0 where
   pub lines : List (Event × List Entry)
-  pub read : ReadsOn start rest before number (events_in lines) names
-  pub grew : new ≡ old ++ entries_in lines
-  pub run : Run EventStep s lines t
-  pub below : BeginBelow (length old) lines
-  pub counts : count ≡ number + length read.texts
+  pub read : ReadsOn start rest before.names before.count (events_in lines) now.names
+  pub grew : now.journal ≡ before.journal ++ entries_in lines
+  pub run : Run EventStep before.world lines now.world
+  pub below : BeginBelow (length before.journal) lines
+  pub counts : now.count ≡ before.count + length read.texts
   pub feeds : stop ≡ Going → AllFed start rest read.texts
 
-pub runs_none : (stop : LinesStop) (start : Option (List ℕ)) (names : NamesState) (old : List Entry) (s : DomainState) (number : ℕ) → number ≤ 20000
-    → RunsSoFar stop start names old s number start names old s number
-runs_none stop start names old s number few = record {
+pub runs_none : (stop : LinesStop) (start : Option (List ℕ)) (before : RunAt) → before.count ≤ 20000 → RunsSoFar stop start start before before
+runs_none stop start before few = record {
   lines = [];
-  read = on_none start names number few;
-  grew = sym (append-nil old);
+  read = on_none start before.names before.count few;
+  grew = sym (append-nil before.journal);
   run = refl;
   below = tt;
   counts = omega arith;
@@ -85,60 +83,62 @@ module _ (lines : List (Event × List Entry)) (event : Event) (part : List Entry
       → new ≡ old ++ entries_in (lines ++ (event, part) ∷ [])
   more_entries old mid new so_far grew = grind (arith, append_assoc, entries_push)
 
-pub runs_more : (was stop : LinesStop) (start rest left : Option (List ℕ)) (before names after : NamesState) (old mid new : List Entry) (s m t : DomainState)
-    (number count next : ℕ) (event : Event) → RunsSoFar was start before old s number rest names mid m count → ReadsEvent stop rest left names event after
-    → next ≡ count + 1 → next ≤ 20000 → length mid < 2000000 → Fits m (line_of event) mid new t → RunsSoFar stop start before old s number left after new t next
-runs_more was stop start rest left before names after old mid new s m t number count next event so_far reads is few below fits = record {
+pub runs_more : (was stop : LinesStop) (start rest left : Option (List ℕ)) (before mid after : RunAt) (event : Event) → RunsSoFar was start rest before mid
+    → ReadsEvent stop rest left mid.names event after.names → after.count ≡ mid.count + 1 → after.count ≤ 20000 → length mid.journal < 2000000
+    → Fits mid.world (line_of event) mid.journal after.journal after.world → RunsSoFar stop start left before after
+runs_more was stop start rest left before mid after event so_far reads is few below fits = record {
   lines = so_far.lines ++ (event, fits.adds.part) ∷ [];
-  read = on_more start rest left before names after number count next (events_in so_far.lines)
+  read = on_more start rest left before.names mid.names after.names before.count mid.count after.count (events_in so_far.lines)
       (events_in (so_far.lines ++ (event, fits.adds.part) ∷ [])) event so_far.read so_far.counts reads is few
       (more_events so_far.lines event fits.adds.part);
-  grew = more_entries so_far.lines event fits.adds.part old mid new so_far.grew fits.adds.grew;
-  run = run_push EventStep s m t so_far.lines (event, fits.adds.part) so_far.run (line_step m event mid new t fits);
-  below = below_push (length old) so_far.lines (event, fits.adds.part) so_far.below
-      (below_here old mid (entries_in so_far.lines) so_far.grew below);
+  grew = more_entries so_far.lines event fits.adds.part before.journal mid.journal after.journal so_far.grew fits.adds.grew;
+  run = run_push EventStep before.world mid.world after.world so_far.lines (event, fits.adds.part) so_far.run
+      (line_step mid.world event mid.journal after.journal after.world fits);
+  below = below_push (length before.journal) so_far.lines (event, fits.adds.part) so_far.below
+      (below_here before.journal mid.journal (entries_in so_far.lines) so_far.grew below);
   counts = omega (arith, is, so_far.counts, length-append so_far.read.texts (reads.text ∷ []));
   feeds = fed_more stop start rest left so_far.read.texts reads.text so_far.read.taken reads.ends;
 }
 
 -- no further line is taken up: a source fails where the reader goes on
-pub runs_stop : (stop : LinesStop) (start rest now : Option (List ℕ)) (held : List ℕ) (before names after : NamesState) (old new : List Entry) (s t : DomainState)
-    (number count lines : ℕ) (why : Status) → IsReaders why → RunsSoFar stop start before old s number rest names new t count → StopsAt why rest held now names count (length new)
-    → (why ≡ status.SourceFault → stop ≡ Going) → lines ≡ counted_lines why count → after ≡ names → RunsLines start now before old s number why after new t lines
-runs_stop stop start rest now held before names after old new s t number count lines why readers so_far stops going is same =
-    subst (λ (n : NamesState). RunsLines start now before old s number why n new t lines) (sym same) (record {
+pub runs_stop : (stop : LinesStop) (start rest now : Option (List ℕ)) (held : List ℕ) (before here : RunAt) (names : NamesState) (journal : List Entry) (lines : ℕ) (why : Status)
+    → IsReaders why → RunsSoFar stop start rest before here → StopsAt why rest held now here.names here.count (length here.journal) → (why ≡ status.SourceFault → stop ≡ Going)
+    → lines ≡ counted_lines why here.count → names ≡ here.names → journal ≡ here.journal → RunsLines start now before why (run_at names journal here.world lines)
+runs_stop stop start rest now held before here names journal lines why readers so_far stops going is names_are journal_is =
+    subst (λ (n : NamesState). RunsLines start now before why (run_at n journal here.world lines)) (sym names_are)
+    (subst (λ (l : List Entry). RunsLines start now before why (run_at here.names l here.world lines)) (sym journal_is) (record {
       parts = record { whole = so_far.lines; cut = None };
       left = rest;
       read = so_far.read;
       grew = so_far.grew;
-      fits = record { middle = t; run = so_far.run; last = refl; begin_below = so_far.below };
+      fits = record { middle = here.world; run = so_far.run; last = refl; begin_below = so_far.below };
       ends = whole_ends so_far.lines why readers;
       held = held;
-      stop = subst (λ (n : ℕ). StopsAt why rest held now names n (length new)) so_far.counts stops;
+      stop = subst (λ (n : ℕ). StopsAt why rest held now here.names n (length here.journal)) so_far.counts stops;
       feeds = λ failed. so_far.feeds (going failed);
-      lines_are = is ∙ ap (λ (n : ℕ). counted_lines why n) so_far.counts;
-    })
+      counted = is ∙ ap (λ (n : ℕ). counted_lines why n) so_far.counts;
+    }))
 
 pub keeps_same : (o : Option (List ℕ)) → Keeps o o
 keeps_same None = tt
 keeps_same (Some bytes) = refl
 
 -- memory was wanted in the midst of a line
-pub runs_cut : {was stop : LinesStop} (start rest now : Option (List ℕ)) (held : List ℕ) (before names after : NamesState) (old mid new : List Entry) (s m t : DomainState)
-    (number count next : ℕ) (event : Event) → RunsSoFar was start before old s number rest names mid m count
-    → ReadsEvent stop rest (prepend_known held now) names event after → next ≡ count + 1 → next ≤ 20000 → length mid < 2000000 → FitsSoFar m (line_of event) mid new t
-    → RunsLines start now before old s number status.NoMemory after new t next
-runs_cut start rest now held before names after old mid new s m t number count next event so_far reads is few below fits = record {
+pub runs_cut : {was stop : LinesStop} (start rest now : Option (List ℕ)) (held : List ℕ) (before mid after : RunAt) (event : Event) → RunsSoFar was start rest before mid
+    → ReadsEvent stop rest (prepend_known held now) mid.names event after.names → after.count ≡ mid.count + 1 → after.count ≤ 20000 → length mid.journal < 2000000
+    → FitsSoFar mid.world (line_of event) mid.journal after.journal after.world → after.names.ended ≡ true → length held ≤ most_of_a_read
+    → RunsLines start now before status.NoMemory after
+runs_cut start rest now held before mid after event so_far reads is few below fits ended short = record {
   parts = record { whole = so_far.lines; cut = Some (event, fits.adds.part) };
   left = prepend_known held now;
-  read = on_more start rest (prepend_known held now) before names after number count next (events_in so_far.lines)
+  read = on_more start rest (prepend_known held now) before.names mid.names after.names before.count mid.count after.count (events_in so_far.lines)
       (events_in (so_far.lines ++ (event, fits.adds.part) ∷ [])) event so_far.read so_far.counts reads is few
       (more_events so_far.lines event fits.adds.part);
-  grew = more_entries so_far.lines event fits.adds.part old mid new so_far.grew fits.adds.grew;
+  grew = more_entries so_far.lines event fits.adds.part before.journal mid.journal after.journal so_far.grew fits.adds.grew;
   fits = grind (arith, line_starts, below_push, below_here);
   ends = tt;
   held = held;
-  stop = (tt, keeps_same (prepend_known held now));
+  stop = (inr (inl (ended, short)), keeps_same (prepend_known held now));
   feeds = λ failed. cc failed;
-  lines_are = omega (arith, is, so_far.counts, length-append so_far.read.texts (reads.text ∷ []));
+  counted = omega (arith, is, so_far.counts, length-append so_far.read.texts (reads.text ∷ []));
 }

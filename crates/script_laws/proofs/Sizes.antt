@@ -9,13 +9,12 @@ use Rattle.domain_script.specs.NamesState.{NamesState, noted}
 use Rattle.domain_script.specs.ScriptEvents.{AllSpell}
 use Rattle.world_parts.specs.world_laws.Rounds.{Each}
 use Rattle.world_parts.specs.domain_laws.Domain.{DomainState, Lanes}
-use Rattle.ldom_entries.specs.declared.entry.Entry.{Entry}
 use Rattle.ldom_report.specs.declared.status.Status.{Status}
 use Rattle.ldom_report.specs.declared.status.Status.TheVariants as status
 use Rattle.ldom_report.specs.Stops.{IsReaders}
 use Rattle.vio_io.specs.declared.host.AttachFault.{AttachFault}
 use Rattle.vio_io.specs.declared.host.AttachFault.TheVariants.{Failed, Memory}
-use Rattle.script_laws.specs.Going.{RunsAll}
+use Rattle.script_laws.specs.Going.{RunAt, RunsAll}
 use Rattle.script_laws.specs.Replayed.{attach_status, ended_status, start_of}
 use Rattle.script_laws.specs.Sized.{SizeIs}
 use Rattle.script_laws.proofs.Through.{script_shapes}
@@ -88,13 +87,13 @@ module _ {D : Type 0} (size : D → ℕ) where
   sized_refused Memory least told = tt
 
   -- a run in a world that ended
-  pub sized_run : (start now : Option (List ℕ)) (gives : ℕ → Option (List ℕ)) (why : Status) (faulty : Bool) (names after : NamesState) (s t : DomainState) (journal : List Entry) (lines : ℕ) (image : D) → IsReaders why → RunsAll start now names s why after journal t lines
-      → s ≡ start_of names gives → Each (LiesWithin (size image)) t.first.lanes → IfSome (gives (512 * blocks_of names.disks)) (λ bytes. 512 * blocks_of names.disks ≤ length bytes)
-      → SizeIs size (ended_status why faulty) (512 * blocks_of after.disks) (gives (512 * blocks_of after.disks)) (Some image)
-  sized_run start now gives why faulty names after s t journal lines image readers runs begins within long =
-      let is : JournalIs (ending why) (start_of names gives) runs.parts journal t = subst (λ (x : DomainState). JournalIs (ending why) x runs.parts journal t) begins runs.journal_is in
+  pub sized_run : (start now : Option (List ℕ)) (gives : ℕ → Option (List ℕ)) (why : Status) (faulty : Bool) (names : NamesState) (s : DomainState) (after : RunAt) (image : D) → IsReaders why → RunsAll start now names s why after
+      → s ≡ start_of names gives → Each (LiesWithin (size image)) after.world.first.lanes → IfSome (gives (512 * blocks_of names.disks)) (λ bytes. 512 * blocks_of names.disks ≤ length bytes)
+      → SizeIs size (ended_status why faulty) (512 * blocks_of after.names.disks) (gives (512 * blocks_of after.names.disks)) (Some image)
+  sized_run start now gives why faulty names s after image readers runs begins within long =
+      let is : JournalIs (ending why) (start_of names gives) runs.parts after.journal after.world = subst (λ (x : DomainState). JournalIs (ending why) x runs.parts after.journal after.world) begins runs.journal_is in
       let enough : 512 * (0 + blocks_of names.disks) ≤ size image =
-      needed_within 0 (size image) names.disks t.first.lanes (script_shapes names.disks (nets_of names.ports) (start_of names gives).first.image 0 runs.parts t is.fits) within (omega arith) in
+      needed_within 0 (size image) names.disks after.world.first.lanes (script_shapes names.disks (nets_of names.ports) (start_of names gives).first.image 0 runs.parts after.world is.fits) within (omega arith) in
       subst (λ (disks : List DiskDecl). SizeIs size (ended_status why faulty) (512 * blocks_of disks) (gives (512 * blocks_of disks)) (Some image)) (sym (ap (λ (d : Declared). d.disks) runs.declared))
       (sized_of size why faulty (512 * blocks_of names.disks) (gives (512 * blocks_of names.disks)) image readers (omega (arith, enough)) long)
 

@@ -6,7 +6,7 @@ use Rattle.world_parts.specs.channel_model.WireEvent.{Reset}
 use Rattle.world_parts.specs.disk_model.DiskEvent.{Asks, Done, Full, OnWire, Refused, Works}
 use Rattle.domain_script.specs.declared.event.DiskDecl.{DiskDecl}
 use Rattle.domain_script.specs.declared.event.Event.{Event}
-use Rattle.world_parts.specs.world_laws.Settle.{OfLane, OfPort, SettleEntry, Settled, Unsettled, UnsettledPort}
+use Rattle.world_parts.specs.world_laws.Settle.{OfLane, OfPort, SettleEntry, UnsettledPort}
 use Rattle.disk_law.specs.ListState.{ImageState}
 use Rattle.world_parts.specs.disk_model.LaneState.{Shape}
 use Rattle.world_parts.specs.switch_laws.Events.{SwitchEvent}

@@ -17,6 +17,17 @@ use Rattle.world_parts.specs.Script.{FitsScript, ScriptParts, events_of, journal
 use Rattle.world_parts.specs.domain_laws.Domain.{DomainState}
 use Rattle.domain_script.specs.Limits.{most_lines}
 
+-- A run at one moment: the names that it declared, the entries of its journal, its world, and how many lines its report
+-- would count.
+pub record RunAt : Type 0 where
+  pub names : NamesState
+  pub journal : List Entry
+  pub world : DomainState
+  pub count : ℕ
+
+abbrev pub run_at : NamesState → List Entry → DomainState → ℕ → RunAt
+run_at names journal world count = record { names = names; journal = journal; world = world; count = count }
+
 -- from the bytes that are still to come, after so many lines, these lines were read
 pub record ReadsOn (start left : Option (List ℕ)) (before : NamesState) (number : ℕ) (events : List Event) (after : NamesState) : Type 0 where
   pub texts : List (List ℕ)
@@ -26,24 +37,24 @@ pub record ReadsOn (start left : Option (List ℕ)) (before : NamesState) (numbe
   pub spell : AllSpell texts before events after
 
 -- They were read and run, and then no further one was taken up. Where the source failed, each had its line feed.
-pub record RunsLines (start now : Option (List ℕ)) (before : NamesState) (old : List Entry) (s : DomainState) (number : ℕ)
-    (why : Status) (after : NamesState) (new : List Entry) (t : DomainState) (lines : ℕ) : Type 0 where
+pub record RunsLines (start now : Option (List ℕ)) (before : RunAt) (why : Status) (after : RunAt) : Type 0 where
   pub parts : ScriptParts
   pub left : Option (List ℕ)
-  pub read : ReadsOn start left before number (events_of parts) after
-  pub grew : new ≡ old ++ journal_of parts
-  pub fits : FitsScript (length old) s parts t
+  pub read : ReadsOn start left before.names before.count (events_of parts) after.names
+  pub grew : after.journal ≡ before.journal ++ journal_of parts
+  pub fits : FitsScript (length before.journal) before.world parts after.world
   pub ends : EndsSo (ending why) parts
   pub held : List ℕ
-  pub stop : StopsAt why left held now after (number + length read.texts) (length new)
+  pub stop : StopsAt why left held now after.names (before.count + length read.texts) (length after.journal)
   pub feeds : why ≡ status.SourceFault → AllFed start left read.texts
-  pub lines_are : lines ≡ counted_lines why (number + length read.texts)
+  pub counted : after.count ≡ counted_lines why (before.count + length read.texts)
 
--- From its first line on the script was read and run, and then no further line was taken up.
-pub record RunsAll (start now : Option (List ℕ)) (before : NamesState) (s : DomainState) (why : Status) (after : NamesState) (journal : List Entry) (t : DomainState) (lines : ℕ) : Type 0 where
+-- From its first line on the script was read and run, in the world `s` of what these names declare, and then no further
+-- line was taken up.
+pub record RunsAll (start now : Option (List ℕ)) (names : NamesState) (s : DomainState) (why : Status) (after : RunAt) : Type 0 where
   pub parts : ScriptParts
-  pub stopped : Stopped start now why (events_of parts) after (length journal) lines
-  pub journal_is : JournalIs (ending why) s parts journal t
-  pub declared : declared_by after ≡ declared_by before
+  pub stopped : Stopped start now why (events_of parts) after.names (length after.journal) after.count
+  pub journal_is : JournalIs (ending why) s parts after.journal after.world
+  pub declared : declared_by after.names ≡ declared_by names
   -- but at the input's end, a line came at which the image is attached
   pub attached : why ≢ status.Done → AreOpening (events_of parts) → ⊥

@@ -1,5 +1,5 @@
 -- The lanes that a run gives back with its image.
-use Rattle.std.specs.Prelude.{◌≡◌, List, Option, Some, None}
+use Rattle.std.specs.Prelude.{◌≡◌, Option, Some, None}
 use Rattle.world_parts.specs.domain_laws.Domain.{DomainState, Lanes, lanes_in}
 use Rattle.ldom_report.specs.declared.status.Status.{Status}
 use Rattle.ldom_report.specs.declared.status.Status.TheVariants as status

@@ -38,15 +38,15 @@ loop-event-preserved g c =
 
 pub returns-then-not-is_opening-clause-opens : goal.returns-then-not-is_opening-clause-opens
 returns-then-not-is_opening-clause-opens g c =
-    opens c.loop-event.reader.lines.stop c.read_event.new.self.lines.stop (to_come c.args.reader.now.lines (g.S.Source.left c.args.source.now)) (to_come c.loop-event.reader.lines (g.S.Source.left c.loop-event.source)) (to_come c.read_event.new.self.lines (g.S.Source.left c.read_event.new.source))
-    c.read_event.new.event c.loop-event.reader.names c.read_event.new.self.names c.loop-event.reader.lines.number c.read_event.new.self.lines.number c.loop-event.invariant.so_far c.in_ok-read_event.ensures.event c.in_ok-read_event.ensures.next.0 c.in_ok-read_event.ensures.next.1 (λ opening. (cc (c.if-not-is_opening.ensures.1 opening)))
+    opens c.loop-event.reader.lines.stop (to_come c.args.reader.now.lines (g.S.Source.left c.args.source.now)) (to_come c.loop-event.reader.lines (g.S.Source.left c.loop-event.source)) c.read_event.new.self.lines (g.S.Source.left c.read_event.new.source)
+    c.read_event.new.event c.loop-event.reader.names c.read_event.new.self.names c.loop-event.reader.lines.number c.loop-event.invariant.so_far c.in_ok-read_event.ensures.event c.in_ok-read_event.ensures.next.0 c.in_ok-read_event.ensures.next.1 c.in_ok-read_event.ensures.held (λ opening. (cc (c.if-not-is_opening.ensures.1 opening)))
 
 pub returns-then-not-is_opening-clause-limits : goal.returns-then-not-is_opening-clause-limits
 returns-then-not-is_opening-clause-limits g c =
     let start = to_come c.args.reader.now.lines (g.S.Source.left c.args.source.now) in
     let left = to_come c.read_event.new.self.lines (g.S.Source.left c.read_event.new.source) in
-    let opened = opens c.loop-event.reader.lines.stop c.read_event.new.self.lines.stop start (to_come c.loop-event.reader.lines (g.S.Source.left c.loop-event.source)) left
-    c.read_event.new.event c.loop-event.reader.names c.read_event.new.self.names c.loop-event.reader.lines.number c.read_event.new.self.lines.number c.loop-event.invariant.so_far c.in_ok-read_event.ensures.event c.in_ok-read_event.ensures.next.0 c.in_ok-read_event.ensures.next.1 (λ opening. (cc (c.if-not-is_opening.ensures.1 opening))) in
+    let opened = opens c.loop-event.reader.lines.stop start (to_come c.loop-event.reader.lines (g.S.Source.left c.loop-event.source)) c.read_event.new.self.lines (g.S.Source.left c.read_event.new.source)
+    c.read_event.new.event c.loop-event.reader.names c.read_event.new.self.names c.loop-event.reader.lines.number c.loop-event.invariant.so_far c.in_ok-read_event.ensures.event c.in_ok-read_event.ensures.next.0 c.in_ok-read_event.ensures.next.1 c.in_ok-read_event.ensures.held (λ opening. (cc (c.if-not-is_opening.ensures.1 opening))) in
     read_declared start left _ c.read_event.new.self.names c.read_event.new.self.lines.number opened.read
 
 pub returns-in_err-read_event-clause-limits : goal.returns-in_err-read_event-clause-limits

@@ -1,10 +1,9 @@
 use Rattle.std.proofs.Common.{◌∙◌, List, Option, IfSome, IsNone, IsSome, refl, subst, sym}
-use Rattle.script_reader.specs.LinesState.{to_come}
 use Rattle.domain_script.specs.declared.event.Event.{Event}
 use Rattle.ldom_entries.specs.declared.entry.Entry.{Entry}
 use Rattle.ldom_report.specs.declared.status.Status.TheVariants as status
 use Rattle.ldom_report.specs.Stops.{stop_lines, stop_status}
-use Rattle.script_laws.specs.Going.{RunsAll}
+use Rattle.script_laws.specs.Going.{RunsAll, run_at}
 use Rattle.script_laws.specs.Opening.{Opened}
 use Rattle.ldom_world.specs.world_parts.Lines.{line_of}
 use Rattle.ldom_world.specs.world_parts.Parts.{Fits, FitsSoFar}
@@ -17,15 +16,16 @@ use Rattle.ldom_replay.proofs.run.run_first.Goals as goal
 pub returns-in-None-clause-runs : goal.returns-in-None-clause-runs
 returns-in-None-clause-runs g c start opened =
     let now = g.S.Source.left c.args.source.now in
-    subst (λ (l : List Entry). RunsAll start now c.args.reader.now.names c.args.world.now status.Done c.args.reader.now.names l c.args.world.now c.args.reader.now.lines.number) (sym c.requires.journal)
+    subst (λ (l : List Entry). RunsAll start now c.args.reader.now.names c.args.world.now status.Done (run_at c.args.reader.now.names l c.args.world.now c.args.reader.now.lines.number)) (sym c.requires.journal)
     (runs_none_more start now c.args.reader.now.names c.args.world.now c.args.reader.now.lines.number
     (subst (λ (first : Option Event). Opened start c.args.reader.now.lines now first c.args.reader.now.names) c.in-None.is opened))
 
 pub returns-in-Ok-clause-runs : goal.returns-in-Ok-clause-runs
 returns-in-Ok-clause-runs g c start opened =
     let now = g.S.Source.left c.args.source.now in
-    runs_all c.args.reader.now.lines.stop start (to_come c.args.reader.now.lines now) (g.S.Source.left c.run_lines.new.source) c.in-Some.event c.args.reader.now.names c.run_lines.new.reader.names c.args.world.now c.apply.new.self c.run_lines.new.world c.apply.new.journal.entries c.run_lines.new.reader.journal.entries
-    c.args.reader.now.lines.number (stop_lines c.run_lines.result c.run_lines.new.reader.lines.number) (stop_status c.run_lines.result c.run_lines.new.reader.lines.number)
+    runs_all start (g.S.Source.left c.run_lines.new.source) c.args.reader.now.lines now c.in-Some.event c.args.reader.now.names c.args.world.now c.apply.new.self c.apply.new.journal.entries
+    (stop_status c.run_lines.result c.run_lines.new.reader.lines.number)
+    (run_at c.run_lines.new.reader.names c.run_lines.new.reader.journal.entries c.run_lines.new.world (stop_lines c.run_lines.result c.run_lines.new.reader.lines.number))
     (readers_of c.run_lines.result c.run_lines.new.reader.lines.number)
     (subst (λ (first : Option Event). Opened start c.args.reader.now.lines now first c.args.reader.now.names) c.in-Some.is opened)
     (subst (λ (l : List Entry). Fits c.args.world.now (line_of c.in-Some.event) l c.apply.new.journal.entries c.apply.new.self) c.requires.journal c.in-Ok.ensures.fits)
@@ -34,7 +34,7 @@ returns-in-Ok-clause-runs g c start opened =
 pub returns-in-Err-clause-runs : goal.returns-in-Err-clause-runs
 returns-in-Err-clause-runs g c start opened =
     let now = g.S.Source.left c.args.source.now in
-    runs_first_cut start now c.args.reader.now.lines.held c.in-Some.event c.args.reader.now.names c.args.world.now c.apply.new.self c.apply.new.journal.entries c.args.reader.now.lines.number
+    runs_first_cut start now c.args.reader.now.lines c.in-Some.event c.args.reader.now.names c.args.world.now c.apply.new.self c.apply.new.journal.entries
     (subst (λ (first : Option Event). Opened start c.args.reader.now.lines now first c.args.reader.now.names) c.in-Some.is opened)
     (subst (λ (l : List Entry). FitsSoFar c.args.world.now (line_of c.in-Some.event) l c.apply.new.journal.entries c.apply.new.self) c.requires.journal c.in-Err.ensures.so_far)
 

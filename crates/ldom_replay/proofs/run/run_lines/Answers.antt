@@ -1,7 +1,7 @@
-use Rattle.std.proofs.Common.{◌∙◌, refl, subst, sym}
+use Rattle.std.proofs.Common.{◌∙◌, ap, refl, subst, sym}
 use Rattle.ldom_entries.specs.JournalState.{JournalState}
 use Rattle.ldom_report.specs.declared.status.Status.{Status}
-use Rattle.script_laws.specs.Going.{RunsLines}
+use Rattle.script_laws.specs.Going.{run_at}
 use Rattle.script_reader.specs.LinesState.{to_come}
 use Rattle.ldom_report.specs.Stops.{stop_lines, stop_status}
 use Rattle.script_laws.proofs.ReadLemmas.{same_disks, same_ports, still_ended}
@@ -24,7 +24,7 @@ loop-stop-init g c =
       lanes = c.requires.lanes;
       agrees = c.requires.agrees;
       going = λ going. going;
-      so_far = runs_none c.args.reader.now.lines.stop start c.args.reader.now.names c.args.reader.now.journal.entries c.args.world.now c.args.reader.now.lines.number c.requires.few;
+      so_far = runs_none c.args.reader.now.lines.stop start (run_at c.args.reader.now.names c.args.reader.now.journal.entries c.args.world.now c.args.reader.now.lines.number) c.requires.few;
       ends = λ base is. is;
       unfailed = refl;
     }
@@ -46,8 +46,10 @@ loop-stop-preserved g c =
           c.in-Ok-apply.ensures.many c.loop-stop.invariant.lanes;
       agrees = c.in-Ok-apply.ensures.agrees;
       going = λ _. c.loop-stop.invariant.going (c.in-Ok.ensures.going (λ is. cc is));
-      so_far = runs_more c.loop-stop.reader.lines.stop c.read_event.new.self.lines.stop start rest left c.args.reader.now.names c.loop-stop.reader.names c.read_event.new.self.names c.args.reader.now.journal.entries c.loop-stop.reader.journal.entries c.apply.new.journal.entries
-          c.args.world.now c.loop-stop.world c.apply.new.self c.args.reader.now.lines.number c.loop-stop.reader.lines.number c.read_event.new.self.lines.number c.read_event.new.event
+      so_far = runs_more c.loop-stop.reader.lines.stop c.read_event.new.self.lines.stop start rest left
+          (run_at c.args.reader.now.names c.args.reader.now.journal.entries c.args.world.now c.args.reader.now.lines.number)
+          (run_at names c.loop-stop.reader.journal.entries c.loop-stop.world c.loop-stop.reader.lines.number)
+          (run_at after c.apply.new.journal.entries c.apply.new.self c.read_event.new.self.lines.number) c.read_event.new.event
           c.loop-stop.invariant.so_far c.in-Ok.ensures.event c.in-Ok.ensures.next.0 c.in-Ok.ensures.next.1 c.in-Ok.ensures.below
           (subst (λ (j : JournalState). Fits c.loop-stop.world (line_of c.read_event.new.event) j.entries c.apply.new.journal.entries c.apply.new.self) c.in-Ok.ensures.journal c.in-Ok-apply.ensures.fits);
       ends = λ base is. c.in-Ok.ensures.ends base (c.loop-stop.invariant.ends base is);
@@ -57,10 +59,14 @@ loop-stop-preserved g c =
 pub returns-in-Err-apply-clause-runs : goal.returns-in-Err-apply-clause-runs
 returns-in-Err-apply-clause-runs g c =
     runs_cut (to_come c.args.reader.now.lines (g.S.Source.left c.args.source.now)) (to_come c.loop-stop.reader.lines (g.S.Source.left c.loop-stop.source)) (g.S.Source.left c.read_event.new.source) c.read_event.new.self.lines.held
-    c.args.reader.now.names c.loop-stop.reader.names c.read_event.new.self.names c.args.reader.now.journal.entries c.loop-stop.reader.journal.entries c.apply.new.journal.entries
-    c.args.world.now c.loop-stop.world c.apply.new.self c.args.reader.now.lines.number c.loop-stop.reader.lines.number c.read_event.new.self.lines.number c.read_event.new.event
+    (run_at c.args.reader.now.names c.args.reader.now.journal.entries c.args.world.now c.args.reader.now.lines.number)
+    (run_at c.loop-stop.reader.names c.loop-stop.reader.journal.entries c.loop-stop.world c.loop-stop.reader.lines.number)
+    (run_at c.read_event.new.self.names c.apply.new.journal.entries c.apply.new.self c.read_event.new.self.lines.number) c.read_event.new.event
     c.loop-stop.invariant.so_far c.in-Ok.ensures.event c.in-Ok.ensures.next.0 c.in-Ok.ensures.next.1 c.in-Ok.ensures.below
     (subst (λ (j : JournalState). FitsSoFar c.loop-stop.world (line_of c.read_event.new.event) j.entries c.apply.new.journal.entries c.apply.new.self) c.in-Ok.ensures.journal c.in-Err-apply.ensures.so_far)
+    (still_ended (to_come c.loop-stop.reader.lines (g.S.Source.left c.loop-stop.source)) (to_come c.read_event.new.self.lines (g.S.Source.left c.read_event.new.source)) c.read_event.new.event
+    c.loop-stop.reader.names c.read_event.new.self.names c.in-Ok.ensures.event c.loop-stop.invariant.ended)
+    c.in-Ok.ensures.held
 
 pub returns-in-Err-clause-runs : goal.returns-in-Err-clause-runs
 returns-in-Err-clause-runs g c =
@@ -69,11 +75,12 @@ returns-in-Err-clause-runs g c =
     let now = g.S.Source.left c.read_event.new.source in
     let read = c.read_event.new.self in
     let why : Status = stop_status c.in-Err.stop read.lines.number in
-    subst (λ (j : JournalState). RunsLines start now c.args.reader.now.names c.args.reader.now.journal.entries c.args.world.now c.args.reader.now.lines.number why read.names j.entries c.loop-stop.world (stop_lines c.in-Err.stop read.lines.number)) (sym c.in-Err.ensures.journal)
-    (runs_stop c.loop-stop.reader.lines.stop start rest now read.lines.held c.args.reader.now.names c.loop-stop.reader.names read.names
-    c.args.reader.now.journal.entries c.loop-stop.reader.journal.entries c.args.world.now c.loop-stop.world c.args.reader.now.lines.number c.loop-stop.reader.lines.number
-    (stop_lines c.in-Err.stop read.lines.number) why (readers_of c.in-Err.stop read.lines.number) c.loop-stop.invariant.so_far c.in-Err.ensures.stop
-    (λ failed. c.in-Err.ensures.going (λ is. let at_source = failed_at_source c.in-Err.stop read.lines.number failed in cc (at_source, is))) c.in-Err.ensures.lines.0 c.in-Err.ensures.lines.1)
+    runs_stop c.loop-stop.reader.lines.stop start rest now read.lines.held
+    (run_at c.args.reader.now.names c.args.reader.now.journal.entries c.args.world.now c.args.reader.now.lines.number)
+    (run_at c.loop-stop.reader.names c.loop-stop.reader.journal.entries c.loop-stop.world c.loop-stop.reader.lines.number)
+    read.names read.journal.entries (stop_lines c.in-Err.stop read.lines.number) why (readers_of c.in-Err.stop read.lines.number) c.loop-stop.invariant.so_far c.in-Err.ensures.stop
+    (λ failed. c.in-Err.ensures.going (λ is. let at_source = failed_at_source c.in-Err.stop read.lines.number failed in cc (at_source, is))) c.in-Err.ensures.lines.0 c.in-Err.ensures.lines.1
+    (ap (λ (j : JournalState). j.entries) c.in-Err.ensures.journal)
 
 pub apply-requires-clause-event : goal.apply-requires-clause-event
 apply-requires-clause-event g c =

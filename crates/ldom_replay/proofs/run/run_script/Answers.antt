@@ -1,6 +1,6 @@
 use Rattle.std.proofs.Common.{◌≡◌, inl, List, [], ℕ, ◌*◌, ◌∙◌, Option, None, arith, refl, ap, rules, subst, sym}
 use Rattle.domain_script.specs.ScriptEvents.{no_names}
-use Rattle.script_reader.specs.LinesState.{GoesOn, LinesState, ends_after, to_come}
+use Rattle.script_reader.specs.LinesState.{GoesOn, LinesState, ends_after}
 use Rattle.ldom_entries.specs.JournalState.{JournalState}
 use Rattle.ldom_report.specs.declared.status.Status.{Status}
 use Rattle.ldom_report.specs.declared.status.Status.TheVariants as status
@@ -65,7 +65,7 @@ returns-in-Ok-read_opening-clause-replayed g c =
     let left = g.S.Source.left c.args.source.now in
     let read = c.read_opening.new.reader in
     c.attach.ensures.replayed left
-    (subst (λ (start : Option (List ℕ)). Opens read.lines.stop start (to_come read.lines (g.S.Source.left c.read_opening.new.source)) c.in-Ok-read_opening.event read.names read.lines.number)
+    (subst (λ (start : Option (List ℕ)). Opens start read.lines (g.S.Source.left c.read_opening.new.source) c.in-Ok-read_opening.event read.names)
     (from_start c.in-Ok.reader.lines left (ap (λ (l : LinesState). l.held) c.in-Ok.ensures.lines)) c.in-Ok-read_opening.ensures.opens)
 
 pub returns-in-End-clause-replayed : goal.returns-in-End-clause-replayed

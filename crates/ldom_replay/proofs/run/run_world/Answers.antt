@@ -3,6 +3,7 @@ use Rattle.ldom_entries.specs.JournalState.{JournalState}
 use Rattle.ldom_report.specs.declared.status.Status.{Status}
 use Rattle.ldom_report.specs.Stops.{EndsTold, stop_lines, stop_status}
 use Rattle.ldom_report.proofs.StopLemmas.{ends_told, readers_of}
+use Rattle.script_laws.specs.Going.{run_at}
 use Rattle.script_laws.specs.Replayed.{ended_status}
 use Rattle.script_laws.proofs.Assembly.{ended_as, replayed_as, replayed_of}
 use Rattle.script_laws.proofs.Sizes.{sized_as, sized_run}
@@ -21,8 +22,8 @@ returns-clause-replayed g c start gives opened begins =
     read.names c.into_run.result.names read.journal.entries c.into_run.result.journal.entries (Some c.finish-image.result.0) c.into_run.result.image (Some c.finish-image.result.1) c.into_run.result.lanes
     status_is (c.into_run.ensures.lines ∙ c.counted-lines.ensures) c.into_run.ensures.names
     (ap (λ (j : JournalState). j.entries) c.into_run.ensures.journal) c.into_run.ensures.image c.into_run.ensures.lanes
-    (replayed_of (as_image g.D.Store) start now gives why c.faulty.result c.args.reader.names read.names c.args.world c.run_first-stop.new.world
-    read.journal.entries (stop_lines c.run_first-stop.result read.lines.number) c.finish-image.result.0 c.finish-image.result.1 (readers_of c.run_first-stop.result read.lines.number) (c.run_first-stop.ensures.runs start opened) begins
+    (replayed_of (as_image g.D.Store) start now gives why c.faulty.result c.args.reader.names c.args.world
+    (run_at read.names read.journal.entries c.run_first-stop.new.world (stop_lines c.run_first-stop.result read.lines.number)) c.finish-image.result.0 c.finish-image.result.1 (readers_of c.run_first-stop.result read.lines.number) (c.run_first-stop.ensures.runs start opened) begins
     (record {
       told = c.finish-image.ensures.content;
       faults = c.finish-image.ensures.faults;
@@ -41,8 +42,8 @@ returns-clause-sized g c start gives opened begins long =
     let status_is : c.into_run.result.status ≡ ended_status why c.faulty.result = c.into_run.ensures.status ∙ ended_is in
     sized_as g.D.Store.size gives (ended_status why c.faulty.result) c.into_run.result.status read.names c.into_run.result.names (Some c.finish-image.result.0) c.into_run.result.image
     status_is c.into_run.ensures.names c.into_run.ensures.image
-    (sized_run g.D.Store.size start now gives why c.faulty.result c.args.reader.names read.names c.args.world c.run_first-stop.new.world read.journal.entries (stop_lines c.run_first-stop.result read.lines.number)
-    c.finish-image.result.0 (readers_of c.run_first-stop.result read.lines.number) (c.run_first-stop.ensures.runs start opened) begins c.finish-image.ensures.size long)
+    (sized_run g.D.Store.size start now gives why c.faulty.result c.args.reader.names c.args.world
+    (run_at read.names read.journal.entries c.run_first-stop.new.world (stop_lines c.run_first-stop.result read.lines.number)) c.finish-image.result.0 (readers_of c.run_first-stop.result read.lines.number) (c.run_first-stop.ensures.runs start opened) begins c.finish-image.ensures.size long)
 
 pub returns-clause-ends : goal.returns-clause-ends
 returns-clause-ends g c base is =
