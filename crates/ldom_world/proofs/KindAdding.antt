@@ -98,21 +98,21 @@ module _ (kind : LaneKind) where
       (calm still : Bool) → MakesQuiet (lane_at kind k) A (moment w old) calm (moment m mid) → MakesQuiet (lane_at kind k) B (moment m mid) still (moment v new)
       → k < length quiet → marks ≡ slice_set quiet k (calm && still) → RoundGoesOn (lane_at kind k) quiet (moment w old) marks (moment v new)
   lane_goes_on k w m v old mid new quiet marks calm still client server less is =
-      λ start up. round_adds k start (moment w old) (moment m mid) (moment v new) quiet marks calm still up client server less is
+      λ start first up. round_adds k (moment start first) (moment w old) (moment m mid) (moment v new) quiet marks calm still up client server less is
 
   pub lane_wants : (k : ℕ) (w v : DomainState) (old new : List Entry) (quiet : List Bool) → v ≡ w → new ≡ old
       → RoundBreaks (lane_at kind k) quiet (moment w old) (moment v new)
   lane_wants k w v old new quiet same none =
-      λ start up. subst (λ (x : DomainState). LanesAddFront kind start (moment x new)) (sym same)
-      (subst (λ (l : List Entry). LanesAddFront kind start (moment w l)) (sym none)
-      (round_adds_front k start (moment w old) quiet up))
+      λ start first up. subst (λ (x : DomainState). LanesAddFront kind (moment start first) (moment x new)) (sym same)
+      (subst (λ (l : List Entry). LanesAddFront kind (moment start first) (moment w l)) (sym none)
+      (round_adds_front k (moment start first) (moment w old) quiet up))
 
   pub second_wants : (k : ℕ) (w m v : DomainState) (old mid new : List Entry) (quiet : List Bool) (calm : Bool)
       → MakesQuiet (lane_at kind k) A (moment w old) calm (moment m mid) → v ≡ m → new ≡ mid → RoundBreaks (lane_at kind k) quiet (moment w old) (moment v new)
   second_wants k w m v old mid new quiet calm client same none =
-      λ start up. subst (λ (x : DomainState). LanesAddFront kind start (moment x new)) (sym same)
-      (subst (λ (l : List Entry). LanesAddFront kind start (moment m l)) (sym none)
-      (first_adds_front k start (moment w old) (moment m mid) quiet calm up client))
+      λ start first up. subst (λ (x : DomainState). LanesAddFront kind (moment start first) (moment x new)) (sym same)
+      (subst (λ (l : List Entry). LanesAddFront kind (moment start first) (moment m l)) (sym none)
+      (first_adds_front k (moment start first) (moment w old) (moment m mid) quiet calm up client))
 
   -- THE TICKS
   pub ticks_add_none : (w : DomainState) (had : List Bool) (old : List Entry) → LaneTicksAdd kind 0 (tick_marks had false had) (moment w old) (moment w old)
@@ -149,9 +149,9 @@ module _ (kind : LaneKind) where
       → slice_get have k ≡ Some mark → Grew (OneTicked kind k mark get w v) old new → k < length have
       → marks ≡ slice_set have k (mark || get) → TicksGoOn (lane_at kind k) get have (moment w old) marks (moment v new)
   ticks_go_by k w v old new have marks mark get at ticked less is =
-      λ start had some up. subst (λ (l : List Bool). LaneTicksAdd kind (k + 1) (tick_marks had (some || get) l) start (moment v new))
+      λ start had some first up. subst (λ (l : List Bool). LaneTicksAdd kind (k + 1) (tick_marks had (some || get) l) (moment start first) (moment v new))
       (sym is)
-      (ticks_add k start (moment w old) (moment v new) had have some mark get up at ticked less)
+      (ticks_add k (moment start first) (moment w old) (moment v new) had have some mark get up at ticked less)
 
   -- THE NAMES
   pub names_add_none : (w : DomainState) (quiet : List Bool) (old : List Entry) → LaneNamesAdd kind 0 w quiet old old

@@ -171,25 +171,25 @@ want_in_ticks_adds start w m v count had quiet marks gone few up calm begun =
 
 -- A TURN, whatever rounds came before it
 pub turn_wants_in_round : (w v : Moment DomainState) (had quiet : Marks) → RoundAddsFront w v → PassBreaks (pass_moment w had quiet) v
-turn_wants_in_round w v had quiet begun = λ start count gone few. want_in_round_adds start w v count had quiet gone few begun
+turn_wants_in_round w v had quiet begun = λ start count first gone few. want_in_round_adds (moment start first) w v count had quiet gone few begun
 
 pub turn_is_loud : (w v : DomainState) (old new : List Entry) (had quiet marks : Marks)
     → RoundAdds marks (moment w old) (moment v new) → all_quiet w marks ≡ false
     → PassGoesOn false (pass_moment (moment w old) had quiet) (pass_moment (moment v new) had marks)
 turn_is_loud w v old new had quiet marks up loud =
-    λ start count gone few. loud_round_adds start (moment w old) (moment v new) count had quiet marks gone up loud
+    λ start count first gone few. loud_round_adds (moment start first) (moment w old) (moment v new) count had quiet marks gone up loud
 
 pub turn_wants_in_ticks : (w m v : Moment DomainState) (had quiet marks : Marks) → RoundAdds marks w m → all_quiet w.world marks ≡ true
     → TicksAddFront had m v → PassBreaks (pass_moment w had quiet) v
 turn_wants_in_ticks w m v had quiet marks up calm begun =
-    λ start count gone few. want_in_ticks_adds start w m v count had quiet marks gone few up calm begun
+    λ start count first gone few. want_in_ticks_adds (moment start first) w m v count had quiet marks gone few up calm begun
 
 pub turn_ticks : (w m v : DomainState) (old mid new : List Entry) (had have quiet marks : Marks)
     → RoundAdds marks (moment w old) (moment m mid) → all_quiet w marks ≡ true → TicksAdd (tick_marks had true have) (moment m mid) (moment v new)
     → PassGoesOn false (pass_moment (moment w old) had quiet) (pass_moment (moment v new) have marks)
 turn_ticks w m v old mid new had have quiet marks up calm ticks =
-    λ start count gone few.
-    ticked_round_adds start (moment w old) (moment m mid) (moment v new) count had have quiet marks true gone up calm ticks refl
+    λ start count first gone few.
+    ticked_round_adds (moment start first) (moment w old) (moment m mid) (moment v new) count had have quiet marks true gone up calm ticks refl
 
 pub turn_wants_answer : (w m v : Moment DomainState) (new : List Entry) (had have quiet marks : Marks) (some : Bool)
     → RoundAdds marks w m → all_quiet w.world marks ≡ true → TicksAdd (tick_marks had some have) m v → new ≡ v.journal
@@ -204,12 +204,12 @@ pub turn_settles : (w m v : Moment DomainState) (new : List Entry) (had have qui
     → RoundAdds marks w m → all_quiet w.world marks ≡ true → TicksAdd (tick_marks had some have) m v → some ≡ false
     → new ≡ v.journal ++ entry.Settled ∷ [] → PassGoesOn true (pass_moment w had quiet) (pass_moment (moment v.world new) have marks)
 turn_settles w m v new had have quiet marks some up calm ticks none is =
-    λ start count gone few. settled_adds start w m v count new had have quiet marks some gone few up calm ticks none is
+    λ start count first gone few. settled_adds (moment start first) w m v count new had have quiet marks some gone few up calm ticks none is
 
 -- a turn that ends the settle
 pub ended_fits : (ended : Bool) (start : Moment DomainState) (w v : PassMoment) (count : ℕ) → ended ≡ true → PassGoesOn ended w v
     → RoundsAdd count start w → count < most_rounds start.world → Fits start.world script.Settles start.journal v.now.journal v.now.world
-ended_fits true start w v count ends turned gone few = turned start count gone few
+ended_fits true start w v count ends turned gone few = turned start.world count start.journal gone few
 ended_fits false start w v count ends turned gone few = absurd (cc ends)
 
 -- HOW A SETTLE BEGINS, and where memory is wanted among the names

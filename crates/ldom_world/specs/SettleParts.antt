@@ -16,7 +16,7 @@ use Rattle.domain_script.specs.declared.event.Lane.{Lane}
 use Rattle.domain_script.specs.declared.fields.LaneKind.{LaneKind}
 use Rattle.ldom_entries.specs.declared.entry.Entry.{Entry}
 use Rattle.ldom_world.specs.declared.settling.LaneMarks.{LaneMarks}
-use Rattle.recorded_lanes.specs.Steps.{MakesQuietStep, Moment}
+use Rattle.recorded_lanes.specs.Steps.{MakesQuietStep, Moment, moment}
 use Rattle.recorded_lanes.specs.world_parts.WorldKinds.{OfKind, in_world}
 use Rattle.recorded_lanes.specs.world_parts.Parts.{Adds, Fits, FitsSoFar}
 
@@ -116,19 +116,20 @@ RoundsAdd count start v =
 -- A ROUND GOES ON by the two steps of this lane, whatever came before; or memory was wanted in them
 abbrev pub RoundGoesOn : Lane → List Bool → Moment DomainState → List Bool → Moment DomainState → Type 0
 RoundGoesOn lane quiet w marks v =
-    (start : Moment DomainState) → LanesAdd lane.kind lane.number quiet start w
-    → LanesAdd lane.kind (lane.number + 1) marks start v
+    (start : DomainState) (first : List Entry) → LanesAdd lane.kind lane.number quiet (moment start first) w
+    → LanesAdd lane.kind (lane.number + 1) marks (moment start first) v
 
 abbrev pub RoundBreaks : Lane → List Bool → Moment DomainState → Moment DomainState → Type 0
 RoundBreaks lane quiet w v =
-    (start : Moment DomainState) → LanesAdd lane.kind lane.number quiet start w → LanesAddFront lane.kind start v
+    (start : DomainState) (first : List Entry) → LanesAdd lane.kind lane.number quiet (moment start first) w
+    → LanesAddFront lane.kind (moment start first) v
 
 -- THE TICKS GO ON by this lane, which got one or none
 abbrev pub TicksGoOn : Lane → Bool → List Bool → Moment DomainState → List Bool → Moment DomainState → Type 0
 TicksGoOn lane ticked have w marks v =
-    (start : Moment DomainState) (had : List Bool) (some : Bool)
-    → LaneTicksAdd lane.kind lane.number (tick_marks had some have) start w
-    → LaneTicksAdd lane.kind (lane.number + 1) (tick_marks had (some || ticked) marks) start v
+    (start : DomainState) (had : List Bool) (some : Bool) (first : List Entry)
+    → LaneTicksAdd lane.kind lane.number (tick_marks had some have) (moment start first) w
+    → LaneTicksAdd lane.kind (lane.number + 1) (tick_marks had (some || ticked) marks) (moment start first) v
 
 -- THE NAMES GO ON by this lane, which was quiet in the last round or not
 abbrev pub NamesGoOn : Lane → Bool → DomainState → List Entry → List Entry → Type 0
@@ -144,9 +145,10 @@ PassDone false count start v = RoundsAdd (count + 1) start v
 -- whatever rounds came before, fewer than the most; or memory was wanted in it
 abbrev pub PassGoesOn : Bool → PassMoment → PassMoment → Type 0
 PassGoesOn ended w v =
-    (start : Moment DomainState) (count : ℕ) → RoundsAdd count start w → count < most_rounds start.world → PassDone ended count start v
+    (start : DomainState) (count : ℕ) (first : List Entry) → RoundsAdd count (moment start first) w → count < most_rounds start
+    → PassDone ended count (moment start first) v
 
 abbrev pub PassBreaks : PassMoment → Moment DomainState → Type 0
 PassBreaks w v =
-    (start : Moment DomainState) (count : ℕ) → RoundsAdd count start w → count < most_rounds start.world
-    → FitsSoFar start.world script.Settles start.journal v.journal v.world
+    (start : DomainState) (count : ℕ) (first : List Entry) → RoundsAdd count (moment start first) w → count < most_rounds start
+    → FitsSoFar start script.Settles first v.journal v.world

@@ -1,5 +1,4 @@
 use Rattle.std.proofs.Common.{rules}
-use Rattle.recorded_lanes.specs.Steps.{moment}
 use Rattle.ldom_world.proofs.Lifted.{both_numbers}
 use Rattle.ldom_world.proofs.SettlingLanes.{all_set}
 use Rattle.ldom_world.proofs.world.World.round_of.Goals as goal
@@ -9,7 +8,7 @@ loop-number-preserved g c =
     let before = c.loop-number.invariant in
     let lane = c.in_ok-calm.ensures in
     record {
-      made = lane.made (moment c.args.self.now c.args.journal.now.entries) before.made;
+      made = lane.made c.args.self.now c.args.journal.now.entries before.made;
       calm = all_set c.loop-number.number c.loop-number.quiet _ c.loop-number.all c.in_ok-calm.calm
           (search rules) lane.marked before.calm;
       many = both_numbers before.many lane.many;

@@ -7,8 +7,8 @@ use Rattle.ldom_world.proofs.world.World.settle.Goals as goal
 pub returns-in_err-settle_pass-clause-so_far : goal.returns-in_err-settle_pass-clause-so_far
 returns-in_err-settle_pass-clause-so_far g c =
     let few = count_below c.loop.counter c.most_rounds-end.result _ c.loop-test.true c.most_rounds-end.ensures.most in
-    on_err c.from_residual.result (c.in_err-settle_pass.ensures.breaks (moment c.args.self.now c.args.journal.now.entries)
-    c.loop.counter c.loop.invariant.gone few)
+    on_err c.from_residual.result (c.in_err-settle_pass.ensures.breaks c.args.self.now c.loop.counter
+    c.args.journal.now.entries c.loop.invariant.gone few)
 
 pub returns-then-branch-clause-fits : goal.returns-then-branch-clause-fits
 returns-then-branch-clause-fits g c =
