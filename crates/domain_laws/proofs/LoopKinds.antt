@@ -28,12 +28,12 @@ use Rattle.world_laws.proofs.Along.{lane_step}
 use Rattle.world_laws.proofs.DiskLaws.{disk_silent, gives_nothing}
 use Rattle.world_laws.proofs.LaneTicks.{gets_where, waits_where}
 use Rattle.world_laws.specs.DiskKind.{IsTurn, disk_kind, is_silent, tick, waits_on}
-use Rattle.world_laws.specs.Settle.{OfLane, OfPort, disk_entries}
+use Rattle.world_laws.specs.Settle.{OfLane, OfPort}
 use Rattle.world_laws.specs.Ticks.{gets_tick}
 use Rattle.world_laws.specs.World.{LaneMoves, OneMoves, WorldState}
-use Rattle.domain_laws.specs.Domain.{DomainState, DomainStep, port_entries}
+use Rattle.domain_laws.specs.Domain.{DomainState, DomainStep}
 use Rattle.domain_laws.specs.Lines.{AnswersCall, AnswersPortCall, Ticks}
-use Rattle.domain_laws.specs.RoundMade.{disks_in, ports_in, world_in}
+use Rattle.domain_laws.specs.RoundMade.{disks_in_world, ports_in_world}
 use Rattle.domain_laws.specs.TicksMade.{DiskTicked, PortTicked, port_gets_tick}
 
 abbrev domain_of : WorldState → List PortState → DomainState
@@ -66,7 +66,7 @@ disk_entry w k event v step = record {
   step = step_of w.first k event v.first step.of_first;
 }
 
-pub disk_runs : KindRuns disk_kind disk_entries disks_in ports_in DomainStep
+pub disk_runs : KindRuns disks_in_world
 disk_runs = record {
   entry = disk_entry;
   stays = λ w k event v step. step.of_second;
@@ -85,7 +85,7 @@ disk_begins one first = record { more = OnWire (Idle B) ∷ []; of_turn = (first
 port_entry : (w : DomainState) (k : ℕ) (event : SwitchEvent) (v : DomainState) → DomainStep w (OfPort k event) v → EntryOf ports k w.second event v.second
 port_entry w k event v step = step.of_second.entry
 
-pub port_runs : KindRuns ports port_entries ports_in world_in DomainStep
+pub port_runs : KindRuns ports_in_world
 port_runs = record {
   entry = port_entry;
   stays = λ w k event v step. step.of_first;
@@ -118,7 +118,7 @@ pub disk_gets : (k : ℕ) (had : Bool) (w : DomainState) (event : DiskEvent) (v 
 disk_gets k had w event v lane there gets answers step =
     let again : Some lane ≡ Some step.of_first.lane = sym there ∙ step.of_first.there in
     let same : lane ≡ step.of_first.lane = cc again in
-    lane_gets disk_kind disk_entries disks_in ports_in DomainStep disk_runs k had w event v lane there gets
+    lane_gets disks_in_world disk_runs k had w event v lane there gets
     (disk_is_tick w.first k event v.first step.of_first answers (ap (λ (x : LaneState). client.is_finished x.client) (sym same) ∙ unfinished lane had gets)) step
 
 -- and a port
@@ -143,6 +143,6 @@ not_true false is = refl
 pub port_gets : (k : ℕ) (had : Bool) (w : DomainState) (event : SwitchEvent) (v : DomainState) (lane : PortState) → slice_get w.second k ≡ Some lane → port_gets_tick lane had ≡ true
     → AnswersPortCall Ticks event → DomainStep w (OfPort k event) v → PortTicked k had true w (OfPort k event ∷ []) v
 port_gets k had w event v lane there gets answers step =
-    lane_gets ports port_entries ports_in world_in DomainStep port_runs k had w event v lane there gets
+    lane_gets ports_in_world port_runs k had w event v lane there gets
     (port_is_tick k w.second lane event v.second there step.of_second.entry answers
     (not_true (port_lane.is_finished lane.lane (length lane.queue)) (gets_where had (switch_ports.waits_on lane) gets).1)) step

@@ -17,6 +17,7 @@ use Rattle.lane_kinds.specs.LaneFronts.{RoundFront, TickFront}
 use Rattle.lane_kinds.specs.Lanes.{EachOf, all_calm}
 use Rattle.lane_kinds.specs.LanesMade as made
 use Rattle.lane_kinds.specs.LanesMade.{Marks, both_true, first_marks}
+use Rattle.lane_kinds.specs.Rounds.{tick_marks}
 use Rattle.lane_kinds.specs.RoundsMade as rounds_made
 use Rattle.lane_kinds.specs.RoundsMade.{GoneSaid}
 use Rattle.port_model.specs.PortState.{PortState}
@@ -29,7 +30,7 @@ use Rattle.domain_laws.specs.Going.{GoneOf, GoneOn, fresh_marks, most_rounds, no
 use Rattle.domain_laws.specs.Lines.{LineBegins, LineMoves, fronts}
 use Rattle.domain_laws.specs.Lines as script
 use Rattle.domain_laws.specs.NamesMade.{AllNamed, DisksNamed, NamesBegun, PortsNamed, all_names, names_of}
-use Rattle.domain_laws.specs.RoundMade.{DisksBegun, DisksUpTo, PortsBegun, PortsUpTo, RoundBegun, RoundMade, RoundOf, all_quiet, disks_in, ports_in, said, world_in}
+use Rattle.domain_laws.specs.RoundMade.{DisksBegun, DisksUpTo, PortsBegun, PortsUpTo, RoundBegun, RoundMade, RoundOf, all_quiet, disks_in_world, ports_in_world, said}
 use Rattle.domain_laws.specs.TicksMade.{DiskTicksBegun, DiskTicksUpTo, PortTicksBegun, PortTicksUpTo, TicksBegun, TicksMade, TicksOf}
 use Rattle.domain_laws.proofs.LoopKinds.{disk_runs, port_runs}
 
@@ -164,8 +165,8 @@ all_leave : (w : DomainState) (quiet : Marks) → EachOf (Leaves DomainStep) (al
 all_leave w quiet =
     let marks = first_marks (lanes_in w) quiet in
     of_both (Leaves DomainStep) (made.names disk_kind disk_entries 0 marks.first w.first.lanes) (made.names ports port_entries 0 marks.second w.second)
-    (names_leave disk_kind disk_entries disks_in ports_in DomainStep disk_runs 0 marks.first w.first.lanes)
-    (names_leave ports port_entries ports_in world_in DomainStep port_runs 0 marks.second w.second)
+    (names_leave disks_in_world disk_runs 0 marks.first w.first.lanes)
+    (names_leave ports_in_world port_runs 0 marks.second w.second)
 
 begun_run : (w : DomainState) (quiet : Marks) (entries : List SettleEntry) → NamesBegun w quiet entries → Run DomainStep w entries w
 begun_run w quiet entries begun =
@@ -200,10 +201,10 @@ as_ticked : (w : Lanes) (had : Marks) (some : Bool) (have : Marks) (part : List 
 as_ticked w had some have part v ticks = many_ticked disk_kind disk_entries ports port_entries w (first_marks w had) v ticks.ticks
 
 ticks_at : (w m : Lanes) → AsMany w m → (had : Marks) (some : Bool) (have : Marks) (later : List SettleEntry) (v : Lanes) → TicksOf had some have m later v
-    → rounds_made.TicksMade lanes (first_marks w had) some (first_marks w have) m later v
+    → rounds_made.TicksMade lanes (tick_marks (first_marks w had) some (first_marks w have)) m later v
 ticks_at w m many had some have later v ticks =
-    subst (λ (h : Marks). rounds_made.TicksMade lanes h some (first_marks w have) m later v) (same_marks w m many had)
-    (subst (λ (h : Marks). rounds_made.TicksMade lanes (first_marks m had) some h m later v) (same_marks w m many have) ticks)
+    subst (λ (h : Marks). rounds_made.TicksMade lanes (tick_marks h some (first_marks w have)) m later v) (same_marks w m many had)
+    (subst (λ (h : Marks). rounds_made.TicksMade lanes (tick_marks (first_marks m had) some h) m later v) (same_marks w m many have) ticks)
 
 -- ONE MORE at the end: not all lanes were quiet; or all were, and some got a tick
 pub one_round : (start w v : DomainState) (count : ℕ) (entries part : List SettleEntry) (had quiet marks : Marks) → GoneOn start count entries had quiet w → RoundMade w part marks v

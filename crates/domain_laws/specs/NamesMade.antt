@@ -9,7 +9,7 @@ use Rattle.switch_laws.specs.Ports.{ports}
 use Rattle.world_laws.specs.DiskKind.{disk_kind}
 use Rattle.world_laws.specs.Settle.{SettleEntry, disk_entries}
 use Rattle.domain_laws.specs.Domain.{DomainState, Lanes, lanes_in, port_entries}
-use Rattle.domain_laws.specs.RoundMade.{disks_in, ports_in}
+use Rattle.domain_laws.specs.RoundMade.{disks_in_world, ports_in_world}
 
 -- a disk is named where it wasn't quiet, or isn't finished though its server runs; a port where it wasn't quiet, or isn't finished
 abbrev pub disk_name : ℕ → Bool → LaneState → List SettleEntry
@@ -20,10 +20,10 @@ port_name k quiet lane = made.name_of ports port_entries k quiet lane
 
 -- of the first disks, so many, and of the first ports
 abbrev pub DisksNamed : ℕ → DomainState → List Bool → List SettleEntry → Type 0
-DisksNamed k w quiet entries = NamesUpTo disk_kind disk_entries disks_in k w quiet entries
+DisksNamed k w quiet entries = NamesUpTo disks_in_world k w quiet entries
 
 abbrev pub PortsNamed : ℕ → DomainState → List Bool → List SettleEntry → Type 0
-PortsNamed k w quiet entries = NamesUpTo ports port_entries ports_in k w quiet entries
+PortsNamed k w quiet entries = NamesUpTo ports_in_world k w quiet entries
 
 -- OF ALL; and of some, where memory was wanted among them
 abbrev pub names_of : Marks → Lanes → List SettleEntry

@@ -1,5 +1,6 @@
 -- What was made so far of a round over disks and ports: by the disks in order, and behind them by the ports. And a front of one.
 use Rattle.std.specs.Prelude.{ℕ, Bool, List, map}
+use Rattle.disk_model.specs.DiskEvent.{DiskEvent}
 use Rattle.disk_model.specs.LaneState.{LaneState}
 use Rattle.lane_kinds.specs.Both.{Two}
 use Rattle.lane_kinds.specs.LaneFronts.{RoundFront}
@@ -7,7 +8,7 @@ use Rattle.lane_kinds.specs.Lanes.{all_calm}
 use Rattle.lane_kinds.specs.LanesMade as made
 use Rattle.lane_kinds.specs.LanesMade.{Marks, both_true, first_marks}
 use Rattle.lane_kinds.specs.RoundsMade.{RoundSaid, both_said}
-use Rattle.lane_kinds.specs.WorldMade.{KindMade, LaneMade, PartMade}
+use Rattle.lane_kinds.specs.WorldMade.{InWorld, KindMade, LaneMade, PartMade}
 use Rattle.lane_laws.specs.CalmEnds.{IsStep}
 use Rattle.ldc_queue.specs.declared.end.End.{End}
 use Rattle.port_model.specs.PortState.{PortState}
@@ -21,31 +22,48 @@ use Rattle.domain_laws.specs.Domain.{DomainState, DomainStep, Lanes, lanes, lane
 use Rattle.domain_laws.specs.Lines.{fronts}
 
 -- EACH KIND in a world, and what is beside it
-abbrev pub disks_in : DomainState → List LaneState
-disks_in w = w.first.lanes
+abbrev pub disks_in_world : InWorld DomainState End SettleEntry
+disks_in_world = record {
+  Lane = LaneState;
+  Event = DiskEvent;
+  Beside = List PortState;
+  kind = disk_kind;
+  entries = disk_entries;
+  lanes = λ w. w.first.lanes;
+  beside = λ w. w.second;
+  Step = DomainStep;
+  IsStep = IsStep;
+}
 
-abbrev pub ports_in : DomainState → List PortState
-ports_in w = w.second
-
-abbrev pub world_in : DomainState → WorldState
-world_in w = w.first
+abbrev pub ports_in_world : InWorld DomainState End SettleEntry
+ports_in_world = record {
+  Lane = PortState;
+  Event = SwitchEvent;
+  Beside = WorldState;
+  kind = ports;
+  entries = port_entries;
+  lanes = λ w. w.second;
+  beside = λ w. w.first;
+  Step = DomainStep;
+  IsStep = IsStepOf;
+}
 
 -- A PART that the disks made, whereby the ports stayed; one that the ports made, whereby the disks and the image stayed; and one of both
 abbrev pub OfDisks : (List LaneState → List SettleEntry → List LaneState → Type 0) → DomainState → List SettleEntry → DomainState → Type 0
-OfDisks = KindMade disks_in ports_in DomainStep
+OfDisks = KindMade disks_in_world
 
 abbrev pub OfPorts : (List PortState → List SettleEntry → List PortState → Type 0) → DomainState → List SettleEntry → DomainState → Type 0
-OfPorts = KindMade ports_in world_in DomainStep
+OfPorts = KindMade ports_in_world
 
 abbrev pub OfBoth : (Lanes → List SettleEntry → Lanes → Type 0) → DomainState → List SettleEntry → DomainState → Type 0
 OfBoth = PartMade lanes_in DomainStep
 
 -- THIS END of this disk made its step, which was calm or not; and of this port
 abbrev pub DiskMade : ℕ → End → DomainState → List SettleEntry → Bool → DomainState → Type 0
-DiskMade k side w entries calm v = LaneMade disk_kind disk_entries DomainStep (IsStep side) k w entries calm v
+DiskMade k side w entries calm v = LaneMade disks_in_world side k w entries calm v
 
 abbrev pub PortMade : ℕ → End → DomainState → List SettleEntry → Bool → DomainState → Type 0
-PortMade k side w entries calm v = LaneMade ports port_entries DomainStep (IsStepOf side) k w entries calm v
+PortMade k side w entries calm v = LaneMade ports_in_world side k w entries calm v
 
 -- THE FIRST DISKS, so many, made their two steps, and the others none; the marks say which of them were quiet. And the first ports.
 abbrev pub DisksUpTo : ℕ → DomainState → List SettleEntry → List Bool → DomainState → Type 0

@@ -7,7 +7,7 @@ use Rattle.lane_kinds.proofs.RoundsMade.{MarksSay}
 use Rattle.lane_kinds.specs.Both.{BothMake, BothTick, Two, both}
 use Rattle.lane_kinds.specs.Lanes.{Entries, LaneKind, all_calm, lanes_of, unmarked}
 use Rattle.lane_kinds.specs.LanesMade.{Marks, all_true, both_true, first_marks, names}
-use Rattle.lane_kinds.specs.Rounds.{Rounds}
+use Rattle.lane_kinds.specs.Rounds.{Rounds, tick_marks}
 use Rattle.lane_kinds.specs.RoundsMade.{RoundSaid, TicksMade, both_said}
 
 abbrev two_of : {A B : Type 0} → A → B → Two A B
@@ -23,8 +23,8 @@ module _ {W V M N R Q E P O : Type 0} (K : Rounds W M R E) (L : Rounds V N Q E) 
     marks = ap₂ (two_of {A = P} {B = O}) first.marks second.marks;
   }
 
-  pub both_ticks : (had have : Two M N) (some any : Bool) (w v : Two W V) (part later : List E) → TicksMade K had.first some have.first w.first part v.first
-      → TicksMade L had.second any have.second w.second later v.second → TicksMade (both K L) had (some || any) have w (part ++ later) v
+  pub both_ticks : (had have : Two M N) (some any : Bool) (w v : Two W V) (part later : List E) → TicksMade K (tick_marks had.first some have.first) w.first part v.first
+      → TicksMade L (tick_marks had.second any have.second) w.second later v.second → TicksMade (both K L) (tick_marks had (some || any) have) w (part ++ later) v
   both_ticks had have some any w v part later first second = grind arith
 
   -- WHAT THE MARKS OF BOTH SAY

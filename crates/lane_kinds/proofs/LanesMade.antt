@@ -10,6 +10,7 @@ use Rattle.lane_kinds.specs.LaneFronts.{BeginsTurn, RoundFront, TickFront}
 use Rattle.lane_kinds.specs.Lanes.{Entries, LaneKind, MakeRound, MakeTurns, MakesTurn, StepOf, TickAll, TicksIf, all_calm, are_still, gets_tick, lanes_of, left_names, marked, round_entries, some_tick, tick_entries, turn_entries, unmarked}
 use Rattle.lane_kinds.specs.LanesMade.{RoundUpTo, TicksUpTo, all_true, name_of, names}
 use Rattle.lane_kinds.specs.RoundsMade.{RoundSaid, TicksMade}
+use Rattle.lane_kinds.specs.Rounds.{tick_marks}
 
 or_false : (b : Bool) → (b || false) ≡ b
 or_false true = refl
@@ -113,7 +114,7 @@ module _ {S V E : Type 0} (K : LaneKind S V) (N : Entries V E) where
   turn_wants k quiet start entries w begun one v up run there begins is = grind (arith, same_within, turns_many)
 
   -- THE TICKS begin, and go on by the next lane's
-  pub ticks_begin : (lanes : List S) (had : List Bool) → TicksUpTo K N 0 had false had lanes [] lanes
+  pub ticks_begin : (lanes : List S) (had : List Bool) → TicksUpTo K N 0 (tick_marks had false had) lanes [] lanes
   ticks_begin lanes had = record { ticks = tt; others = refl; leaves = refl; any = refl; marks = refl; same_marks = refl }
 
   ticks_both : (lanes : List S) (marks : List Bool) (behind : List S) (s : S) (had : Bool) (t : S) → TickAll K lanes marks behind → TicksIf K (gets_tick K s had) s t
@@ -142,17 +143,17 @@ module _ {S V E : Type 0} (K : LaneKind S V) (N : Entries V E) where
   marked_both (x ∷ lanes) (mark ∷ marks) (y ∷ behind) s had ticks = ap (λ (l : List Bool). (mark || gets_tick K x mark) ∷ l) (marked_both lanes marks behind s had ticks.1)
   marked_both _ _ _ s had ticks = absurd ticks
 
-  lane_more : (k : ℕ) (had have : List Bool) (some mark get : Bool) (start : List S) (entries one : List E) (w v : List S) (s t : S) → TicksUpTo K N k had some have start entries w
+  lane_more : (k : ℕ) (had have : List Bool) (some mark get : Bool) (start : List S) (entries one : List E) (w v : List S) (s t : S) → TicksUpTo K N k (tick_marks had some have) start entries w
       → slice_get had k ≡ Some mark → slice_get w k ≡ Some s → v ≡ slice_set w k t → TicksIf K (gets_tick K s mark) s t → get ≡ gets_tick K s mark → one ≡ tick_entry k (gets_tick K s mark) s
-      → k < length have → TicksUpTo K N (k + 1) had (some || get) (slice_set have k (mark || get)) start (entries ++ one) v
+      → k < length have → TicksUpTo K N (k + 1) (tick_marks had (some || get) (slice_set have k (mark || get))) start (entries ++ one) v
   lane_more k had have some mark get start entries one w v s t up before there is ticks gets leaves less =
       let at : SetAt k start w v s t = set_at k start w v s t up.others there is in
       let marks : take (k + 1) had ≡ take k had ++ mark ∷ [] = ap (λ (n : ℕ). take n had) (after_one k) ∙ take_one had k mark before in
       grind (arith, ticks_both, ticks_leave_both, place_is, some_both, slice_set, after_one, take_set_one, marked_both, drop_set, same_next)
 
-  pub ticks_go_on : (k : ℕ) (had have : List Bool) (some mark get : Bool) (start : List S) (entries one : List E) (w v : List S) (s t : S) → TicksUpTo K N k had some have start entries w
+  pub ticks_go_on : (k : ℕ) (had have : List Bool) (some mark get : Bool) (start : List S) (entries one : List E) (w v : List S) (s t : S) → TicksUpTo K N k (tick_marks had some have) start entries w
       → slice_get have k ≡ Some mark → slice_get w k ≡ Some s → v ≡ slice_set w k t → TicksIf K (gets_tick K s mark) s t → get ≡ gets_tick K s mark → one ≡ tick_entry k (gets_tick K s mark) s
-      → k < length have → TicksUpTo K N (k + 1) had (some || get) (slice_set have k (mark || get)) start (entries ++ one) v
+      → k < length have → TicksUpTo K N (k + 1) (tick_marks had (some || get) (slice_set have k (mark || get))) start (entries ++ one) v
   ticks_go_on k had have some mark get start entries one w v s t up now there is ticks gets leaves less =
       lane_more k had have some mark get start entries one w v s t up (sym (same_first had have k up.same_marks) ∙ now) there is ticks gets leaves less
 
@@ -162,8 +163,8 @@ module _ {S V E : Type 0} (K : LaneKind S V) (N : Entries V E) where
   ticked_many (s ∷ lanes) (mark ∷ marks) (t ∷ behind) ticks = ap suc (ticked_many lanes marks behind ticks.1)
   ticked_many _ _ _ ticks = absurd ticks
 
-  pub ticks_made : (had : List Bool) (some : Bool) (have : List Bool) (start : List S) (entries : List E) (now : List S) → TicksUpTo K N (length start) had some have start entries now
-      → TicksMade (lanes_of K N) (take (length start) had) some (take (length start) have) start entries now
+  pub ticks_made : (had : List Bool) (some : Bool) (have : List Bool) (start : List S) (entries : List E) (now : List S) → TicksUpTo K N (length start) (tick_marks had some have) start entries now
+      → TicksMade (lanes_of K N) (tick_marks (take (length start) had) some (take (length start) have)) start entries now
   ticks_made had some have start entries now up = grind (arith, take_whole, take_most, drop_whole)
 
   none_left : (j : ℕ) (get : Bool) (s : S) → get ≡ false → tick_entry j get s ≡ []
@@ -193,7 +194,7 @@ module _ {S V E : Type 0} (K : LaneKind S V) (N : Entries V E) where
   front_more j (s ∷ lanes) (had ∷ marks) (t ∷ behind) rest more ticks = grind (arith, front_more (j + 1) lanes marks behind rest more ticks.1)
   front_more j lanes marks behind rest more ticks = grind (arith, none_more)
 
-  pub ticks_want : (k : ℕ) (had : List Bool) (some : Bool) (have : List Bool) (start : List S) (entries : List E) (now : List S) → TicksUpTo K N k had some have start entries now → k ≤ length start
+  pub ticks_want : (k : ℕ) (had : List Bool) (some : Bool) (have : List Bool) (start : List S) (entries : List E) (now : List S) → TicksUpTo K N k (tick_marks had some have) start entries now → k ≤ length start
       → TickFront K N 0 start (take (length start) had) entries now
   ticks_want k had some have start entries now up within =
       let n = length start in

@@ -4,7 +4,7 @@ use Rattle.std.proofs.Common.{◌≡◌, ℕ, ◌+◌, ◌<◌, Bool, true, fals
 use Rattle.runs.specs.Run.{Run, run_push}
 use Rattle.lane_kinds.proofs.Places.{HasLast, has_last, never_empty, same_last}
 use Rattle.lane_kinds.specs.Fronts.{Fronts, SettleFront}
-use Rattle.lane_kinds.specs.Rounds.{Rounds}
+use Rattle.lane_kinds.specs.Rounds.{Rounds, tick_marks}
 use Rattle.lane_kinds.specs.RoundsMade.{GoneOn, GoneSaid, RoundMade, RoundSaid, TicksMade}
 use Rattle.lane_kinds.specs.Settles.{GoesOn, SettlePart, SettleRound, Settling, TicksBehind, begin, entries_of_rounds, most_rounds}
 
@@ -145,15 +145,15 @@ module _ {W M R E Q : Type 0} (K : Rounds W M R E) (said : R → Q) (all : Q →
         one_round K count had Last start entries w gone (λ steps. marks ≡ said steps) round.steps part v round.round (quiet_so marks w part v round false loud) round.marks
 
     pub ticked_round : (marks : Q) (part : List E) (m : W) (some : Bool) (have : M) (later : List E) (v : W) → RoundSaid K said marks w part m → all marks ≡ true
-        → TicksMade K had some have m later v → some ≡ true → GoneSaid K said (count + 1) have marks start (entries ++ (part ++ later)) v
+        → TicksMade K (tick_marks had some have) m later v → some ≡ true → GoneSaid K said (count + 1) have marks start (entries ++ (part ++ later)) v
     ticked_round marks part m some have later v round calm ticks any = grind (arith, one_round_ticked, quiet_so)
 
     -- THE LAST ROUND: all were, and none got a tick
-    pub none_left : (some : Bool) (have : M) (m : W) (later : List E) (v : W) → TicksMade K had some have m later v → some ≡ false → later ≡ []
+    pub none_left : (some : Bool) (have : M) (m : W) (later : List E) (v : W) → TicksMade K (tick_marks had some have) m later v → some ≡ false → later ≡ []
     none_left some have m later v ticks any = ticks.leaves ∙ says.no_ticks m had (sym ticks.any ∙ any)
 
     pub settled_round : (marks : Q) (part : List E) (m : W) (some : Bool) (have : M) (later : List E) (v : W) → count < most_rounds K start → RoundSaid K said marks w part m → all marks ≡ true
-        → TicksMade K had some have m later v → some ≡ false → m ≡ v → SettlePart K start (entries ++ (part ++ (later ++ K.settled ∷ []))) v
+        → TicksMade K (tick_marks had some have) m later v → some ≡ false → m ≡ v → SettlePart K start (entries ++ (part ++ (later ++ K.settled ∷ []))) v
     settled_round marks part m some have later v few round calm ticks any stays =
         subst (SettlePart K start (entries ++ (part ++ (later ++ K.settled ∷ [])))) stays
         (subst (λ (l : List E). SettlePart K start (entries ++ (part ++ (l ++ K.settled ∷ []))) m) (sym (none_left some have m later v ticks any))

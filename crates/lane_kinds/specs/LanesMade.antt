@@ -3,6 +3,7 @@
 use Rattle.std.specs.Prelude.{◌≡◌, ℕ, ◌+◌, ◌≤◌, Bool, true, false, ◌&&◌, if◌then◌else◌, List, [], ◌∷◌, ◌++◌, length, map, take, drop}
 use Rattle.lane_kinds.specs.Both.{Two}
 use Rattle.lane_kinds.specs.Lanes.{Entries, LaneKind, MakeTurns, TickAll, all_calm, marked, round_entries, some_tick, tick_entries}
+use Rattle.lane_kinds.specs.Rounds.{TickMarks}
 
 -- whether all of these lanes were quiet
 abbrev pub all_true : List Bool → Bool
@@ -18,15 +19,14 @@ pub record RoundUpTo {S V E : Type 0} (K : LaneKind S V) (N : Entries V E) (k : 
   pub leaves : entries ≡ round_entries K N 0 steps
   pub marks : take k quiet ≡ map (all_calm K) steps
 
--- THE FIRST LANES, so many, had their ticks, where these marks say which lanes had one before; `some` says whether any
--- got one
-pub record TicksUpTo {S V E : Type 0} (K : LaneKind S V) (N : Entries V E) (k : ℕ) (had : List Bool) (some : Bool) (have : List Bool) (start : List S) (entries : List E) (now : List S) : Type 0 where
-  pub ticks : TickAll K (take k start) (take k had) (take k now)
+-- THE FIRST LANES, so many, had their ticks, by these marks
+pub record TicksUpTo {S V E : Type 0} (K : LaneKind S V) (N : Entries V E) (k : ℕ) (m : TickMarks (List Bool)) (start : List S) (entries : List E) (now : List S) : Type 0 where
+  pub ticks : TickAll K (take k start) (take k m.had) (take k now)
   pub others : drop k now ≡ drop k start
-  pub leaves : entries ≡ tick_entries K N 0 (take k start) (take k had)
-  pub any : some ≡ some_tick K (take k start) (take k had)
-  pub marks : take k have ≡ marked K (take k start) (take k had)
-  pub same_marks : drop k have ≡ drop k had
+  pub leaves : entries ≡ tick_entries K N 0 (take k start) (take k m.had)
+  pub any : m.some ≡ some_tick K (take k start) (take k m.had)
+  pub marks : take k m.have ≡ marked K (take k start) (take k m.had)
+  pub same_marks : drop k m.have ≡ drop k m.had
 
 -- NAMES, by the marks of the last round: a lane is named where it wasn't quiet, or isn't finished though its server runs
 abbrev pub name_of : {S V E : Type 0} → LaneKind S V → Entries V E → ℕ → Bool → S → List E

@@ -20,3 +20,12 @@ pub record Rounds (W M R E : Type 0) : Type 1 where
   pub settled : E
   -- how much is asked of the lanes
   pub pending : W → ℕ
+
+-- THE MARKS OF TICKS: which lanes had one before them, whether any got one, and which had one behind them
+pub record TickMarks (M : Type 0) : Type 0 where
+  pub had : M
+  pub some : Bool
+  pub have : M
+
+abbrev pub tick_marks : {M : Type 0} → M → Bool → M → TickMarks M
+tick_marks had some have = record { had = had; some = some; have = have }

@@ -1,9 +1,9 @@
 -- The rounds of a settle that were made and go on, so many, with what they left in the journal, over lanes of any kinds;
 -- and what is known of the last of them.
-use Rattle.std.specs.Prelude.{◌≡◌, ℕ, Bool, List, [], ◌∷◌, ◌++◌, length}
+use Rattle.std.specs.Prelude.{◌≡◌, ℕ, List, [], ◌∷◌, ◌++◌, length}
 use Rattle.runs.specs.Run.{Run}
 use Rattle.lane_kinds.specs.Both.{Two}
-use Rattle.lane_kinds.specs.Rounds.{Rounds}
+use Rattle.lane_kinds.specs.Rounds.{Rounds, TickMarks}
 use Rattle.lane_kinds.specs.Settles.{GoesOn, SettleRound, begin, entries_of_rounds}
 
 pub record GoneOn {W M R E : Type 0} (K : Rounds W M R E) (count : ℕ) (marks : M) (Last : R → Type 0) (start : W) (entries : List E) (now : W) : Type 0 where
@@ -24,13 +24,12 @@ pub record RoundSaid {W M R E Q : Type 0} (K : Rounds W M R E) (said : R → Q) 
   pub round : RoundMade K steps w part v
   pub marks : quiet ≡ said steps
 
--- the ticks behind a round, where the one marks say which lanes had one before it, and the others which had one behind
--- them; `some` says whether any got one
-pub record TicksMade {W M R E : Type 0} (K : Rounds W M R E) (had : M) (some : Bool) (have : M) (w : W) (part : List E) (v : W) : Type 0 where
-  pub ticks : K.Ticks w had v
-  pub leaves : part ≡ K.ticks_leave w had
-  pub any : some ≡ K.some_ticks w had
-  pub marks : have ≡ K.marked w had
+-- the ticks behind a round, by these marks
+pub record TicksMade {W M R E : Type 0} (K : Rounds W M R E) (m : TickMarks M) (w : W) (part : List E) (v : W) : Type 0 where
+  pub ticks : K.Ticks w m.had v
+  pub leaves : part ≡ K.ticks_leave w m.had
+  pub any : m.some ≡ K.some_ticks w m.had
+  pub marks : m.have ≡ K.marked w m.had
 
 -- and of the last of the rounds that go on
 abbrev pub GoneSaid : {W M R E Q : Type 0} → Rounds W M R E → (R → Q) → ℕ → M → Q → W → List E → W → Type 0

@@ -11,9 +11,8 @@ use Rattle.recorded_lanes.specs.world_parts.port_model.NetEvent.{CalmTick as Cal
 use Rattle.recorded_lanes.specs.world_parts.port_model.PortState.{PortState}
 use Rattle.recorded_lanes.specs.world_parts.world_laws.DiskKind.{tick}
 use Rattle.recorded_lanes.specs.world_parts.world_laws.Settle.{OfLane, OfPort, SettleEntry}
-use Rattle.recorded_lanes.specs.world_parts.Lines.{of_kind}
 use Rattle.recorded_lanes.specs.world_parts.WorldEvents.{calm_event, if_so, is_lane, left_over, of_net, told_of}
-use Rattle.recorded_lanes.specs.world_parts.WorldKinds.{in_world}
+use Rattle.recorded_lanes.specs.world_parts.WorldKinds.{in_world, of_kind}
 use Rattle.domain_script.specs.LaneKinds.{disk_of, lane_at, port_of}
 use Rattle.domain_script.specs.declared.fields.LaneKind.{LaneKind}
 use Rattle.domain_script.specs.declared.fields.LaneKind.TheVariants as kinds
@@ -28,7 +27,7 @@ use Rattle.ldom_world.specs.SettleParts.{OneTicked}
 -- OF A KIND: an entry of it runs its lanes, and two steps are a turn; an answer that nothing changed says no tick of a
 -- settle, and a call for a tick that gives one is that; and what the name of a lane says that is left over
 pub record KindLaws (kind : LaneKind) : Type 0 where
-  pub runs : KindRuns (in_world kind).kind (in_world kind).entries (in_world kind).lanes (in_world kind).beside DomainStep
+  pub runs : KindRuns (in_world kind)
   pub turn : (one two : (in_world kind).Event) → (in_world kind).IsStep A one → (in_world kind).IsStep B two
       → (in_world kind).kind.IsTurn (one ∷ two ∷ [])
   pub begins : (one : (in_world kind).Event) → (in_world kind).IsStep A one → BeginsTurn (in_world kind).kind (one ∷ [])

@@ -14,7 +14,11 @@ use Rattle.recorded_lanes.specs.ldom_report.Report.{accepted_count}
 use Rattle.recorded_lanes.proofs.switched_ports.Entries.{below_later}
 use Rattle.recorded_lanes.specs.switched_ports.Given.{GivenBelow}
 use Rattle.recorded_lanes.proofs.Adding.{none_adds}
-use Rattle.recorded_lanes.specs.Steps.{AnswerMade, Counted, OneMade, QuietMade}
+use Rattle.recorded_lanes.specs.Steps.{Counted, MakesAnswer, MakesQuietStep, MakesStep, moment}
+use Rattle.recorded_lanes.specs.world_parts.WorldKinds.{entry_at, in_world}
+use Rattle.domain_script.specs.declared.fields.LaneKind.{LaneKind}
+use Rattle.domain_script.specs.LaneKinds.{lane_at}
+use Rattle.ldc_queue.specs.declared.end.End.{End}
 use Rattle.ldom_world.specs.TurnsMade.{SameNumbers}
 use Rattle.recorded_lanes.specs.world_parts.Parts.{Adds, Fits, FitsSoFar}
 
@@ -31,31 +35,33 @@ pub same_grows : (old new : List Entry) → new ≡ old → length old + 1 ≤ l
 same_grows old new same = omega (arith, ap (λ (l : List Entry). length l) same)
 
 -- one kind made an event, by which the world goes from one state to another
-module _ {W V : Type 0} (KindStep : W → SettleEntry → W → Type 0) (of_lane : ℕ → V → SettleEntry) (state : W → DomainState)
-    (lift : (d : W) (k : ℕ) (event : V) (e : W) → KindStep d (of_lane k event) e
-    → DomainStep (state d) (of_lane k event) (state e))
+module _ {W : Type 0} (kind : LaneKind) (KindStep : W → SettleEntry → W → Type 0) (state : W → DomainState)
+    (lift : (d : W) (k : ℕ) (event : (in_world kind).Event) (e : W) → KindStep d (entry_at (lane_at kind k) event) e
+    → DomainStep (state d) (entry_at (lane_at kind k) event) (state e))
     (d : W) (w : DomainState) (is : state d ≡ w) where
-  moves_at : (k : ℕ) (event : V) (e : W) → KindStep d (of_lane k event) e → DomainStep w (of_lane k event) (state e)
+  moves_at : (k : ℕ) (event : (in_world kind).Event) (e : W) → KindStep d (entry_at (lane_at kind k) event) e
+      → DomainStep w (entry_at (lane_at kind k) event) (state e)
   moves_at k event e moves =
-      subst (λ (x : DomainState). DomainStep x (of_lane k event) (state e)) is (lift d k event e moves)
+      subst (λ (x : DomainState). DomainStep x (entry_at (lane_at kind k) event) (state e)) is (lift d k event e moves)
 
   pub same_at : (e : W) (old new : List Entry) → (e ≡ d) × (new ≡ old) → (state e ≡ w) × (new ≡ old)
   same_at e old new same = (ap state same.0 ∙ is, same.1)
 
   -- A STEP
-  pub step_at : (OfEnd : V → Type 0) (k : ℕ) (e : W) (old new : List Entry) → OneMade KindStep of_lane OfEnd k d old new e
-      → OneMade DomainStep of_lane OfEnd k w old new (state e)
-  step_at OfEnd k e old new made = record {
+  pub step_at : (side : End) (k : ℕ) (e : W) (old new : List Entry)
+      → MakesStep KindStep (lane_at kind k) side (moment d old) (moment e new)
+      → MakesStep DomainStep (lane_at kind k) side (moment w old) (moment (state e) new)
+  step_at side k e old new made = record {
     event = made.event;
     of_end = made.of_end;
     moves = moves_at k made.event e made.moves;
     adds = made.adds;
   }
 
-  pub quiet_step_at : (leaves : ℕ → V → List SettleEntry) (calm_at : V → Bool) (OfEnd : V → Type 0) (k : ℕ) (e : W)
-      (old new : List Entry) (calm : Bool) → QuietMade KindStep of_lane leaves calm_at OfEnd k d old new calm e
-      → QuietMade DomainStep of_lane leaves calm_at OfEnd k w old new calm (state e)
-  quiet_step_at leaves calm_at OfEnd k e old new calm made = record {
+  pub quiet_step_at : (side : End) (k : ℕ) (e : W) (old new : List Entry) (calm : Bool)
+      → MakesQuietStep KindStep (lane_at kind k) side (moment d old) calm (moment e new)
+      → MakesQuietStep DomainStep (lane_at kind k) side (moment w old) calm (moment (state e) new)
+  quiet_step_at side k e old new calm made = record {
     event = made.event;
     of_end = made.of_end;
     moves = moves_at k made.event e made.moves;
@@ -64,12 +70,12 @@ module _ {W V : Type 0} (KindStep : W → SettleEntry → W → Type 0) (of_lane
   }
 
   -- WHAT A LINE ASKED of one lane: it fits, or nothing was done
-  module _ (line : Line) (k : ℕ) (Answers : V → Type 0) (e : W) (old new : List Entry) where
-    pub answer_fits : ((event : V) → Answers event
-        → PartOf line (lanes_in w) (of_lane k event ∷ []) (lanes_in (state e)))
-        → AnswerMade KindStep of_lane line k Answers d old new e → Fits w line old new (state e)
+  module _ (line : Line) (k : ℕ) (Answers : (in_world kind).Event → Type 0) (e : W) (old new : List Entry) where
+    pub answer_fits : ((event : (in_world kind).Event) → Answers event
+        → PartOf line (lanes_in w) (entry_at (lane_at kind k) event ∷ []) (lanes_in (state e)))
+        → MakesAnswer KindStep (lane_at kind k) line Answers (moment d old) (moment e new) → Fits w line old new (state e)
     answer_fits as_part made = record {
-      entries = of_lane k made.event ∷ [];
+      entries = entry_at (lane_at kind k) made.event ∷ [];
       adds = made.adds;
       moves = record {
         part_of = as_part made.event made.answers;

@@ -24,15 +24,15 @@ use Rattle.ldom_world.proofs.KindAdding.{laws, names_go_by, ticks_go_by}
 use Rattle.ldom_world.proofs.Lifted.{both}
 use Rattle.recorded_lanes.proofs.Lifting.{count_push}
 use Rattle.ldom_world.specs.SettleParts.{Grew, NamesGoOn, OneTicked, TicksGoOn}
-use Rattle.recorded_lanes.specs.Steps.{Counted}
-use Rattle.recorded_lanes.specs.world_parts.WorldKinds.{in_world}
+use Rattle.recorded_lanes.specs.Steps.{Counted, moment}
+use Rattle.recorded_lanes.specs.world_parts.WorldKinds.{in_world, of_kind}
 use Rattle.recorded_lanes.specs.world_parts.switch_laws.Ports.{waits_on as port_waits_on}
 use Rattle.recorded_lanes.proofs.switched_ports.Entries.{below_later}
 use Rattle.recorded_lanes.specs.switched_ports.States.{PortAt}
 use Rattle.recorded_lanes.specs.world_parts.world_laws.DiskKind.{waits_on}
 use Rattle.recorded_lanes.specs.world_parts.world_laws.Settle.{SettleEntry}
 use Rattle.recorded_lanes.specs.world_parts.world_laws.World.{WorldState}
-use Rattle.recorded_lanes.specs.world_parts.Lines.{IsLaneOf, of_kind}
+use Rattle.recorded_lanes.specs.world_parts.Lines.{IsLaneOf}
 use Rattle.recorded_lanes.specs.world_parts.Parts.{Adds, Fits, FitsSoFar, PartSays}
 use Rattle.recorded_lanes.specs.world_parts.WorldEvents.{meant, told_of, world_event}
 
@@ -188,14 +188,14 @@ or_false false = refl
 pub ticked_goes_on : (kind : LaneKind) (k : ℕ) (w v : DomainState) (old new : List Entry) (have marks : List Bool) (s : (in_world kind).Lane)
     (mark : Bool) → slice_get ((in_world kind).lanes w) k ≡ Some s → slice_get have k ≡ Some mark → k < length have
     → gets_tick (in_world kind).kind s mark ≡ true → marks ≡ slice_set have k true → Fits w (Calls (of_kind kind k) Ticks) old new v
-    → TicksGoOn kind k w have old true v marks new
+    → TicksGoOn (lane_at kind k) true have (moment w old) marks (moment v new)
 ticked_goes_on kind k w v old new have marks s mark there at less gets is fits =
     ticks_go_by kind k w v old new have marks mark true at (tick_grew kind k w v old new s mark there gets fits) less
     (is ∙ ap (λ (b : Bool). slice_set have k b) (sym (or_true mark)))
 
 pub unticked_goes_on : (kind : LaneKind) (k : ℕ) (w : DomainState) (old : List Entry) (have : List Bool) (s : (in_world kind).Lane) (mark : Bool)
     → slice_get ((in_world kind).lanes w) k ≡ Some s → slice_get have k ≡ Some mark → k < length have
-    → gets_tick (in_world kind).kind s mark ≡ false → TicksGoOn kind k w have old false w have old
+    → gets_tick (in_world kind).kind s mark ≡ false → TicksGoOn (lane_at kind k) false have (moment w old) have (moment w old)
 unticked_goes_on kind k w old have s mark there at less gets =
     ticks_go_by kind k w w old old have have mark false at (none_ticked_grew kind k w old s mark there gets) less
     (sym (set_same have k mark at) ∙ ap (λ (b : Bool). slice_set have k b) (sym (or_false mark)))
@@ -213,7 +213,7 @@ name_by kind k calm rests s is =
 
 pub named_goes_on : (kind : LaneKind) (k : ℕ) (w : DomainState) (calm rests : Bool) (s : (in_world kind).Lane) (old new : List Entry)
     → slice_get ((in_world kind).lanes w) k ≡ Some s → rests ≡ (calm && not ((in_world kind).kind.waits_on s)) → rests ≡ false
-    → new ≡ old ++ entry.Unsettled (OfWhole (lane_at kind k)) ∷ [] → NamesGoOn kind k w calm old new
+    → new ≡ old ++ entry.Unsettled (OfWhole (lane_at kind k)) ∷ [] → NamesGoOn (lane_at kind k) calm w old new
 named_goes_on kind k w calm rests s old new there is left grew =
     names_go_by kind k w old new calm s there
     (subst (λ (l : List SettleEntry). Adds Settles old new l)
@@ -223,7 +223,7 @@ named_goes_on kind k w calm rests s old new there is left grew =
 
 pub unnamed_goes_on : (kind : LaneKind) (k : ℕ) (w : DomainState) (calm rests : Bool) (s : (in_world kind).Lane) (old : List Entry)
     → slice_get ((in_world kind).lanes w) k ≡ Some s → rests ≡ (calm && not ((in_world kind).kind.waits_on s)) → rests ≡ true
-    → NamesGoOn kind k w calm old old
+    → NamesGoOn (lane_at kind k) calm w old old
 unnamed_goes_on kind k w calm rests s old there is left =
     names_go_by kind k w old old calm s there
     (subst (λ (l : List SettleEntry). Adds Settles old old l)

@@ -14,9 +14,11 @@ use Rattle.ldc_queue.specs.declared.end.End.TheVariants.{A, B}
 use Rattle.ldom_entries.specs.declared.entry.Entry.{Entry}
 use Rattle.recorded_lanes.proofs.Adding.{both_add, none_adds}
 use Rattle.ldom_world.proofs.NumbersStay.{run_many}
-use Rattle.recorded_lanes.specs.Steps.{MakesPortStep, MakesStep}
+use Rattle.recorded_lanes.specs.Steps.{MakesStep, moment}
+use Rattle.domain_script.specs.LaneKinds.{disk_lane, port_lane}
 use Rattle.ldom_world.specs.TurnsMade.{SameNumbers, TurnsBegun, TurnsMade, kind_turns, lane_turns}
-use Rattle.recorded_lanes.specs.world_parts.Lines.{number_of_kind, of_kind}
+use Rattle.recorded_lanes.specs.world_parts.Lines.{number_of_kind}
+use Rattle.recorded_lanes.specs.world_parts.WorldKinds.{of_kind}
 use Rattle.recorded_lanes.specs.world_parts.Parts.{Fits, FitsSoFar}
 
 -- what holds where memory was wanted, of a call's answer
@@ -46,7 +48,7 @@ nothing_turned w old = none_turned w w old old refl refl
 
 -- of a lane of this kind
 pub disk_turned : (kind : LaneKind) (k : ℕ) (e : End) (w v : DomainState) (old new : List Entry) → kind ≡ kinds.Disk
-    → MakesStep DomainStep k e w old new v → TurnsMade (turn (of_kind kind k) e ∷ []) w old new v
+    → MakesStep DomainStep (disk_lane k) e (moment w old) (moment v new) → TurnsMade (turn (of_kind kind k) e ∷ []) w old new v
 disk_turned kind k e w v old new is made =
     subst (λ (x : LaneKind). TurnsMade (turn (of_kind x k) e ∷ []) w old new v) (sym is) (record {
       entries = OfLane k made.event ∷ [];
@@ -56,7 +58,7 @@ disk_turned kind k e w v old new is made =
     })
 
 pub port_turned : (kind : LaneKind) (k : ℕ) (e : End) (w v : DomainState) (old new : List Entry) → kind ≡ kinds.Port
-    → MakesPortStep DomainStep k e w old new v → TurnsMade (turn (of_kind kind k) e ∷ []) w old new v
+    → MakesStep DomainStep (port_lane k) e (moment w old) (moment v new) → TurnsMade (turn (of_kind kind k) e ∷ []) w old new v
 port_turned kind k e w v old new is made =
     subst (λ (x : LaneKind). TurnsMade (turn (of_kind x k) e ∷ []) w old new v) (sym is) (record {
       entries = OfPort k made.event ∷ [];

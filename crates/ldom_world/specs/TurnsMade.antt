@@ -6,7 +6,8 @@ use Rattle.recorded_lanes.specs.world_parts.world_laws.Settle.{SettleEntry}
 use Rattle.recorded_lanes.specs.world_parts.domain_laws.Domain.{DomainState, DomainStep}
 use Rattle.recorded_lanes.specs.world_parts.domain_laws.Lines.{AreSteps, EndTurn, Line, both_ends, lanes_from}
 use Rattle.domain_script.specs.declared.fields.LaneKind.{LaneKind}
-use Rattle.recorded_lanes.specs.world_parts.Lines.{number_of_kind, of_kind}
+use Rattle.recorded_lanes.specs.world_parts.Lines.{number_of_kind}
+use Rattle.recorded_lanes.specs.world_parts.WorldKinds.{of_kind}
 use Rattle.recorded_lanes.specs.world_parts.Parts.{Adds}
 
 -- THESE TURNS were made, each with its entry, whatever line they are in

@@ -5,7 +5,7 @@ ghost use Rattle.recorded_lanes.specs.world_parts.domain_laws.Lines.{Calls, Poke
 ghost use Rattle.recorded_lanes.specs.ldom_report.LaneEvents.{end_of};
 ghost use Rattle.recorded_lanes.specs.Called.{call_of};
 ghost use Rattle.recorded_lanes.specs.OnePort.{IsCallOf};
-ghost use Rattle.recorded_lanes.specs.Steps.{Counted};
+ghost use Rattle.recorded_lanes.specs.Steps.{Counted, moment};
 ghost use Rattle.ldom_world.specs.SettleParts.{MakesQuiet};
 ghost use Rattle.ldom_world.specs.TurnsMade.{SameNumbers, TurnsMade};
 ghost use Rattle.recorded_lanes.specs.world_parts.WorldKinds.{in_world};
@@ -77,8 +77,8 @@ impl<D: Store> World<D> {
     ) -> Result<bool, NoMemory>
         requires lane { IsLaneOf self.old lane }
         requires agrees { Counted journal.old.entries self.old }
-        ensures made { IfOk result (λ calm. MakesQuiet lane.kind lane.number (end_of side) self.old
-            journal.old.entries journal.new.entries calm self.new) }
+        ensures made { IfOk result (λ calm. MakesQuiet lane (end_of side) (moment self.old journal.old.entries) calm
+            (moment self.new journal.new.entries)) }
         ensures same { OnErr result ((self.new ≡ self.old) × (journal.new.entries ≡ journal.old.entries)) }
         ensures many { SameNumbers self.old self.new }
         ensures agrees { Counted journal.new.entries self.new }

@@ -6,11 +6,12 @@ ghost use Rattle.recorded_lanes.specs.world_parts.domain_laws.Lines.{Settles};
 ghost use Rattle.recorded_lanes.specs.world_parts.domain_laws.RoundMade.{all_quiet};
 ghost use Rattle.lane_kinds.specs.Lanes.{gets_tick};
 ghost use Rattle.lane_kinds.specs.LanesMade.{all_true};
+ghost use Rattle.lane_kinds.specs.Rounds.{tick_marks};
 ghost use Rattle.ldom_world.specs.SettleParts.{LaneNamesAdd, LaneNamesAddFront, LanesAdd, LanesAddFront, LaneTicksAdd};
 ghost use Rattle.ldom_world.specs.SettleParts.{LaneTicksAddFront, marks_of, NamesAdd, NamesAddFront, NamesGoOn};
 ghost use Rattle.ldom_world.specs.SettleParts.{RoundAdds, RoundAddsFront, RoundBreaks, RoundGoesOn};
-ghost use Rattle.ldom_world.specs.SettleParts.{TicksAdd, TicksAddFront, TicksGoOn, PassBreaks, PassGoesOn};
-ghost use Rattle.recorded_lanes.specs.Steps.{Counted};
+ghost use Rattle.ldom_world.specs.SettleParts.{TicksAdd, TicksAddFront, TicksGoOn, PassBreaks, PassGoesOn, pass_moment};
+ghost use Rattle.recorded_lanes.specs.Steps.{Counted, moment};
 ghost use Rattle.ldom_world.specs.TurnsMade.{SameNumbers};
 ghost use Rattle.recorded_lanes.specs.world_parts.WorldKinds.{in_world};
 ghost use Rattle.recorded_lanes.specs.world_parts.Lines.{IsLaneOf, number_of_kind};
@@ -75,10 +76,12 @@ impl<D: Store> World<D> {
         journal: &mut Journal,
     ) -> Result<bool, NoMemory>
         requires agrees { Counted journal.old.entries self.old }
-        ensures turned { IfOk result (λ ended. PassGoesOn ended self.old (marks_of had.old) (marks_of quiet.old)
-            journal.old.entries self.new (marks_of had.new) (marks_of quiet.new) journal.new.entries) }
-        ensures breaks { OnErr result (PassBreaks self.old (marks_of had.old) (marks_of quiet.old)
-            journal.old.entries self.new journal.new.entries) }
+        ensures turned { IfOk result (λ ended. PassGoesOn ended
+            (pass_moment (moment self.old journal.old.entries) (marks_of had.old) (marks_of quiet.old))
+            (pass_moment (moment self.new journal.new.entries) (marks_of had.new) (marks_of quiet.new))) }
+        ensures breaks { OnErr result (PassBreaks
+            (pass_moment (moment self.old journal.old.entries) (marks_of had.old) (marks_of quiet.old))
+            (moment self.new journal.new.entries)) }
         ensures agrees { Counted journal.new.entries self.new }
     {
         if !self.settle_round(quiet, journal)? {
@@ -100,10 +103,11 @@ impl<D: Store> World<D> {
         journal: &mut Journal,
     ) -> Result<bool, NoMemory>
         requires agrees { Counted journal.old.entries self.old }
-        ensures made { OnOk result (RoundAdds self.old (marks_of quiet.new) self.new journal.old.entries
-            journal.new.entries) }
+        ensures made { OnOk result (RoundAdds (marks_of quiet.new) (moment self.old journal.old.entries)
+            (moment self.new journal.new.entries)) }
         ensures calm { IfOk result (λ calm. all_quiet self.old (marks_of quiet.new) ≡ calm) }
-        ensures begun { OnErr result (RoundAddsFront self.old self.new journal.old.entries journal.new.entries) }
+        ensures begun { OnErr result (RoundAddsFront (moment self.old journal.old.entries)
+            (moment self.new journal.new.entries)) }
         ensures agrees { Counted journal.new.entries self.new }
     {
         let disks = self.round_of(LaneKind::Disk, &mut quiet.disks, journal)?;
@@ -120,10 +124,11 @@ impl<D: Store> World<D> {
         journal: &mut Journal,
     ) -> Result<bool, NoMemory>
         requires agrees { Counted journal.old.entries self.old }
-        ensures made { OnOk result (LanesAdd kind (number_of_kind kind self.old) self.old quiet.new self.new
-            journal.old.entries journal.new.entries) }
+        ensures made { OnOk result (LanesAdd kind (number_of_kind kind self.old) quiet.new
+            (moment self.old journal.old.entries) (moment self.new journal.new.entries)) }
         ensures calm { IfOk result (λ calm. all_true (take (number_of_kind kind self.old) quiet.new) ≡ calm) }
-        ensures begun { OnErr result (LanesAddFront kind self.old self.new journal.old.entries journal.new.entries) }
+        ensures begun { OnErr result (LanesAddFront kind (moment self.old journal.old.entries)
+            (moment self.new journal.new.entries)) }
         ensures many { SameNumbers self.old self.new }
         ensures agrees { Counted journal.new.entries self.new }
     {
@@ -146,10 +151,10 @@ impl<D: Store> World<D> {
         requires lane { IsLaneOf self.old lane }
         requires place { lane.number < length quiet.old }
         requires agrees { Counted journal.old.entries self.old }
-        ensures made { OnOk result (RoundGoesOn lane.kind lane.number self.old quiet.old journal.old.entries self.new
-            quiet.new journal.new.entries) }
-        ensures begun { OnErr result (RoundBreaks lane.kind lane.number self.old quiet.old journal.old.entries self.new
-            journal.new.entries) }
+        ensures made { OnOk result (RoundGoesOn lane quiet.old (moment self.old journal.old.entries) quiet.new
+            (moment self.new journal.new.entries)) }
+        ensures begun { OnErr result (RoundBreaks lane quiet.old (moment self.old journal.old.entries)
+            (moment self.new journal.new.entries)) }
         ensures marked { IfOk result (λ calm. quiet.new ≡ slice_set quiet.old lane.number calm) }
         ensures many { SameNumbers self.old self.new }
         ensures agrees { Counted journal.new.entries self.new }
@@ -165,10 +170,10 @@ impl<D: Store> World<D> {
     /// settle. Tells whether there was one.
     fn tick_lanes(&mut self, had: &mut LaneMarks, journal: &mut Journal) -> Result<bool, NoMemory>
         requires agrees { Counted journal.old.entries self.old }
-        ensures ticked { IfOk result (λ some. TicksAdd self.old (marks_of had.old) some (marks_of had.new) self.new
-            journal.old.entries journal.new.entries) }
-        ensures begun { OnErr result (TicksAddFront self.old (marks_of had.old) self.new journal.old.entries
-            journal.new.entries) }
+        ensures ticked { IfOk result (λ some. TicksAdd (tick_marks (marks_of had.old) some (marks_of had.new))
+            (moment self.old journal.old.entries) (moment self.new journal.new.entries)) }
+        ensures begun { OnErr result (TicksAddFront (marks_of had.old) (moment self.old journal.old.entries)
+            (moment self.new journal.new.entries)) }
         ensures agrees { Counted journal.new.entries self.new }
     {
         let disks = self.ticks_of(LaneKind::Disk, &mut had.disks, journal)?;
@@ -185,10 +190,11 @@ impl<D: Store> World<D> {
         journal: &mut Journal,
     ) -> Result<bool, NoMemory>
         requires agrees { Counted journal.old.entries self.old }
-        ensures ticked { IfOk result (λ some. LaneTicksAdd kind (number_of_kind kind self.old) self.old had.old some
-            had.new self.new journal.old.entries journal.new.entries) }
-        ensures begun { OnErr result (LaneTicksAddFront kind self.old had.old self.new journal.old.entries
-            journal.new.entries) }
+        ensures ticked { IfOk result (λ some. LaneTicksAdd kind (number_of_kind kind self.old)
+            (tick_marks had.old some had.new) (moment self.old journal.old.entries)
+            (moment self.new journal.new.entries)) }
+        ensures begun { OnErr result (LaneTicksAddFront kind had.old (moment self.old journal.old.entries)
+            (moment self.new journal.new.entries)) }
         ensures agrees { Counted journal.new.entries self.new }
     {
         let mut some = false;
@@ -210,8 +216,8 @@ impl<D: Store> World<D> {
         requires lane { IsLaneOf self.old lane }
         requires place { lane.number < length had.old }
         requires agrees { Counted journal.old.entries self.old }
-        ensures ticked { IfOk result (λ ticked. TicksGoOn lane.kind lane.number self.old had.old journal.old.entries
-            ticked self.new had.new journal.new.entries) }
+        ensures ticked { IfOk result (λ ticked. TicksGoOn lane ticked had.old
+            (moment self.old journal.old.entries) had.new (moment self.new journal.new.entries)) }
         ensures same { OnErr result ((self.new ≡ self.old) × (journal.new.entries ≡ journal.old.entries)) }
         ensures same_marks { OnErr result (had.new ≡ had.old) }
         ensures many { SameNumbers self.old self.new }
@@ -263,8 +269,7 @@ impl<D: Store> World<D> {
     fn name(&self, lane: Lane, calm: bool, journal: &mut Journal) -> Result<(), NoMemory>
         requires lane { IsLaneOf self.now lane }
         requires agrees { Counted journal.old.entries self.now }
-        ensures named { OnOk result (NamesGoOn lane.kind lane.number self.now calm journal.old.entries
-            journal.new.entries) }
+        ensures named { OnOk result (NamesGoOn lane calm self.now journal.old.entries journal.new.entries) }
         ensures same { OnErr result (journal.new.entries ≡ journal.old.entries) }
         ensures agrees { Counted journal.new.entries self.now }
     {

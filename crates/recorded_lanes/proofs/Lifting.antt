@@ -21,7 +21,8 @@ use Rattle.recorded_lanes.specs.OneLane.{EndSteps, LaneSteps, RecordedBut, Recor
 use Rattle.recorded_lanes.specs.Resting.{left_out}
 use Rattle.world_parts.proofs.world_laws.LoopKeeping.{issued_set, next_is}
 use Rattle.world_parts.specs.world_laws.Issued.{issued_on, next_behind}
-use Rattle.recorded_lanes.specs.Steps.{MakesQuietStep, MakesStep}
+use Rattle.recorded_lanes.specs.Steps.{MakesQuietStep, MakesStep, moment}
+use Rattle.domain_script.specs.LaneKinds.{disk_lane}
 use Rattle.world_parts.specs.Parts.{Adds}
 
 -- A LANE BY ITS NUMBER
@@ -135,7 +136,7 @@ module _ (k : ℕ) (event : DiskEvent) (old new : JournalState) (first : List En
 
 module _ (w v : WorldState) (k : ℕ) (e : End) (old : JournalState) (calm : Bool) (new : JournalState)
     (first : List Entry) (same : old.entries ≡ first) where
-  pub makes_step : EndSteps false k e w old calm new v → MakesStep WorldStep k e w first new.entries v
+  pub makes_step : EndSteps false k e w old calm new v → MakesStep WorldStep (disk_lane k) e (moment w first) (moment v new.entries)
   makes_step at = record {
     event = at.event;
     of_end = at.of_end;
@@ -148,7 +149,7 @@ module _ (w v : WorldState) (k : ℕ) (e : End) (old : JournalState) (calm : Boo
   step_agrees at agrees = recorded_agrees k at.event old new first same w v at.leaves.recorded at.moves agrees
 
   -- in a settle
-  pub makes_quiet_step : EndSteps true k e w old calm new v → MakesQuietStep WorldStep k e w first new.entries calm v
+  pub makes_quiet_step : EndSteps true k e w old calm new v → MakesQuietStep WorldStep (disk_lane k) e (moment w first) calm (moment v new.entries)
   makes_quiet_step at = record {
     event = at.event;
     of_end = at.of_end;

@@ -1,6 +1,7 @@
 -- A world by its parts: lanes over an image, and one lane of them set; and what a line asked of that lane.
 use Rattle.std.proofs.Common.{◌≡◌, ℕ, ◌<◌, List, [], ◌∷◌, ◌++◌, length, slice_get, slice_set, get_or, Some, sym, ap, subst, ◌∙◌}
 use Rattle.disk_law.specs.ListState.{ImageState}
+use Rattle.domain_script.specs.LaneKinds.{disk_lane}
 use Rattle.world_parts.specs.disk_model.DiskEvent.{DiskEvent}
 use Rattle.world_parts.specs.disk_model.LaneState.{LaneState}
 use Rattle.world_parts.specs.world_laws.Settle.{OfLane}
@@ -12,7 +13,7 @@ use Rattle.recorded_lanes.proofs.Adding.{one_adds}
 use Rattle.recorded_lanes.proofs.Lifting.{agrees_after, many_same, one_moves, there_at}
 use Rattle.recorded_lanes.specs.OneLane.{LaneAnswers}
 use Rattle.world_parts.specs.world_laws.Issued.{issued_on}
-use Rattle.recorded_lanes.specs.Steps.{MakesAnswer}
+use Rattle.recorded_lanes.specs.Steps.{MakesAnswer, moment}
 
 abbrev pub over : List LaneState → ImageState → WorldState
 over lanes image = record { lanes = lanes; image = image }
@@ -54,7 +55,7 @@ module _ (w : WorldState) (lanes : List LaneState) (image : ImageState) (k : ℕ
       (answer.moves w.image) (lane_set w lanes image k t is)
 
   pub answer_made : (line : Line) (Answers : DiskEvent → Type 0) → LaneAnswers line k Answers s x t
-      → MakesAnswer WorldStep line k Answers w old new (over (slice_set lanes k t) image)
+      → MakesAnswer WorldStep (disk_lane k) line Answers (moment w old) (moment (over (slice_set lanes k t) image) new)
   answer_made line Answers answer = record {
     event = answer.event;
     answers = answer.answers;

@@ -28,7 +28,8 @@ use Rattle.world_parts.specs.world_laws.Settle.{OfPort}
 use Rattle.recorded_lanes.proofs.Adding.{none_adds, one_adds}
 use Rattle.recorded_lanes.proofs.Lifting.{count_push}
 use Rattle.recorded_lanes.specs.OnePort.{GivesBut, PortAnswers, PortEndSteps, PortLeaves, PortRecordedBut, PortRecords}
-use Rattle.recorded_lanes.specs.Steps.{MakesPortAnswer, MakesPortStep, MakesQuietPortStep}
+use Rattle.recorded_lanes.specs.Steps.{MakesAnswer, MakesQuietStep, MakesStep, moment}
+use Rattle.domain_script.specs.LaneKinds.{port_lane}
 use Rattle.world_parts.specs.Parts.{Adds}
 
 -- THE EVENT OF A STEP is one of its end, and the port's own
@@ -97,7 +98,7 @@ module _ (k : ℕ) (event : SwitchEvent) (old new : JournalState) (first : List 
 
 module _ (w v : List PortState) (k : ℕ) (e : End) (old : JournalState) (calm : Bool) (new : JournalState)
     (first : List Entry) (same : old.entries ≡ first) where
-  pub makes_port_step : PortEndSteps false k e w old calm new v → MakesPortStep PortsStep k e w first new.entries v
+  pub makes_port_step : PortEndSteps false k e w old calm new v → MakesStep PortsStep (port_lane k) e (moment w first) (moment v new.entries)
   makes_port_step at = record {
     event = at.event;
     of_end = at.of_end;
@@ -106,7 +107,7 @@ module _ (w v : List PortState) (k : ℕ) (e : End) (old : JournalState) (calm :
   }
 
   pub makes_quiet_port_step : PortEndSteps true k e w old calm new v
-      → MakesQuietPortStep PortsStep k e w first new.entries calm v
+      → MakesQuietStep PortsStep (port_lane k) e (moment w first) calm (moment v new.entries)
   makes_quiet_port_step at = record {
     event = at.event;
     of_end = at.of_end;
@@ -135,7 +136,7 @@ module _ (lanes w v : List PortState) (are : lanes ≡ w) (k : ℕ) (x : Entry) 
   put_last : new ≡ old ++ x ∷ []
   put_last = grew ∙ ap (λ (l : List Entry). l ++ x ∷ []) same
 
-  pub port_answer_made : MakesPortAnswer PortsStep line k Answers w old new v
+  pub port_answer_made : MakesAnswer PortsStep (port_lane k) line Answers (moment w old) (moment v new)
   port_answer_made = record {
     event = answer.event;
     answers = answer.answers;

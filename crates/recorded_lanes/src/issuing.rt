@@ -7,7 +7,8 @@ ghost use Rattle.recorded_lanes.specs.Called.{refused_entry};
 ghost use Rattle.recorded_lanes.specs.OneLane.{RecordsAnswer};
 ghost use Rattle.world_parts.specs.world_laws.Issued.{issued_on};
 ghost use Rattle.vdisk_msg.specs.Fills.{IsRequest};
-ghost use Rattle.recorded_lanes.specs.Steps.{MakesAnswer};
+ghost use Rattle.recorded_lanes.specs.Steps.{MakesAnswer, moment};
+ghost use Rattle.domain_script.specs.LaneKinds.{disk_lane};
 ghost use Rattle.world_parts.specs.world_laws.World.{WorldStep};
 
 use crate::disks::Disks;
@@ -29,8 +30,8 @@ impl<D: Store> Disks<D> {
         requires disk { disk < length self.old.lanes }
         requires request { IsRequest request.now }
         requires agrees { accepted_count journal.old.entries ≡ issued_on self.old.lanes }
-        ensures made { OnOk result (MakesAnswer WorldStep (Asked disk request.now) disk
-            (AnswersRequest request.now) self.old journal.old.entries journal.new.entries self.new) }
+        ensures made { OnOk result (MakesAnswer WorldStep (disk_lane disk) (Asked disk request.now)
+            (AnswersRequest request.now) (moment self.old journal.old.entries) (moment self.new journal.new.entries)) }
         ensures same { OnErr result ((self.new ≡ self.old) × (journal.new.entries ≡ journal.old.entries)) }
         ensures many { length self.new.lanes ≡ length self.old.lanes }
         ensures agrees { accepted_count journal.new.entries ≡ issued_on self.new.lanes }

@@ -8,7 +8,8 @@ ghost use Rattle.recorded_lanes.specs.OneLane.{LaneAnswers};
 ghost use Rattle.world_parts.specs.world_laws.Issued.{issued_on};
 ghost use Rattle.world_parts.specs.domain_laws.Lines as script;
 ghost use Rattle.world_parts.specs.domain_laws.Lines.{AnswersCall, Calls, Pokes};
-ghost use Rattle.recorded_lanes.specs.Steps.{MakesAnswer};
+ghost use Rattle.recorded_lanes.specs.Steps.{MakesAnswer, moment};
+ghost use Rattle.domain_script.specs.LaneKinds.{disk_lane};
 ghost use Rattle.world_parts.specs.world_laws.World.{WorldStep};
 
 use crate::disks::Disks;
@@ -30,8 +31,9 @@ impl<D: Store> Disks<D> {
     ) -> Result<(), NoMemory>
         requires disk { disk < length self.old.lanes }
         requires agrees { accepted_count journal.old.entries ≡ issued_on self.old.lanes }
-        ensures made { OnOk result (MakesAnswer WorldStep (Calls (script.DiskLane disk) (Pokes A at bytes.now)) disk
-            (AnswersCall (Pokes A at bytes.now)) self.old journal.old.entries journal.new.entries self.new) }
+        ensures made { OnOk result (MakesAnswer WorldStep (disk_lane disk)
+            (Calls (script.DiskLane disk) (Pokes A at bytes.now)) (AnswersCall (Pokes A at bytes.now))
+            (moment self.old journal.old.entries) (moment self.new journal.new.entries)) }
         ensures same { OnErr result ((self.new ≡ self.old) × (journal.new.entries ≡ journal.old.entries)) }
         ensures many { length self.new.lanes ≡ length self.old.lanes }
         ensures agrees { accepted_count journal.new.entries ≡ issued_on self.new.lanes }

@@ -9,7 +9,8 @@ ghost use Rattle.ldom_report.specs.LaneEvents.{end_of};
 ghost use Rattle.ldom_report.specs.Report.{accepted_count};
 ghost use Rattle.recorded_lanes.specs.Called.{call_of, unsent_entry};
 ghost use Rattle.recorded_lanes.specs.OnePort.{IsPortCall, PortAnswers, RecordsPortAnswer};
-ghost use Rattle.recorded_lanes.specs.Steps.{MakesPortAnswer};
+ghost use Rattle.recorded_lanes.specs.Steps.{MakesAnswer, moment};
+ghost use Rattle.domain_script.specs.LaneKinds.{port_lane};
 ghost use Rattle.kept_requests.specs.Bytes.{filled};
 ghost use Rattle.switched_ports.specs.Given.{GivenBelow};
 
@@ -30,8 +31,8 @@ impl PortLanes {
     pub fn send(&mut self, port: u32, frame: &[u8], journal: &mut Journal) -> Result<(), NoMemory>
         requires port { port < length self.old }
         requires agrees { GivenBelow (length journal.old.entries + 1) self.old }
-        ensures made { OnOk result (MakesPortAnswer PortsStep (Sends port frame.now) port (AnswersFrame frame.now)
-            self.old journal.old.entries journal.new.entries self.new) }
+        ensures made { OnOk result (MakesAnswer PortsStep (port_lane port) (Sends port frame.now)
+            (AnswersFrame frame.now) (moment self.old journal.old.entries) (moment self.new journal.new.entries)) }
         ensures same { OnErr result ((self.new ≡ self.old) × (journal.new.entries ≡ journal.old.entries)) }
         ensures many { length self.new ≡ length self.old }
         ensures agrees { GivenBelow (length journal.new.entries + 1) self.new }
@@ -54,8 +55,8 @@ impl PortLanes {
     ) -> Result<(), NoMemory>
         requires port { port < length self.old }
         requires agrees { GivenBelow (length journal.old.entries + 1) self.old }
-        ensures made { OnOk result (MakesPortAnswer PortsStep (Joins port address) port (AnswersGroup address)
-            self.old journal.old.entries journal.new.entries self.new) }
+        ensures made { OnOk result (MakesAnswer PortsStep (port_lane port) (Joins port address) (AnswersGroup address)
+            (moment self.old journal.old.entries) (moment self.new journal.new.entries)) }
         ensures same { OnErr result ((self.new ≡ self.old) × (journal.new.entries ≡ journal.old.entries)) }
         ensures many { length self.new ≡ length self.old }
         ensures agrees { GivenBelow (length journal.new.entries + 1) self.new }
@@ -77,8 +78,9 @@ impl PortLanes {
         requires port { port < length self.old }
         requires call { IsPortCall call }
         requires agrees { GivenBelow (length journal.old.entries + 1) self.old }
-        ensures made { OnOk result (MakesPortAnswer PortsStep (Calls (script.PortLane port) (call_of call.entry)) port
-            (AnswersPortCall (call_of call.entry)) self.old journal.old.entries journal.new.entries self.new) }
+        ensures made { OnOk result (MakesAnswer PortsStep (port_lane port)
+            (Calls (script.PortLane port) (call_of call.entry)) (AnswersPortCall (call_of call.entry))
+            (moment self.old journal.old.entries) (moment self.new journal.new.entries)) }
         ensures same { OnErr result ((self.new ≡ self.old) × (journal.new.entries ≡ journal.old.entries)) }
         ensures many { length self.new ≡ length self.old }
         ensures agrees { GivenBelow (length journal.new.entries + 1) self.new }
@@ -100,10 +102,10 @@ impl PortLanes {
     ) -> Result<(), NoMemory>
         requires port { port < length self.old }
         requires agrees { GivenBelow (length journal.old.entries + 1) self.old }
-        ensures made { OnOk result (MakesPortAnswer PortsStep
-            (Calls (script.PortLane port) (Pokes (end_of side) at bytes.now)) port
-            (AnswersPortCall (Pokes (end_of side) at bytes.now)) self.old journal.old.entries journal.new.entries
-            self.new) }
+        ensures made { OnOk result (MakesAnswer PortsStep (port_lane port)
+            (Calls (script.PortLane port) (Pokes (end_of side) at bytes.now))
+            (AnswersPortCall (Pokes (end_of side) at bytes.now)) (moment self.old journal.old.entries)
+            (moment self.new journal.new.entries)) }
         ensures same { OnErr result ((self.new ≡ self.old) × (journal.new.entries ≡ journal.old.entries)) }
         ensures many { length self.new ≡ length self.old }
         ensures agrees { GivenBelow (length journal.new.entries + 1) self.new }

@@ -2,10 +2,11 @@
 
 ghost use Rattle.std.specs.Prelude.{◌≡◌, ◌<◌, ◌+◌, ◌-◌, ◌^◌, length, IfOk, OnErr, OnOk};
 ghost use Rattle.world_parts.specs.domain_laws.Domain.{PortsStep};
+ghost use Rattle.domain_script.specs.LaneKinds.{port_lane};
 ghost use Rattle.ldom_report.specs.LaneEvents.{end_of};
 ghost use Rattle.ldom_report.specs.Report.{accepted_count};
 ghost use Rattle.recorded_lanes.specs.OnePort.{PortEndSteps};
-ghost use Rattle.recorded_lanes.specs.Steps.{MakesPortStep, MakesQuietPortStep};
+ghost use Rattle.recorded_lanes.specs.Steps.{MakesQuietStep, MakesStep, moment};
 ghost use Rattle.switched_ports.specs.Given.{GivenBelow};
 ghost use Rattle.switched_ports.specs.States.{last_at};
 
@@ -22,8 +23,8 @@ impl PortLanes {
     pub fn step(&mut self, port: u32, side: Side, journal: &mut Journal) -> Result<(), NoMemory>
         requires port { port < length self.old }
         requires agrees { GivenBelow (length journal.old.entries + 1) self.old }
-        ensures made { OnOk result (MakesPortStep PortsStep port (end_of side) self.old journal.old.entries
-            journal.new.entries self.new) }
+        ensures made { OnOk result (MakesStep PortsStep (port_lane port) (end_of side)
+            (moment self.old journal.old.entries) (moment self.new journal.new.entries)) }
         ensures same { OnErr result ((self.new ≡ self.old) × (journal.new.entries ≡ journal.old.entries)) }
         ensures many { length self.new ≡ length self.old }
         ensures agrees { GivenBelow (length journal.new.entries + 1) self.new }
@@ -45,8 +46,8 @@ impl PortLanes {
     ) -> Result<bool, NoMemory>
         requires port { port < length self.old }
         requires agrees { GivenBelow (length journal.old.entries + 1) self.old }
-        ensures made { IfOk result (λ calm. MakesQuietPortStep PortsStep port (end_of side) self.old
-            journal.old.entries journal.new.entries calm self.new) }
+        ensures made { IfOk result (λ calm. MakesQuietStep PortsStep (port_lane port) (end_of side)
+            (moment self.old journal.old.entries) calm (moment self.new journal.new.entries)) }
         ensures same { OnErr result ((self.new ≡ self.old) × (journal.new.entries ≡ journal.old.entries)) }
         ensures many { length self.new ≡ length self.old }
         ensures agrees { GivenBelow (length journal.new.entries + 1) self.new }

@@ -2,11 +2,12 @@
 
 ghost use Rattle.std.specs.Prelude.{◌≡◌, ◌<◌, ◌≤◌, [], length, IfOk, OnErr, OnOk};
 ghost use Rattle.disk_law.specs.ListState.{as_image, ImageState};
+ghost use Rattle.domain_script.specs.LaneKinds.{disk_lane};
 ghost use Rattle.ldc_queue.specs.declared.end.End.TheVariants.{A, B};
 ghost use Rattle.ldom_report.specs.LaneEvents.{end_of};
 ghost use Rattle.ldom_report.specs.Report.{accepted_count};
 ghost use Rattle.recorded_lanes.specs.OneLane.{EndSteps, LaneSteps};
-ghost use Rattle.recorded_lanes.specs.Steps.{MakesQuietStep, MakesStep};
+ghost use Rattle.recorded_lanes.specs.Steps.{MakesQuietStep, MakesStep, moment};
 ghost use Rattle.world_parts.specs.world_laws.Issued.{issued_on};
 ghost use Rattle.world_parts.specs.world_laws.World.{WorldStep};
 ghost use Rattle.world_parts.specs.Declared.{LiesWithin};
@@ -25,8 +26,8 @@ impl<D: Store> Disks<D> {
     pub fn step(&mut self, disk: u32, side: Side, journal: &mut Journal) -> Result<(), NoMemory>
         requires disk { disk < length self.old.lanes }
         requires agrees { accepted_count journal.old.entries ≡ issued_on self.old.lanes }
-        ensures made { OnOk result (MakesStep WorldStep disk (end_of side) self.old journal.old.entries journal.new.entries
-            self.new) }
+        ensures made { OnOk result (MakesStep WorldStep (disk_lane disk) (end_of side)
+            (moment self.old journal.old.entries) (moment self.new journal.new.entries)) }
         ensures same { OnErr result ((self.new ≡ self.old) × (journal.new.entries ≡ journal.old.entries)) }
         ensures many { length self.new.lanes ≡ length self.old.lanes }
         ensures agrees { accepted_count journal.new.entries ≡ issued_on self.new.lanes }
@@ -46,8 +47,8 @@ impl<D: Store> Disks<D> {
     ) -> Result<bool, NoMemory>
         requires disk { disk < length self.old.lanes }
         requires agrees { accepted_count journal.old.entries ≡ issued_on self.old.lanes }
-        ensures made { IfOk result (λ calm. MakesQuietStep WorldStep disk (end_of side) self.old journal.old.entries
-            journal.new.entries calm self.new) }
+        ensures made { IfOk result (λ calm. MakesQuietStep WorldStep (disk_lane disk) (end_of side)
+            (moment self.old journal.old.entries) calm (moment self.new journal.new.entries)) }
         ensures same { OnErr result ((self.new ≡ self.old) × (journal.new.entries ≡ journal.old.entries)) }
         ensures many { length self.new.lanes ≡ length self.old.lanes }
         ensures agrees { accepted_count journal.new.entries ≡ issued_on self.new.lanes }

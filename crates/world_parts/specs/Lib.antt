@@ -1,5 +1,4 @@
 pub mod WorldEvents
-pub mod WorldKind
 pub mod WorldKinds
 pub mod Parts
 pub mod Declared

@@ -20,12 +20,9 @@ use Rattle.ldom_report.specs.DiskEvents.{happened_to}
 use Rattle.ldom_report.specs.LaneEvents.{end_of}
 use Rattle.ldom_entries.specs.declared.entry.Entry.{Entry}
 use Rattle.world_parts.specs.Parts.{PartSays}
-use Rattle.world_parts.specs.WorldKinds.{in_world}
+use Rattle.world_parts.specs.WorldKinds.{in_world, of_kind}
 
 -- a lane of a script is this one of the world, by its kind
-abbrev pub of_kind : LaneKind → ℕ → LaneName
-of_kind kind k = (in_world kind).named k
-
 abbrev pub lane_named : Lane → LaneName
 lane_named lane = of_kind lane.kind lane.number
 

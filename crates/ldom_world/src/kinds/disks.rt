@@ -10,7 +10,8 @@ ghost use Rattle.domain_script.specs.declared.fields.LaneKind.TheVariants as kin
 ghost use Rattle.ldc_queue.specs.declared.end.End.TheVariants.{A};
 ghost use Rattle.recorded_lanes.specs.ldom_report.LaneEvents.{end_of};
 ghost use Rattle.recorded_lanes.specs.Called.{call_of};
-ghost use Rattle.recorded_lanes.specs.Steps.{Counted, MakesQuietStep, MakesStep};
+ghost use Rattle.recorded_lanes.specs.Steps.{Counted, MakesQuietStep, MakesStep, moment};
+ghost use Rattle.domain_script.specs.LaneKinds.{disk_lane};
 ghost use Rattle.ldom_world.specs.TurnsMade.{SameNumbers};
 ghost use Rattle.recorded_lanes.specs.world_parts.Lines.{HasMemory};
 ghost use Rattle.recorded_lanes.specs.world_parts.Parts.{Fits, FitsSoFar};
@@ -46,8 +47,8 @@ pub(crate) fn step<D: Store>(
 ) -> Result<(), NoMemory>
     requires disk { disk < length world.old.first.lanes }
     requires agrees { Counted journal.old.entries world.old }
-    ensures made { OnOk result (MakesStep DomainStep disk (end_of side) world.old journal.old.entries
-        journal.new.entries world.new) }
+    ensures made { OnOk result (MakesStep DomainStep (disk_lane disk) (end_of side)
+        (moment world.old journal.old.entries) (moment world.new journal.new.entries)) }
     ensures same { OnErr result ((world.new ≡ world.old) × (journal.new.entries ≡ journal.old.entries)) }
     ensures many { SameNumbers world.old world.new }
     ensures agrees { Counted journal.new.entries world.new }
@@ -64,8 +65,8 @@ pub(crate) fn quiet_step<D: Store>(
 ) -> Result<bool, NoMemory>
     requires disk { disk < length world.old.first.lanes }
     requires agrees { Counted journal.old.entries world.old }
-    ensures made { IfOk result (λ calm. MakesQuietStep DomainStep disk (end_of side) world.old
-        journal.old.entries journal.new.entries calm world.new) }
+    ensures made { IfOk result (λ calm. MakesQuietStep DomainStep (disk_lane disk) (end_of side)
+        (moment world.old journal.old.entries) calm (moment world.new journal.new.entries)) }
     ensures same { OnErr result ((world.new ≡ world.old) × (journal.new.entries ≡ journal.old.entries)) }
     ensures many { SameNumbers world.old world.new }
     ensures agrees { Counted journal.new.entries world.new }

@@ -9,7 +9,8 @@ ghost use Rattle.recorded_lanes.specs.world_parts.switch_laws.Ports.{waits_on};
 ghost use Rattle.recorded_lanes.specs.ldom_report.LaneEvents.{end_of};
 ghost use Rattle.recorded_lanes.specs.Called.{call_of};
 ghost use Rattle.recorded_lanes.specs.OnePort.{IsPortCall};
-ghost use Rattle.recorded_lanes.specs.Steps.{Counted, MakesPortStep, MakesQuietPortStep};
+ghost use Rattle.recorded_lanes.specs.Steps.{Counted, MakesQuietStep, MakesStep, moment};
+ghost use Rattle.domain_script.specs.LaneKinds.{port_lane};
 ghost use Rattle.ldom_world.specs.TurnsMade.{SameNumbers};
 ghost use Rattle.recorded_lanes.specs.world_parts.Parts.{Fits, FitsSoFar};
 
@@ -44,8 +45,8 @@ pub(crate) fn step<D: Store>(
 ) -> Result<(), NoMemory>
     requires port { port < length world.old.second }
     requires agrees { Counted journal.old.entries world.old }
-    ensures made { OnOk result (MakesPortStep DomainStep port (end_of side) world.old journal.old.entries
-        journal.new.entries world.new) }
+    ensures made { OnOk result (MakesStep DomainStep (port_lane port) (end_of side)
+        (moment world.old journal.old.entries) (moment world.new journal.new.entries)) }
     ensures same { OnErr result ((world.new ≡ world.old) × (journal.new.entries ≡ journal.old.entries)) }
     ensures many { SameNumbers world.old world.new }
     ensures agrees { Counted journal.new.entries world.new }
@@ -62,8 +63,8 @@ pub(crate) fn quiet_step<D: Store>(
 ) -> Result<bool, NoMemory>
     requires port { port < length world.old.second }
     requires agrees { Counted journal.old.entries world.old }
-    ensures made { IfOk result (λ calm. MakesQuietPortStep DomainStep port (end_of side) world.old
-        journal.old.entries journal.new.entries calm world.new) }
+    ensures made { IfOk result (λ calm. MakesQuietStep DomainStep (port_lane port) (end_of side)
+        (moment world.old journal.old.entries) calm (moment world.new journal.new.entries)) }
     ensures same { OnErr result ((world.new ≡ world.old) × (journal.new.entries ≡ journal.old.entries)) }
     ensures many { SameNumbers world.old world.new }
     ensures agrees { Counted journal.new.entries world.new }

@@ -1,9 +1,9 @@
 use Rattle.recorded_lanes.specs.world_parts.world_laws.World.{WorldState, WorldStep}
-use Rattle.recorded_lanes.specs.world_parts.world_laws.Settle.{OfLane}
 use Rattle.std.proofs.Common.{refl}
 use Rattle.std.proofs.lemmas.Result.{on_err_weaker, on_ok_weaker}
 use Rattle.recorded_lanes.specs.world_parts.domain_laws.Lines.{AnswersCall, Calls, DiskLane, Pokes}
 use Rattle.ldc_queue.specs.declared.end.End.TheVariants.{A}
+use Rattle.domain_script.specs.declared.fields.LaneKind.TheVariants as kinds
 use Rattle.ldom_world.proofs.Lifted.{adds_grow, answer_fits, both, counted_at, disk_within, disks_counted, grows_by, lift_disks, nothing_begun, same_grows}
 use Rattle.ldom_world.proofs.kinds.disks.poke_client.Goals as goal
 
@@ -16,7 +16,7 @@ poke-requires-clause-agrees g c = counted_at c.world.inside.disks c.world.inside
 pub returns-clause-fits : goal.returns-clause-fits
 returns-clause-fits g c =
     on_ok_weaker c.poke.result
-    (λ made. answer_fits WorldStep OfLane (λ (d : WorldState). both d c.world.inside.ports) (lift_disks c.world.inside.ports)
+    (λ made. answer_fits kinds.Disk WorldStep (λ (d : WorldState). both d c.world.inside.ports) (lift_disks c.world.inside.ports)
     c.world.inside.disks c.args.world.now c.world.view_is
     (Calls (DiskLane c.args.disk) (Pokes A c.args.at c.args.bytes.now)) c.args.disk (AnswersCall (Pokes A c.args.at c.args.bytes.now)) c.poke.new.self c.args.journal.now.entries c.poke.new.journal.entries
     (λ event answers. record { event = event; answers = answers; is = refl }) made) c.poke.ensures.made
@@ -24,7 +24,7 @@ returns-clause-fits g c =
 pub returns-clause-so_far : goal.returns-clause-so_far
 returns-clause-so_far g c =
     on_err_weaker c.poke.result
-    (λ same. nothing_begun WorldStep OfLane (λ (d : WorldState). both d c.world.inside.ports) (lift_disks c.world.inside.ports)
+    (λ same. nothing_begun kinds.Disk WorldStep (λ (d : WorldState). both d c.world.inside.ports) (lift_disks c.world.inside.ports)
     c.world.inside.disks c.args.world.now c.world.view_is
     (Calls (DiskLane c.args.disk) (Pokes A c.args.at c.args.bytes.now)) c.args.disk (AnswersCall (Pokes A c.args.at c.args.bytes.now)) c.poke.new.self c.args.journal.now.entries c.poke.new.journal.entries refl same) c.poke.ensures.same
 

@@ -4,10 +4,9 @@ use Rattle.recorded_lanes.specs.world_parts.domain_laws.Domain.{DomainStep}
 use Rattle.recorded_lanes.specs.world_parts.domain_laws.Lines.{Nothing}
 use Rattle.recorded_lanes.specs.ldom_report.LaneEvents.{end_of}
 use Rattle.recorded_lanes.specs.world_parts.world_laws.World.{WorldState, WorldStep}
-use Rattle.recorded_lanes.specs.world_parts.lane_laws.CalmEnds.{IsStep}
-use Rattle.recorded_lanes.specs.world_parts.world_laws.DiskKind.{is_calm}
-use Rattle.recorded_lanes.specs.world_parts.world_laws.Settle.{OfLane, entry_of}
-use Rattle.recorded_lanes.specs.Steps.{MakesQuietStep}
+use Rattle.recorded_lanes.specs.Steps.{MakesQuietStep, moment}
+use Rattle.domain_script.specs.LaneKinds.{disk_lane}
+use Rattle.domain_script.specs.declared.fields.LaneKind.TheVariants as kinds
 use Rattle.ldom_world.proofs.Lifted.{both, counted_at, disk_within, disks_counted, disks_same_numbers, lift_disks, quiet_grows, quiet_step_at, same_at}
 use Rattle.ldom_world.proofs.kinds.disks.quiet_step.Goals as goal
 
@@ -20,19 +19,19 @@ quiet_step-requires-clause-agrees g c = counted_at c.world.inside.disks c.world.
 pub returns-clause-made : goal.returns-clause-made
 returns-clause-made g c =
     IfOk-weaker c.quiet_step.result
-    (λ (calm : Bool). MakesQuietStep WorldStep c.args.disk (end_of c.args.side) c.world.inside.disks c.args.journal.now.entries
-    c.quiet_step.new.journal.entries calm c.quiet_step.new.self)
-    (λ (calm : Bool). MakesQuietStep DomainStep c.args.disk (end_of c.args.side) c.args.world.now
-    c.args.journal.now.entries c.quiet_step.new.journal.entries calm ((λ (d : WorldState). both d c.world.inside.ports) c.quiet_step.new.self))
-    (λ calm made. quiet_step_at WorldStep OfLane (λ (d : WorldState). both d c.world.inside.ports) (lift_disks c.world.inside.ports)
+    (λ (calm : Bool). MakesQuietStep WorldStep (disk_lane c.args.disk) (end_of c.args.side)
+    (moment c.world.inside.disks c.args.journal.now.entries) calm (moment c.quiet_step.new.self c.quiet_step.new.journal.entries))
+    (λ (calm : Bool). MakesQuietStep DomainStep (disk_lane c.args.disk) (end_of c.args.side)
+    (moment c.args.world.now c.args.journal.now.entries) calm (moment (both c.quiet_step.new.self c.world.inside.ports) c.quiet_step.new.journal.entries))
+    (λ calm made. quiet_step_at kinds.Disk WorldStep (λ (d : WorldState). both d c.world.inside.ports) (lift_disks c.world.inside.ports)
     c.world.inside.disks c.args.world.now c.world.view_is
-    entry_of is_calm (IsStep (end_of c.args.side)) c.args.disk c.quiet_step.new.self c.args.journal.now.entries c.quiet_step.new.journal.entries calm made)
+    (end_of c.args.side) c.args.disk c.quiet_step.new.self c.args.journal.now.entries c.quiet_step.new.journal.entries calm made)
     c.quiet_step.ensures.made
 
 pub returns-clause-same : goal.returns-clause-same
 returns-clause-same g c =
     on_err_weaker c.quiet_step.result
-    (λ same. same_at WorldStep OfLane (λ (d : WorldState). both d c.world.inside.ports) (lift_disks c.world.inside.ports)
+    (λ same. same_at kinds.Disk WorldStep (λ (d : WorldState). both d c.world.inside.ports) (lift_disks c.world.inside.ports)
     c.world.inside.disks c.args.world.now c.world.view_is
     c.quiet_step.new.self c.args.journal.now.entries c.quiet_step.new.journal.entries same) c.quiet_step.ensures.same
 

@@ -1,9 +1,8 @@
 use Rattle.recorded_lanes.specs.world_parts.world_laws.World.{WorldState, WorldStep}
-use Rattle.recorded_lanes.specs.world_parts.world_laws.Settle.{OfLane}
 use Rattle.recorded_lanes.specs.ldom_report.LaneEvents.{end_of}
 use Rattle.std.proofs.lemmas.Result.{on_err_weaker, on_ok_weaker}
-use Rattle.recorded_lanes.specs.world_parts.lane_laws.CalmEnds.{IsStep}
 use Rattle.recorded_lanes.specs.world_parts.domain_laws.Lines.{Nothing}
+use Rattle.domain_script.specs.declared.fields.LaneKind.TheVariants as kinds
 use Rattle.ldom_world.proofs.Lifted.{adds_grow, both, counted_at, disk_within, disks_counted, disks_same_numbers, grows_by, lift_disks, same_at, same_grows, step_at}
 use Rattle.ldom_world.proofs.kinds.disks.step.Goals as goal
 
@@ -16,14 +15,14 @@ step-requires-clause-agrees g c = counted_at c.world.inside.disks c.world.inside
 pub returns-clause-made : goal.returns-clause-made
 returns-clause-made g c =
     on_ok_weaker c.step.result
-    (λ made. step_at WorldStep OfLane (λ (d : WorldState). both d c.world.inside.ports) (lift_disks c.world.inside.ports)
+    (λ made. step_at kinds.Disk WorldStep (λ (d : WorldState). both d c.world.inside.ports) (lift_disks c.world.inside.ports)
     c.world.inside.disks c.args.world.now c.world.view_is
-    (IsStep (end_of c.args.side)) c.args.disk c.step.new.self c.args.journal.now.entries c.step.new.journal.entries made) c.step.ensures.made
+    (end_of c.args.side) c.args.disk c.step.new.self c.args.journal.now.entries c.step.new.journal.entries made) c.step.ensures.made
 
 pub returns-clause-same : goal.returns-clause-same
 returns-clause-same g c =
     on_err_weaker c.step.result
-    (λ same. same_at WorldStep OfLane (λ (d : WorldState). both d c.world.inside.ports) (lift_disks c.world.inside.ports)
+    (λ same. same_at kinds.Disk WorldStep (λ (d : WorldState). both d c.world.inside.ports) (lift_disks c.world.inside.ports)
     c.world.inside.disks c.args.world.now c.world.view_is
     c.step.new.self c.args.journal.now.entries c.step.new.journal.entries same) c.step.ensures.same
 

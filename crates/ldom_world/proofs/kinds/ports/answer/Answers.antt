@@ -1,11 +1,11 @@
 use Rattle.std.proofs.Common.{List}
 use Rattle.recorded_lanes.specs.world_parts.domain_laws.Domain.{PortsStep}
 use Rattle.recorded_lanes.specs.world_parts.port_model.PortState.{PortState}
-use Rattle.recorded_lanes.specs.world_parts.world_laws.Settle.{OfPort}
 use Rattle.std.proofs.Common.{refl}
 use Rattle.std.proofs.lemmas.Result.{on_err_weaker, on_ok_weaker}
 use Rattle.recorded_lanes.specs.world_parts.domain_laws.Lines.{AnswersPortCall, Calls, PortLane}
 use Rattle.recorded_lanes.specs.Called.{call_of}
+use Rattle.domain_script.specs.declared.fields.LaneKind.TheVariants as kinds
 use Rattle.ldom_world.proofs.Lifted.{answer_fits, both, given_at, lift_ports, nothing_begun, port_within, ports_counted}
 use Rattle.ldom_world.proofs.kinds.ports.answer.Goals as goal
 
@@ -18,7 +18,7 @@ answer_call-requires-clause-agrees g c = given_at c.world.inside.disks c.world.i
 pub returns-clause-fits : goal.returns-clause-fits
 returns-clause-fits g c =
     on_ok_weaker c.answer_call.result
-    (λ made. answer_fits PortsStep OfPort (λ (d : List PortState). both c.world.inside.disks d) (lift_ports c.world.inside.disks)
+    (λ made. answer_fits kinds.Port PortsStep (λ (d : List PortState). both c.world.inside.disks d) (lift_ports c.world.inside.disks)
     c.world.inside.ports c.args.world.now c.world.view_is
     (Calls (PortLane c.args.port) (call_of c.args.call)) c.args.port (AnswersPortCall (call_of c.args.call)) c.answer_call.new.self c.args.journal.now.entries c.answer_call.new.journal.entries
     (λ event answers. record { event = event; answers = answers; is = refl }) made) c.answer_call.ensures.made
@@ -26,7 +26,7 @@ returns-clause-fits g c =
 pub returns-clause-so_far : goal.returns-clause-so_far
 returns-clause-so_far g c =
     on_err_weaker c.answer_call.result
-    (λ same. nothing_begun PortsStep OfPort (λ (d : List PortState). both c.world.inside.disks d) (lift_ports c.world.inside.disks)
+    (λ same. nothing_begun kinds.Port PortsStep (λ (d : List PortState). both c.world.inside.disks d) (lift_ports c.world.inside.disks)
     c.world.inside.ports c.args.world.now c.world.view_is
     (Calls (PortLane c.args.port) (call_of c.args.call)) c.args.port (AnswersPortCall (call_of c.args.call)) c.answer_call.new.self c.args.journal.now.entries c.answer_call.new.journal.entries refl same) c.answer_call.ensures.same
 

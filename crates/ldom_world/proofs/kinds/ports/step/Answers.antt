@@ -1,10 +1,9 @@
 use Rattle.std.proofs.Common.{List}
 use Rattle.recorded_lanes.specs.world_parts.domain_laws.Domain.{PortsStep}
 use Rattle.recorded_lanes.specs.world_parts.port_model.PortState.{PortState}
-use Rattle.recorded_lanes.specs.world_parts.world_laws.Settle.{OfPort}
 use Rattle.recorded_lanes.specs.ldom_report.LaneEvents.{end_of}
 use Rattle.std.proofs.lemmas.Result.{on_err_weaker, on_ok_weaker}
-use Rattle.recorded_lanes.specs.world_parts.switch_laws.Ports.{IsStepOf}
+use Rattle.domain_script.specs.declared.fields.LaneKind.TheVariants as kinds
 use Rattle.ldom_world.proofs.Lifted.{both, given_at, lift_ports, port_within, ports_counted, ports_same_numbers, same_at, step_at}
 use Rattle.ldom_world.proofs.kinds.ports.step.Goals as goal
 
@@ -17,14 +16,14 @@ step-requires-clause-agrees g c = given_at c.world.inside.disks c.world.inside.p
 pub returns-clause-made : goal.returns-clause-made
 returns-clause-made g c =
     on_ok_weaker c.step.result
-    (λ made. step_at PortsStep OfPort (λ (d : List PortState). both c.world.inside.disks d) (lift_ports c.world.inside.disks)
+    (λ made. step_at kinds.Port PortsStep (λ (d : List PortState). both c.world.inside.disks d) (lift_ports c.world.inside.disks)
     c.world.inside.ports c.args.world.now c.world.view_is
-    (IsStepOf (end_of c.args.side)) c.args.port c.step.new.self c.args.journal.now.entries c.step.new.journal.entries made) c.step.ensures.made
+    (end_of c.args.side) c.args.port c.step.new.self c.args.journal.now.entries c.step.new.journal.entries made) c.step.ensures.made
 
 pub returns-clause-same : goal.returns-clause-same
 returns-clause-same g c =
     on_err_weaker c.step.result
-    (λ same. same_at PortsStep OfPort (λ (d : List PortState). both c.world.inside.disks d) (lift_ports c.world.inside.disks)
+    (λ same. same_at kinds.Port PortsStep (λ (d : List PortState). both c.world.inside.disks d) (lift_ports c.world.inside.disks)
     c.world.inside.ports c.args.world.now c.world.view_is
     c.step.new.self c.args.journal.now.entries c.step.new.journal.entries same) c.step.ensures.same
 

@@ -4,7 +4,7 @@ use Rattle.recorded_lanes.specs.world_parts.domain_laws.Lines.{Calls}
 use Rattle.domain_script.specs.declared.fields.LaneKind.{LaneKind}
 use Rattle.recorded_lanes.specs.Called.{call_of}
 use Rattle.ldom_world.proofs.world.World.call_on.Goals as goal
-use Rattle.recorded_lanes.specs.world_parts.Lines.{of_kind}
+use Rattle.recorded_lanes.specs.world_parts.WorldKinds.{of_kind}
 use Rattle.recorded_lanes.specs.world_parts.Parts.{Fits, FitsSoFar}
 
 pub returns-in-Disk-clause-fits : goal.returns-in-Disk-clause-fits

@@ -1,8 +1,8 @@
 use Rattle.recorded_lanes.specs.world_parts.world_laws.World.{WorldState, WorldStep}
-use Rattle.recorded_lanes.specs.world_parts.world_laws.Settle.{OfLane}
 use Rattle.std.proofs.Common.{refl}
 use Rattle.std.proofs.lemmas.Result.{on_err_weaker, on_ok_weaker}
 use Rattle.recorded_lanes.specs.world_parts.domain_laws.Lines.{AnswersRequest, Asked}
+use Rattle.domain_script.specs.declared.fields.LaneKind.TheVariants as kinds
 use Rattle.ldom_world.proofs.Lifted.{adds_grow, answer_fits, both, counted_at, disk_within, disks_counted, grows_by, lift_disks, nothing_begun, same_grows}
 use Rattle.ldom_world.proofs.world.World.issue.Goals as goal
 
@@ -15,7 +15,7 @@ issue-requires-clause-agrees g c = counted_at c.self.inside.disks c.self.inside.
 pub returns-clause-fits : goal.returns-clause-fits
 returns-clause-fits g c =
     on_ok_weaker c.issue.result
-    (λ made. answer_fits WorldStep OfLane (λ (d : WorldState). both d c.self.inside.ports) (lift_disks c.self.inside.ports)
+    (λ made. answer_fits kinds.Disk WorldStep (λ (d : WorldState). both d c.self.inside.ports) (lift_disks c.self.inside.ports)
     c.self.inside.disks c.args.self.now c.self.view_is
     (Asked c.args.disk c.args.request.now) c.args.disk (AnswersRequest c.args.request.now) c.issue.new.self c.args.journal.now.entries c.issue.new.journal.entries
     (λ event answers. record { event = event; answers = answers; is = refl }) made) c.issue.ensures.made
@@ -23,7 +23,7 @@ returns-clause-fits g c =
 pub returns-clause-so_far : goal.returns-clause-so_far
 returns-clause-so_far g c =
     on_err_weaker c.issue.result
-    (λ same. nothing_begun WorldStep OfLane (λ (d : WorldState). both d c.self.inside.ports) (lift_disks c.self.inside.ports)
+    (λ same. nothing_begun kinds.Disk WorldStep (λ (d : WorldState). both d c.self.inside.ports) (lift_disks c.self.inside.ports)
     c.self.inside.disks c.args.self.now c.self.view_is
     (Asked c.args.disk c.args.request.now) c.args.disk (AnswersRequest c.args.request.now) c.issue.new.self c.args.journal.now.entries c.issue.new.journal.entries refl same) c.issue.ensures.same
 

@@ -1,10 +1,10 @@
 use Rattle.std.proofs.Common.{List}
 use Rattle.recorded_lanes.specs.world_parts.domain_laws.Domain.{PortsStep}
 use Rattle.recorded_lanes.specs.world_parts.port_model.PortState.{PortState}
-use Rattle.recorded_lanes.specs.world_parts.world_laws.Settle.{OfPort}
 use Rattle.std.proofs.Common.{refl}
 use Rattle.std.proofs.lemmas.Result.{on_err_weaker, on_ok_weaker}
 use Rattle.recorded_lanes.specs.world_parts.domain_laws.Lines.{AnswersFrame, Sends}
+use Rattle.domain_script.specs.declared.fields.LaneKind.TheVariants as kinds
 use Rattle.ldom_world.proofs.Lifted.{answer_fits, both, given_at, lift_ports, nothing_begun, port_within, ports_counted}
 use Rattle.ldom_world.proofs.world.World.send.Goals as goal
 
@@ -17,7 +17,7 @@ send-requires-clause-agrees g c = given_at c.self.inside.disks c.self.inside.por
 pub returns-clause-fits : goal.returns-clause-fits
 returns-clause-fits g c =
     on_ok_weaker c.send.result
-    (λ made. answer_fits PortsStep OfPort (λ (d : List PortState). both c.self.inside.disks d) (lift_ports c.self.inside.disks)
+    (λ made. answer_fits kinds.Port PortsStep (λ (d : List PortState). both c.self.inside.disks d) (lift_ports c.self.inside.disks)
     c.self.inside.ports c.args.self.now c.self.view_is
     (Sends c.args.port c.args.frame.now) c.args.port (AnswersFrame c.args.frame.now) c.send.new.self c.args.journal.now.entries c.send.new.journal.entries
     (λ event answers. record { event = event; answers = answers; is = refl }) made) c.send.ensures.made
@@ -25,7 +25,7 @@ returns-clause-fits g c =
 pub returns-clause-so_far : goal.returns-clause-so_far
 returns-clause-so_far g c =
     on_err_weaker c.send.result
-    (λ same. nothing_begun PortsStep OfPort (λ (d : List PortState). both c.self.inside.disks d) (lift_ports c.self.inside.disks)
+    (λ same. nothing_begun kinds.Port PortsStep (λ (d : List PortState). both c.self.inside.disks d) (lift_ports c.self.inside.disks)
     c.self.inside.ports c.args.self.now c.self.view_is
     (Sends c.args.port c.args.frame.now) c.args.port (AnswersFrame c.args.frame.now) c.send.new.self c.args.journal.now.entries c.send.new.journal.entries refl same) c.send.ensures.same
 
