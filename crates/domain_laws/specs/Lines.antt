@@ -30,6 +30,7 @@ use Rattle.domain_laws.specs.Domain.{DomainState, DomainStep, Lanes, lanes, lane
 pub data LaneName : Type 0 where
   DiskLane : (number : ℕ) → LaneName
   PortLane : (number : ℕ) → LaneName
+  ConsoleLane : (number : ℕ) → LaneName
 
 -- what a script may do to a lane, beside asking and stepping it
 pub data Call : Type 0 where

@@ -1,5 +1,5 @@
 -- What a script may declare.
-use Rattle.std.specs.Prelude.{◌≡◌, ℕ, ◌≤◌, ◌^◌, List, length, map}
+use Rattle.std.specs.Prelude.{◌≡◌, ℕ, ◌≤◌, ◌^◌, List, [], length, map}
 use Rattle.domain_script.specs.declared.event.DiskDecl.{DiskDecl}
 use Rattle.domain_script.specs.declared.event.PortDecl.{PortDecl}
 use Rattle.domain_script.specs.declared.fields.LaneKind.{LaneKind}
@@ -64,6 +64,7 @@ pub record KindDeclared : Type 1 where
 abbrev pub declared_as : LaneKind → KindDeclared
 declared_as lanes.Disk = record { place = 0; Decl = DiskDecl; among = λ all. all.disks; name = λ disk. disk.name }
 declared_as lanes.Port = record { place = 1; Decl = PortDecl; among = λ all. all.ports; name = λ port. port.name }
+declared_as lanes.Console = record { place = 2; Decl = ⊥; among = λ all. []; name = λ decl. absurd decl }
 
 -- how many of a kind, and their names
 abbrev pub number_of_kind : LaneKind → Declared → ℕ

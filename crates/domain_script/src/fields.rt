@@ -5,6 +5,7 @@ use script_words::numbers::Bounds;
 pub enum LaneKind {
     Disk,
     Port,
+    Console,
 }
 
 /// The ends that a line may name.

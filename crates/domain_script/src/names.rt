@@ -113,6 +113,7 @@ impl Names {
         match lane.kind {
             LaneKind::Disk => Some(self.disk(lane.number)?.name),
             LaneKind::Port => Some(self.port(lane.number)?.name),
+            LaneKind::Console => None,
         }
     }
 
@@ -146,6 +147,7 @@ impl Names {
         match kind {
             LaneKind::Disk => self.disk_count,
             LaneKind::Port => self.port_count,
+            LaneKind::Console => 0,
         }
     }
 

@@ -18,6 +18,7 @@ use Rattle.ldc_queue.specs.declared.end.End.TheVariants.{A, B}
 use Rattle.ldom_entries.specs.declared.entry.Entry.{Entry}
 use Rattle.recorded_lanes.proofs.Adding.{both_add}
 use Rattle.ldom_world.proofs.Growing.{also_grew, both_grew, none_grew}
+use Rattle.ldom_world.proofs.ConsoleLaws.{console_laws}
 use Rattle.ldom_world.proofs.KindLaws.{KindLaws, disk_laws, port_laws}
 use Rattle.ldom_world.specs.SettleParts.{Grew, LaneNamesAdd, LaneTicksAdd, LaneTicksAddFront, LaneTicksBegun, LanesAdd, LanesAddFront, LanesBegun, LanesMade, LanesNamed, LanesTicked, MakesQuiet, NamesGoOn, OneTicked, RoundBreaks, RoundGoesOn, TicksGoOn}
 use Rattle.recorded_lanes.specs.world_parts.WorldKinds.{in_world, left_by}
@@ -29,6 +30,7 @@ use Rattle.recorded_lanes.specs.world_parts.Parts.{Adds}
 pub laws : (kind : LaneKind) → KindLaws kind
 laws kinds.Disk = disk_laws
 laws kinds.Port = port_laws
+laws kinds.Console = console_laws
 
 module _ (kind : LaneKind) where
   abbrev Lane : Type 0

@@ -4,6 +4,7 @@ pub mod Turning
 pub mod Declaring
 pub mod Growing
 pub mod KindLaws
+pub mod ConsoleLaws
 pub mod KindAdding
 pub mod SettlingAdds
 pub mod SettlingLanes

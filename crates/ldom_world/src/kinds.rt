@@ -12,6 +12,7 @@ ghost use Rattle.recorded_lanes.specs.world_parts.WorldKinds.{in_world};
 ghost use Rattle.recorded_lanes.specs.world_parts.Lines.{HasMemory, IsLaneOf, lane_named, number_of_kind};
 ghost use Rattle.recorded_lanes.specs.world_parts.Parts.{Fits, FitsSoFar};
 
+mod consoles;
 pub(crate) mod disks;
 pub(crate) mod ports;
 
@@ -27,6 +28,7 @@ macro_rules! of_kind {
         match $kind {
             LaneKind::Disk => disks::$function($($word),*),
             LaneKind::Port => ports::$function($($word),*),
+            LaneKind::Console => consoles::$function($($word),*),
         }
     };
 }

@@ -15,9 +15,11 @@ use Rattle.world_laws.specs.Rounds.{LaneRound}
 pub data SettleEntry : Type 0 where
   OfLane : (lane : ℕ) (event : DiskEvent) → SettleEntry
   OfPort : (port : ℕ) (event : SwitchEvent) → SettleEntry
+  OfConsole : (console byte : ℕ) → SettleEntry
   Settled : SettleEntry
   Unsettled : (lane : ℕ) → SettleEntry
   UnsettledPort : (port : ℕ) → SettleEntry
+  UnsettledConsole : (console : ℕ) → SettleEntry
 
 abbrev pub disk_entries : Entries DiskEvent SettleEntry
 disk_entries = record { of_lane = OfLane; left_over = Unsettled; settled = Settled }

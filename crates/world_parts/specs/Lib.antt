@@ -1,4 +1,5 @@
 pub mod WorldEvents
+pub mod Consoles
 pub mod WorldKinds
 pub mod Parts
 pub mod Declared
