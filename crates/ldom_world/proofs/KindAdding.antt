@@ -1,7 +1,7 @@
 -- The lanes of a kind in a settle: each adds its own entries to the journal after those of the lanes before.
-use Rattle.std.proofs.Common.{◌≡◌, ℕ, ◌+◌, ◌<◌, ◌≤◌, Bool, false, Some, List, [], ◌∷◌, ◌++◌, length, slice_get, slice_set, refl, sym, subst, arith}
+use Rattle.std.proofs.Common.{◌≡◌, ℕ, ◌+◌, ◌<◌, ◌≤◌, Bool, false, Some, List, ◌++◌, length, slice_get, slice_set, refl, sym, subst, arith}
 use Rattle.std.specs.Prelude.{◌&&◌, ◌||◌}
-use Rattle.recorded_lanes.specs.world_parts.domain_laws.Domain.{DomainState, DomainStep}
+use Rattle.recorded_lanes.specs.world_parts.domain_laws.Domain.{DomainState}
 use Rattle.recorded_lanes.specs.world_parts.domain_laws.Lines as script
 use Rattle.domain_script.specs.declared.fields.LaneKind.{LaneKind}
 use Rattle.domain_script.specs.declared.fields.LaneKind.TheVariants as kinds
@@ -21,7 +21,7 @@ use Rattle.ldom_world.proofs.Growing.{also_grew, both_grew, none_grew}
 use Rattle.ldom_world.proofs.ConsoleLaws.{console_laws}
 use Rattle.ldom_world.proofs.KindLaws.{KindLaws, disk_laws, port_laws}
 use Rattle.ldom_world.specs.SettleParts.{Grew, LaneNamesAdd, LaneTicksAdd, LaneTicksAddFront, LaneTicksBegun, LanesAdd, LanesAddFront, LanesBegun, LanesMade, LanesNamed, LanesTicked, MakesQuiet, NamesGoOn, OneTicked, RoundBreaks, RoundGoesOn, TicksGoOn}
-use Rattle.recorded_lanes.specs.world_parts.WorldKinds.{in_world, left_by}
+use Rattle.recorded_lanes.specs.world_parts.WorldKinds.{entry_at, in_world, left_by}
 use Rattle.recorded_lanes.specs.world_parts.world_laws.Settle.{SettleEntry}
 use Rattle.recorded_lanes.specs.world_parts.Lines.{number_of_kind}
 use Rattle.recorded_lanes.specs.world_parts.Parts.{Adds}
@@ -57,7 +57,13 @@ module _ (kind : LaneKind) where
   end_made : (k : ℕ) (e : End) (w v : Moment DomainState) (calm : Bool) (step : MakesQuiet (lane_at kind k) e w calm v)
       → EndMade k e w.world calm v.world (left_by (lane_at kind k) step.event)
   end_made k e w v calm step =
-      record { event = step.event; of_end = step.of_end; moves = step.moves; leaves = refl; rests = step.calm_is }
+      record {
+        event = step.event;
+        of_end = step.of_end;
+        moves = (laws kind).steps w.world (entry_at (lane_at kind k) step.event) v.world step.moves;
+        leaves = refl;
+        rests = step.calm_is;
+      }
 
   end_grew : (k : ℕ) (e : End) (w v : Moment DomainState) (calm : Bool) → MakesQuiet (lane_at kind k) e w calm v
       → Grew (EndMade k e w.world calm v.world) w.journal v.journal

@@ -28,6 +28,8 @@ use Rattle.ldom_world.specs.SettleParts.{OneTicked}
 -- settle, and a call for a tick that gives one is that; and what the name of a lane says that is left over
 pub record KindLaws (kind : LaneKind) : Type 0 where
   pub runs : KindRuns (in_world kind)
+  -- what a step of the world is to the kind
+  pub steps : (w : DomainState) (x : SettleEntry) (v : DomainState) → DomainStep w x v → (in_world kind).Step w x v
   pub turn : (one two : (in_world kind).Event) → (in_world kind).IsStep A one → (in_world kind).IsStep B two
       → (in_world kind).kind.IsTurn (one ∷ two ∷ [])
   pub begins : (one : (in_world kind).Event) → (in_world kind).IsStep A one → BeginsTurn (in_world kind).kind (one ∷ [])
@@ -77,6 +79,7 @@ port_ticked k had w v s entries there gets one run =
 pub disk_laws : KindLaws kinds.Disk
 disk_laws = record {
   runs = disk_runs;
+  steps = λ w x v step. step;
   turn = disk_turn;
   begins = disk_begins;
   calm_is_none = disk_calm;
@@ -87,6 +90,7 @@ disk_laws = record {
 pub port_laws : KindLaws kinds.Port
 port_laws = record {
   runs = port_runs;
+  steps = λ w x v step. step;
   turn = port_turn;
   begins = port_begins;
   calm_is_none = port_calm;

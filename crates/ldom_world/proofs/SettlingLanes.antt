@@ -9,13 +9,11 @@ use Rattle.recorded_lanes.specs.world_parts.port_model.PortState.{PortState}
 use Rattle.domain_script.specs.LaneKinds.{lane_at}
 use Rattle.domain_script.specs.declared.event.Lane.{Lane}
 use Rattle.domain_script.specs.declared.fields.LaneKind.{LaneKind}
-use Rattle.domain_script.specs.declared.fields.LaneKind.TheVariants as kinds
 use Rattle.lane_kinds.proofs.Places.{after_one, get_within, set_same, take_set_one}
 use Rattle.lane_kinds.specs.Lanes.{gets_tick}
 use Rattle.lane_kinds.specs.LanesMade.{all_true, name_of}
 use Rattle.ldom_entries.specs.declared.entry.Entry.{Entry}
 use Rattle.ldom_entries.specs.declared.entry.Entry.TheVariants as entry
-use Rattle.ldom_entries.specs.declared.entry.Who.{Who}
 use Rattle.ldom_entries.specs.declared.entry.Who.TheVariants.{Lane as OfWhole, End as OfEnd}
 use Rattle.recorded_lanes.specs.ldom_report.LaneEvents.{ChangesNothing, Meaning, NoRoomFor, Refuses, meaning}
 use Rattle.recorded_lanes.specs.ldom_report.Report.{accepted_count, is_accepted}
