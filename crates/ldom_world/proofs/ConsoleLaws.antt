@@ -5,6 +5,7 @@ use Rattle.ldom_world.proofs.KindLaws.{KindLaws}
 
 pub console_laws : KindLaws kinds.Console
 console_laws = record {
+  steps = λ w x v step. step;
   runs = record {
     entry = λ w k event v step. absurd event;
     stays = λ w k event v step. absurd event;
