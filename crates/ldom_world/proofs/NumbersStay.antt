@@ -7,6 +7,7 @@ use Rattle.domain_script.specs.declared.fields.LaneKind.TheVariants as kinds
 use Rattle.ldom_entries.specs.declared.entry.Entry.{Entry}
 use Rattle.recorded_lanes.proofs.Lifting.{many_same}
 use Rattle.recorded_lanes.proofs.world_parts.domain_laws.Running.{disks_run, ports_many, ports_run}
+use Rattle.recorded_lanes.specs.world_parts.Lines.{number_of_kind}
 use Rattle.recorded_lanes.specs.world_parts.Parts.{Fits, FitsSoFar}
 use Rattle.recorded_lanes.specs.world_parts.WorldKinds.{in_world}
 use Rattle.recorded_lanes.specs.world_parts.domain_laws.Domain.{DomainState, DomainStep}
@@ -48,3 +49,8 @@ pub none_in_world : (kind : LaneKind) (w : DomainState) → kind ≢ kinds.Disk 
     → (in_world kind).lanes w ≡ []
 none_in_world kinds.Disk w disk port = absurd (disk refl)
 none_in_world _ w disk port = grind arith
+
+-- AS MANY LANES of a kind as before, where there are as many disks and as many ports
+pub numbers_stay : (kind : LaneKind) (w v : DomainState) → SameNumbers w v → number_of_kind kind v ≡ number_of_kind kind w
+numbers_stay kinds.Disk w v many = many.disks
+numbers_stay _ w v many = grind (arith, many.ports)

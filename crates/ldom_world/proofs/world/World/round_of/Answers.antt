@@ -1,5 +1,6 @@
-use Rattle.std.proofs.Common.{rules}
+use Rattle.std.proofs.Common.{arith, rules}
 use Rattle.ldom_world.proofs.Lifted.{both_numbers}
+use Rattle.ldom_world.proofs.NumbersStay.{numbers_stay}
 use Rattle.ldom_world.proofs.SettlingLanes.{all_set}
 use Rattle.ldom_world.proofs.world.World.round_of.Goals as goal
 
@@ -15,3 +16,8 @@ loop-number-preserved g c =
       long = search rules;
       agrees = lane.agrees;
     }
+
+pub round_of_lane-requires-clause-lane : goal.round_of_lane-requires-clause-lane
+round_of_lane-requires-clause-lane g c =
+    let same = numbers_stay c.args.kind c.args.self.now c.loop-number.self c.loop-number.invariant.many in
+    omega (arith, same, c.count_of-number-end.ensures.count, c.loop-number-test.true)
