@@ -12,8 +12,8 @@ use Rattle.ldc_queue.specs.Numbered.{numbered}
 use Rattle.ldc_queue.specs.OneStream.{OneWay, live}
 use Rattle.ldc_queue.specs.Transcript.{Utterance, numbered_heard, numbered_said}
 use Rattle.vio_handshake.specs.declared.session.Offer.{Offer}
-use Rattle.channel_model.proofs.SameSayings.{heard_is, said_is}
-use Rattle.channel_model.specs.Sayings.{heard, said}
+use Rattle.channel_laws.proofs.SameSayings.{heard_is, said_is}
+use Rattle.channel_laws.specs.Sayings.{heard, said}
 use Rattle.channel_laws.proofs.HandshakePlaces.{deal, place_open}
 use Rattle.channel_laws.proofs.HandshakesPlaced.{Meets}
 use Rattle.channel_laws.proofs.Lifting.{BothStand}
@@ -44,14 +44,14 @@ pub record LinksUp (s : Sides) : Type 0 where
   pub mine : is_up s.mine.core.link ≡ true
   pub theirs : is_up s.theirs.core.link ≡ true
 
-links_up : (s : Sides) → LinksAt Initiator s → BothRest s → numbered_said s.mine.turns ≡ numbered_heard s.theirs.turns → LinksUp s
+links_up : (s : Sides) → LinksAt Initiator s → BothRest s → numbered_said s.mine.utterances ≡ numbered_heard s.theirs.utterances → LinksUp s
 links_up s at rest same = grind arith
 
 -- EACH HEARD ALL that the other said
 pub record HeardAll (s : Sides) : Type 0 where
   pub up : LinksUp s
-  pub to_theirs : said s.mine.turns ≡ heard s.theirs.turns
-  pub to_mine : said s.theirs.turns ≡ heard s.mine.turns
+  pub to_theirs : said s.mine.utterances ≡ heard s.theirs.utterances
+  pub to_mine : said s.theirs.utterances ≡ heard s.mine.utterances
 
 same_messages : (mine theirs : List Utterance) → numbered_said mine ≡ numbered_heard theirs → said mine ≡ heard theirs
 same_messages mine theirs same = said_is mine ∙ ap (λ (xs : List (List ℕ)). whole_in [] (fragments_in xs)) same ∙ sym (heard_is theirs)
@@ -59,15 +59,15 @@ same_messages mine theirs same = said_is mine ∙ ap (λ (xs : List (List ℕ)).
 pub heard_all : (s : Sides) → BothRest s → Converse Initiator s → LinksAt Initiator s → HeardAll s
 heard_all s rest converse links =
     let lost = converse.whole rest.whole in
-    let asked : numbered_said s.mine.turns ≡ numbered_heard s.theirs.turns =
-    sym (up_live s.mine.state (numbered_said s.mine.turns) rest.up)
-    ∙ all_heard (live s.mine.state (numbered_said s.mine.turns)) (live s.theirs.state (numbered_heard s.theirs.turns)) s.theirs.waiting converse.lost_theirs converse.stream.to_b
-    lost.1 rest.peer_waits ∙ up_live s.theirs.state (numbered_heard s.theirs.turns) rest.peer_up in
-    let answered : numbered_said s.theirs.turns ≡ numbered_heard s.mine.turns =
-    sym (up_live s.theirs.state (numbered_said s.theirs.turns) rest.peer_up)
-    ∙ all_heard (live s.theirs.state (numbered_said s.theirs.turns)) (live s.mine.state (numbered_heard s.mine.turns)) s.mine.waiting converse.lost_mine converse.stream.to_a
-    lost.0 rest.waits ∙ up_live s.mine.state (numbered_heard s.mine.turns) rest.up in
-    record { up = links_up s links rest asked; to_theirs = same_messages s.mine.turns s.theirs.turns asked; to_mine = same_messages s.theirs.turns s.mine.turns answered }
+    let asked : numbered_said s.mine.utterances ≡ numbered_heard s.theirs.utterances =
+    sym (up_live s.mine.state (numbered_said s.mine.utterances) rest.up)
+    ∙ all_heard (live s.mine.state (numbered_said s.mine.utterances)) (live s.theirs.state (numbered_heard s.theirs.utterances)) s.theirs.waiting converse.lost_theirs converse.stream.to_b
+    lost.1 rest.peer_waits ∙ up_live s.theirs.state (numbered_heard s.theirs.utterances) rest.peer_up in
+    let answered : numbered_said s.theirs.utterances ≡ numbered_heard s.mine.utterances =
+    sym (up_live s.theirs.state (numbered_said s.theirs.utterances) rest.peer_up)
+    ∙ all_heard (live s.theirs.state (numbered_said s.theirs.utterances)) (live s.mine.state (numbered_heard s.mine.utterances)) s.mine.waiting converse.lost_mine converse.stream.to_a
+    lost.0 rest.waits ∙ up_live s.mine.state (numbered_heard s.mine.utterances) rest.up in
+    record { up = links_up s links rest asked; to_theirs = same_messages s.mine.utterances s.theirs.utterances asked; to_mine = same_messages s.theirs.utterances s.mine.utterances answered }
 
 -- BOTH SESSIONS ARE OPEN
 pub rests_open : (asks answers : Offer) (s : Sides) → BothStand Initiator s → Meets asks answers Initiator s → BothRest s
@@ -78,5 +78,5 @@ rests_open asks answers s stand meets rest =
     let d = deal asks answers meets.handshakes.sid in
     let at = meets.handshakes.mine rest.up all.up.mine in
     let there = meets.handshakes.theirs rest.peer_up all.up.theirs in
-    let places = both_done both d s.mine.core.handshake s.theirs.core.handshake s.mine.turns s.theirs.turns at there rest.owed rest.peer_owed all.to_theirs all.to_mine in
-    (place_open both d Initiator s.mine.core s.mine.turns stand.mine at places.0, place_open both d Responder s.theirs.core s.theirs.turns stand.theirs there places.1)
+    let places = both_done both d s.mine.core.handshake s.theirs.core.handshake s.mine.utterances s.theirs.utterances at there rest.owed rest.peer_owed all.to_theirs all.to_mine in
+    (place_open both d Initiator s.mine.core s.mine.utterances stand.mine at places.0, place_open both d Responder s.theirs.core s.theirs.utterances stand.theirs there places.1)

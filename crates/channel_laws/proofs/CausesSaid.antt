@@ -21,10 +21,10 @@ use Rattle.vio_tag.specs.declared.message.TagFault.{TagFault}
 use Rattle.vio_tag.specs.Decoding.{Decodes}
 use Rattle.vio_tag.specs.Fault as message
 use Rattle.vio_tag.specs.Spelling.{SpellsMessage}
-use Rattle.channel_model.specs.Messages.{ended_by, whole_with}
-use Rattle.channel_model.specs.ResetSays.{MessageSays, PacketSays}
-use Rattle.channel_model.specs.Sayings.{count_heard, half_heard}
-use Rattle.channel_model.specs.WireAt.{GapOf, counts_next}
+use Rattle.channel_laws.specs.Messages.{ended_by, whole_with}
+use Rattle.channel_laws.specs.ResetSays.{MessageSays, PacketSays}
+use Rattle.channel_laws.specs.Sayings.{count_heard, half_heard}
+use Rattle.channel_laws.specs.WireAt.{GapOf, counts_next}
 use Rattle.channel_laws.proofs.LinkResets.{other_number}
 use Rattle.channel_laws.proofs.Resets.{by_message}
 use Rattle.channel_laws.proofs.UtteranceCases.{EndsBy}

@@ -20,7 +20,7 @@ use Rattle.ldc_queue.specs.QueueEvent.{Close, Join, Lose, Put, Take}
 use Rattle.ldc_queue.specs.QueueLog.{WaitsLongest, lost_behind, lost_past}
 use Rattle.ldc_queue.specs.Transcript.{Utterance}
 use Rattle.ldc_queue.specs.Wire.{peer_behind, queue_behind, upset}
-use Rattle.channel_model.specs.WireLog.{lossy_behind}
+use Rattle.channel_laws.specs.WireLog.{lossy_behind}
 use Rattle.channel_laws.proofs.Budgets.{anew_budget, budget_small, says_budget, stays_budget, waits_budget}
 use Rattle.channel_laws.proofs.EndCases.{PutControl, PutMore, PutOwn, PutReady, PutHandshake, PutWhat, end_put, end_took}
 use Rattle.channel_laws.proofs.EndStanding.{held_stands, stands_step}
@@ -72,9 +72,9 @@ stays_converse role s t stays c = goes_converse role s t (ap (λ (k : LinkState)
 pub held_phase : (c held : EndCore) (what : Holding) → Holds c what held → held.link.phase ≡ c.link.phase
 held_phase c held what is = grind arith
 
-pub waits_converse : (role : Role) (s : Sides) (t : EndCore) → EndStands role s.mine.core s.mine.turns → EndWaits s.mine.core t → Converse role s → Converse role (goes_on t s)
+pub waits_converse : (role : Role) (s : Sides) (t : EndCore) → EndStands role s.mine.core s.mine.utterances → EndWaits s.mine.core t → Converse role s → Converse role (goes_on t s)
 waits_converse role s t stands waits c =
-    goes_converse role s t (held_phase s.mine.core t waits.what waits.holds) (waits_budget role s.mine.core t s.mine.turns stands waits) c
+    goes_converse role s t (held_phase s.mine.core t waits.what waits.holds) (waits_budget role s.mine.core t s.mine.utterances stands waits) c
 
 -- IT PUTS a packet: an initiator comes nearer to the end of its link's handshake
 record PutAdvances (has_number : Bool) (before after : LinkPhase) : Type 0 where
@@ -113,10 +113,10 @@ put_advances held t turns packet opens stands (PutOwn own at link last handshake
 put_advances held t turns packet opens stands (PutHandshake own at link last handshake flag is_open) = part_advances held t packet link last.part
 
 put_left : (role : Role) (s : Sides) (held t : EndCore) (packet : List ℕ) (opens : Bool) → s.mine.state ≡ Up → held.link.phase ≡ s.mine.core.link.phase
-    → EndStands role held s.mine.turns → PutWhat role held s.mine.turns packet opens t
+    → EndStands role held s.mine.utterances → PutWhat role held s.mine.utterances packet opens t
     → (controls role (put packet t s) ≤ controls role s) × (controls (other role) (swapped (put packet t s)) ≤ controls (other role) (swapped s))
 put_left Initiator s held t packet opens up same stands what =
-    let advances = put_advances held t s.mine.turns packet opens stands what in
+    let advances = put_advances held t s.mine.utterances packet opens stands what in
     let puts = ap puts_left same in
     let takes = ap takes_left same in (
       omega (arith, up_takes s.mine.state t.link.phase up, up_takes s.mine.state s.mine.core.link.phase up, takes, advances.takes),
@@ -132,20 +132,20 @@ put_left Initiator s held t packet opens up same stands what =
 put_left Responder s held t packet opens up same stands what = (omega arith, omega arith)
 
 pub put_converse : (role : Role) (s : Sides) (t : EndCore) (packet : List ℕ) (opens : Bool) → s.mine.state ≡ Up → length s.theirs.waiting + 1 ≤ s.entries
-    → EndStands role s.mine.core s.mine.turns → EndSays role s.mine.core packet opens t → Converse role s → Converse role (put packet t s)
+    → EndStands role s.mine.core s.mine.utterances → EndSays role s.mine.core packet opens t → Converse role s → Converse role (put packet t s)
 put_converse role s t packet opens up room stands says c =
     let held : EndCore = says.held in
-    let stands_held = held_stands role s.mine.core held s.mine.turns says.what stands says.holds in
-    let counts = (puts_follow held.link s.mine.turns packet t.link stands_held.link.follows says.puts).0 in
+    let stands_held = held_stands role s.mine.core held s.mine.utterances says.what stands says.holds in
+    let counts = (puts_follow held.link s.mine.utterances packet t.link stands_held.link.follows says.puts).0 in
     let left = put_left role s held t packet opens up (held_phase s.mine.core held says.what says.holds) stands_held
-    (end_put role s.mine.core t s.mine.turns packet opens says stands_held) in
+    (end_put role s.mine.core t s.mine.utterances packet opens says stands_held) in
     let longer : length (s.theirs.waiting ++ packet ∷ []) ≡ length s.theirs.waiting + 1 = length-append s.theirs.waiting (packet ∷ []) in
     let lower : live_budget s.mine.state (budget t) + 1 ≤ live_budget s.mine.state (budget s.mine.core) =
     omega (
       arith,
       up_budget s.mine.state (budget t) up,
       up_budget s.mine.state (budget s.mine.core) up,
-      says_budget role s.mine.core t s.mine.turns packet opens stands says,
+      says_budget role s.mine.core t s.mine.utterances packet opens stands says,
     ) in
     record {
       entries = c.entries;
@@ -180,16 +180,16 @@ first_waits packet [] is = absurd (cc is)
 first_waits packet (one ∷ waiting) is = let same : one ≡ packet = cc is in ap (λ (x : List ℕ). x ∷ waiting) same
 
 pub took_converse : (role : Role) (s : Sides) (t : EndCore) (packet : List ℕ) (opens : Bool) → s.mine.state ≡ Up → slice_get s.mine.waiting 0 ≡ Some packet
-    → EndStands role s.mine.core s.mine.turns → EndStands (other role) s.theirs.core s.theirs.turns → EndHears role s.mine.core packet opens t → Converse role s
+    → EndStands role s.mine.core s.mine.utterances → EndStands (other role) s.theirs.core s.theirs.utterances → EndHears role s.mine.core packet opens t → Converse role s
     → Converse role (took packet t s)
 took_converse role s t packet opens up at_front stands peer_stands hears c =
     let first = first_waits packet s.mine.waiting at_front in
-    let took_so = end_took role s.mine.core t s.mine.turns packet opens stands hears in
-    let counts = (takes_follow s.mine.core.link s.mine.turns packet took_so.now stands.link.follows took_so.takes).0 in
+    let took_so = end_took role s.mine.core t s.mine.utterances packet opens stands hears in
+    let counts = (takes_follow s.mine.core.link s.mine.utterances packet took_so.now stands.link.follows took_so.takes).0 in
     let shorter = first_length packet s.mine.waiting first in
     let left = took_left role s t took_so.now packet up first stands.link.of_role took_so.how (ap (λ (k : LinkState). k.phase) took_so.link) in
-    let small = live_small s.mine.state (budget t) (budget_small role t _ (stands_step role s.mine.core (Hears packet opens) t s.mine.turns stands hears)) in
-    let their_small = live_small s.theirs.state (budget s.theirs.core) (budget_small (other role) s.theirs.core s.theirs.turns peer_stands) in
+    let small = live_small s.mine.state (budget t) (budget_small role t _ (stands_step role s.mine.core (Hears packet opens) t s.mine.utterances stands hears)) in
+    let their_small = live_small s.theirs.state (budget s.theirs.core) (budget_small (other role) s.theirs.core s.theirs.utterances peer_stands) in
     record {
       entries = c.entries;
       lost_mine = lost_past (numbered (packet ∷ [])) c.lost_mine;
@@ -272,11 +272,11 @@ whole_behind : (e : ChannelState) (lossy : Bool) (lost_mine lost_theirs : ℕ) �
     → (lost_behind e lost_mine ≡ 0) × (lost_behind e lost_theirs ≡ 0)
 whole_behind e lossy lost_mine lost_theirs whole full = grind arith
 
-pub anew_converse : (role : Role) (s : Sides) (t : EndCore) → EndStands (other role) s.theirs.core s.theirs.turns → EndAnew role s.mine.core t → Converse role s
+pub anew_converse : (role : Role) (s : Sides) (t : EndCore) → EndStands (other role) s.theirs.core s.theirs.utterances → EndAnew role s.mine.core t → Converse role s
     → Converse role (anew t s)
 anew_converse role s t peer_stands begins c =
     let one = anew_budget role s.mine.core t begins in
-    let their_small = budget_small (other role) s.theirs.core s.theirs.turns peer_stands in
+    let their_small = budget_small (other role) s.theirs.core s.theirs.utterances peer_stands in
     let left = anew_left role s t begins.link c.to_mine.left c.to_theirs.left in
     record {
       entries = c.entries;
@@ -301,10 +301,10 @@ anew_converse role s t peer_stands begins c =
 shut_left : (role : Role) (s : Sides) (t : EndCore) → (controls role (shut t s) ≤ 2) × (controls (other role) (swapped (shut t s)) ≤ 2)
 shut_left role s t = grind arith
 
-pub shut_converse : (role : Role) (s : Sides) (t : EndCore) → EndStands (other role) s.theirs.core s.theirs.turns → Converse role s → Converse role (shut t s)
+pub shut_converse : (role : Role) (s : Sides) (t : EndCore) → EndStands (other role) s.theirs.core s.theirs.utterances → Converse role s → Converse role (shut t s)
 shut_converse role s t peer_stands c =
     let left = shut_left role s t in
-    let small = live_small (upset s.theirs.state) (budget s.theirs.core) (budget_small (other role) s.theirs.core s.theirs.turns peer_stands) in
+    let small = live_small (upset s.theirs.state) (budget s.theirs.core) (budget_small (other role) s.theirs.core s.theirs.utterances peer_stands) in
     record {
       entries = c.entries;
       lost_mine = 0;

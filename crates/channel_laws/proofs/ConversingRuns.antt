@@ -24,10 +24,10 @@ use Rattle.ldc_queue.specs.Transcript as turn
 use Rattle.ldc_queue.specs.Transcript.{Utterance, numbered_heard, numbered_said}
 use Rattle.ldc_queue.specs.Wire.{peer_of}
 use Rattle.vio_handshake.specs.declared.session.Offer.{Offer}
-use Rattle.channel_model.proofs.SameSayings.{heard_is, said_is}
-use Rattle.channel_model.specs.Sayings.{heard, said}
-use Rattle.channel_model.specs.TranscriptLog.{TranscriptLog, nothing_said, transcript_of}
-use Rattle.channel_model.specs.WireAt.{IsUp}
+use Rattle.channel_laws.proofs.SameSayings.{heard_is, said_is}
+use Rattle.channel_laws.specs.Sayings.{heard, said}
+use Rattle.channel_laws.specs.TranscriptLog.{TranscriptLog, nothing_said, transcript_of}
+use Rattle.channel_laws.specs.WireAt.{IsUp}
 use Rattle.channel_laws.proofs.Conversations.{anew_converse, first_waits, missed_converse, put_converse, shut_converse, stays_converse, swap_converse, took_converse, waits_converse}
 use Rattle.channel_laws.proofs.FewLost.{below_turn}
 use Rattle.channel_laws.proofs.Lifting.{ActsKeep, CoreHolds, core_run}
@@ -89,31 +89,31 @@ nothing_front [] ys is = refl
 nothing_front (x ∷ xs) ys is = absurd (cc is)
 
 pub record HeardFrom (s : Sides) (now : List Utterance) : Type 0 where
-  pub front : IsFront (heard now) (said s.theirs.turns)
+  pub front : IsFront (heard now) (said s.theirs.utterances)
   pub none : (s.theirs.state ≡ Up → ⊥) → heard now ≡ []
 
-stream_hears : (s : Sides) (lost_mine lost_theirs : ℕ) → OneStream (queue_log s lost_mine lost_theirs) → s.mine.state ≡ Up → HeardFrom s s.mine.turns
+stream_hears : (s : Sides) (lost_mine lost_theirs : ℕ) → OneStream (queue_log s lost_mine lost_theirs) → s.mine.state ≡ Up → HeardFrom s s.mine.utterances
 stream_hears s lost_mine lost_theirs stream up = record {
-  front = messages_in_front s.mine.turns s.theirs.turns (heard_front (queue_log s lost_mine lost_theirs) A stream up);
+  front = messages_in_front s.mine.utterances s.theirs.utterances (heard_front (queue_log s lost_mine lost_theirs) A stream up);
   none = λ not.
       let way = stream.to_a in
-      let nothing : [] ≡ numbered_heard s.mine.turns ++ (way.gone ++ numbered s.mine.waiting) =
-      sym (none_live s.theirs.state (numbered_said s.theirs.turns) not) ∙ way.is
-      ∙ ap (λ (x : ChannelState). live x (numbered_heard s.mine.turns) ++ (way.gone ++ numbered s.mine.waiting)) up in
-      heard_is s.mine.turns ∙ ap (λ (xs : List (List ℕ)). whole_in [] (fragments_in xs)) (nothing_front (numbered_heard s.mine.turns) (way.gone ++ numbered s.mine.waiting) nothing);
+      let nothing : [] ≡ numbered_heard s.mine.utterances ++ (way.gone ++ numbered s.mine.waiting) =
+      sym (none_live s.theirs.state (numbered_said s.theirs.utterances) not) ∙ way.is
+      ∙ ap (λ (x : ChannelState). live x (numbered_heard s.mine.utterances) ++ (way.gone ++ numbered s.mine.waiting)) up in
+      heard_is s.mine.utterances ∙ ap (λ (xs : List (List ℕ)). whole_in [] (fragments_in xs)) (nothing_front (numbered_heard s.mine.utterances) (way.gone ++ numbered s.mine.waiting) nothing);
 }
 
-pub hears_now : (role : Role) (s : Sides) → Converse role s → s.mine.state ≡ Up → HeardFrom s s.mine.turns
+pub hears_now : (role : Role) (s : Sides) → Converse role s → s.mine.state ≡ Up → HeardFrom s s.mine.utterances
 hears_now role s c up = stream_hears s c.lost_mine c.lost_theirs c.stream up
 
 pub hears_next : (role : Role) (s : Sides) (packet : List ℕ) (m : LinkState) → Converse role s → s.mine.state ≡ Up → slice_get s.mine.waiting 0 ≡ Some packet
-    → Follows s.mine.core.link s.mine.turns → TakesBytes s.mine.core.link packet (Heard m) → HeardFrom s (turn.Heard packet ∷ s.mine.turns)
+    → Follows s.mine.core.link s.mine.utterances → TakesBytes s.mine.core.link packet (Heard m) → HeardFrom s (turn.Heard packet ∷ s.mine.utterances)
 hears_next role s packet m c up at_front follows takes =
     let first = first_waits packet s.mine.waiting at_front in
-    let counts = (takes_follow s.mine.core.link s.mine.turns packet m follows takes).0 in
+    let counts = (takes_follow s.mine.core.link s.mine.utterances packet m follows takes).0 in
     let stream = stream_step (queue_log s c.lost_mine c.lost_theirs) (Take A packet) (up, first, counts, λ one. below_turn _ _ _ _ _ _ c.to_mine.few) c.stream in
     let hears = stream_hears (took packet s.mine.core s) (lost_past (numbered (packet ∷ [])) c.lost_mine) c.lost_theirs stream up in
     record { front = hears.front; none = hears.none }
 
-pub unheard : (role : Role) (s : Sides) → Converse role s → s.mine.state ≡ Up → (s.theirs.state ≡ Up → ⊥) → heard s.mine.turns ≡ []
+pub unheard : (role : Role) (s : Sides) → Converse role s → s.mine.state ≡ Up → (s.theirs.state ≡ Up → ⊥) → heard s.mine.utterances ≡ []
 unheard role s c up not = (hears_now role s c up).none not

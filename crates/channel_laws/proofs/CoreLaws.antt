@@ -4,7 +4,7 @@ use Rattle.runs.specs.Lawful.{log_of}
 use Rattle.runs.specs.Run.{Run}
 use Rattle.ldc_link.specs.declared.phase.Role.TheVariants.{Initiator, Responder}
 use Rattle.vio_handshake.specs.declared.session.Offer.{Offer}
-use Rattle.channel_model.specs.Sayings.{heard}
+use Rattle.channel_laws.specs.Sayings.{heard}
 use Rattle.channel_laws.proofs.ConversingRuns.{converse_run}
 use Rattle.channel_laws.proofs.EndResting.{open_rests}
 use Rattle.channel_laws.proofs.EndUttering.{speaks_run}

@@ -8,9 +8,9 @@ use Rattle.ldc_queue.specs.declared.end.ChannelState.TheVariants.{Down, Resettin
 use Rattle.ldc_queue.specs.declared.end.End.{End}
 use Rattle.ldc_queue.specs.Wire.{state_of}
 use Rattle.vio_handshake.specs.declared.session.Offer.{Offer}
-use Rattle.channel_model.specs.TranscriptLog.{nothing_said}
-use Rattle.channel_model.specs.WireEvent.{WireEvent}
-use Rattle.channel_model.specs.WireLog.{WireLog, wire_moved}
+use Rattle.channel_laws.specs.TranscriptLog.{nothing_said}
+use Rattle.channel_laws.specs.WireEvent.{WireEvent}
+use Rattle.channel_laws.specs.WireLog.{WireLog, wire_moved}
 use Rattle.channel_laws.proofs.EndUttering.{EndSpeaks, speaks_step}
 use Rattle.channel_laws.proofs.Lifting.{ActsKeep, CoreHolds, EndsAll, core_step, ends_step}
 use Rattle.channel_laws.specs.CoreLog.{CoreLog, RoomStands, UpStands, after, nothing_yet}

@@ -22,8 +22,8 @@ use Rattle.vio_tag.specs.declared.message.TagFault.{TagFault}
 use Rattle.vio_tag.specs.Decoding.{Decodes}
 use Rattle.vio_tag.specs.Form.{IsWellFormed}
 use Rattle.vio_tag.specs.Spelling.{SpellsMessage}
-use Rattle.channel_model.specs.EndPuts.{ComesUp, EndsOwn, EndsHandshake, Goes as GoesOn, PutKind, ending, kind_in, put_opens, handshake_behind}
-use Rattle.channel_model.specs.Sayings.{heard}
+use Rattle.channel_laws.specs.EndPuts.{ComesUp, EndsOwn, EndsHandshake, Goes as GoesOn, PutKind, ending, kind_in, put_opens, handshake_behind}
+use Rattle.channel_laws.specs.Sayings.{heard}
 use Rattle.channel_laws.proofs.Apart.{true_is_false}
 use Rattle.channel_laws.proofs.HandshakeCases.{HandshakeTook, goes_took, never_opens, opens_took}
 use Rattle.channel_laws.proofs.LinkCases.{ControlGone, ControlHeard, ControlPut, ControlTaken, LinkHeard, LinkPut, PartGone, PartHeard, ReadyGone, ReadyHeard, behind_part, behind_ready, canonical_is, link_heard, link_put, put_quiet, ready_loud}

@@ -26,9 +26,9 @@ use Rattle.vio_handshake.specs.Messages.{info}
 use Rattle.vio_handshake.specs.Rules.{Faults, Goes, GoesOpen, HandshakeTake, handshake_sent, handshake_take}
 use Rattle.vio_handshake.specs.State.{begun, handshake_up, joined_handshake, next_sid, no_session}
 use Rattle.vio_handshake.proofs.PlaceRows.{GoesTo}
-use Rattle.channel_model.specs.Messages.{ended_by}
-use Rattle.channel_model.specs.Sayings.{half_heard, half_said, heard}
-use Rattle.channel_model.specs.TranscriptLog.{is_rdx}
+use Rattle.channel_laws.specs.Messages.{ended_by}
+use Rattle.channel_laws.specs.Sayings.{half_heard, half_said, heard}
+use Rattle.channel_laws.specs.TranscriptLog.{is_rdx}
 use Rattle.channel_laws.proofs.Apart.{false_is_true, true_is_false}
 use Rattle.channel_laws.proofs.Conversations.{held_phase}
 use Rattle.channel_laws.proofs.EndCases.{EndTook, NoMessage, PutControl, PutMore, PutOwn, PutReady, PutHandshake, PutWhat, Rises, TookHandshake, TookMessage, TookOwn, TookWhat, end_put, end_took}
@@ -44,7 +44,7 @@ use Rattle.channel_laws.specs.Cuts.{Carries}
 use Rattle.channel_laws.specs.EndCore.{Begins, EndCore, EndMove, Fails, Hears, Renews, Says, Stays, Waits, fresh_end}
 use Rattle.channel_laws.specs.EndFold.{EndFolds, behind_decoded, behind_heard, behind_said, decoded_of, down_with, handshake_of, is_of_session, moved_by, phase_heard, sent_unless, up_if, up_with}
 use Rattle.channel_laws.specs.EndStep.{EndBegins, EndHears, EndSays, EndStep, IsOfSession}
-use Rattle.channel_laws.specs.LaneCore.{CoreEvent, CoreFits, CoreStep, LaneCore, fresh_core, transcript_behind, turns_after}
+use Rattle.channel_laws.specs.LaneCore.{CoreEvent, CoreFits, CoreStep, LaneCore, fresh_core, transcript_behind, utterances_after}
 use Rattle.channel_laws.specs.Standing.{EndStands, IsShort, OwedIsShort}
 
 -- WHAT A LINK HEARS moves its phase by the packet's fields
@@ -267,7 +267,7 @@ begins_folds role c t turns stands begins = grind arith
 held_folds : (role : Role) (c t : EndCore) (turns : List Utterance) → EndFolds role c turns → t.link.phase ≡ c.link.phase → t.handshake ≡ c.handshake → t.offer ≡ c.offer → EndFolds role t turns
 held_folds role c t turns folds link handshake offer = search
 
-folds_move : (role : Role) (c : EndCore) (move : EndMove) (t : EndCore) (turns : List Utterance) → FoldsSo role c turns → EndStep role c move t → EndFolds role t (turns_after turns move)
+folds_move : (role : Role) (c : EndCore) (move : EndMove) (t : EndCore) (turns : List Utterance) → FoldsSo role c turns → EndStep role c move t → EndFolds role t (utterances_after turns move)
 folds_move role c Begins t turns so step = begins_folds role c t turns so.stands step
 folds_move Initiator c Renews t turns so step = record {
   phase = ap (λ (k : LinkState). k.phase) step.link;
@@ -285,7 +285,7 @@ folds_move role c Waits t turns so step =
     held_folds role c t turns so.folds (held_phase c t step.what step.holds) (held_handshake c t step.what step.holds) (held_offer c t step.what step.holds)
 folds_move role c Stays t turns so step = held_folds role c t turns so.folds (ap (λ (k : LinkState). k.phase) step.link) step.handshake step.offer
 
-folds_step : (role : Role) (c : EndCore) (move : EndMove) (t : EndCore) (turns : List Utterance) → FoldsSo role c turns → EndStep role c move t → FoldsSo role t (turns_after turns move)
+folds_step : (role : Role) (c : EndCore) (move : EndMove) (t : EndCore) (turns : List Utterance) → FoldsSo role c turns → EndStep role c move t → FoldsSo role t (utterances_after turns move)
 folds_step role c move t turns so step = record { stands = stands_step role c move t turns so.stands step; folds = folds_move role c move t turns so step }
 
 -- ALONG EVERY RUN

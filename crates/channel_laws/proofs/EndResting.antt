@@ -16,14 +16,14 @@ use Rattle.vio_tag.specs.declared.message.Message.{Message}
 use Rattle.vio_tag.specs.declared.message.MsgBody.TheVariants.{DringReg, Ver}
 use Rattle.vio_tag.specs.Form.{IsWellFormed}
 use Rattle.vio_tag.specs.Spelling.{SpellsMessage}
-use Rattle.channel_model.specs.Sayings.{heard}
+use Rattle.channel_laws.specs.Sayings.{heard}
 use Rattle.channel_laws.proofs.EndCases.{NoMessage, PutControl, PutMore, PutOwn, PutReady, PutHandshake, PutWhat, Rises, TookMessage, TookOwn, TookHandshake, TookWhat, end_put, end_took}
 use Rattle.channel_laws.proofs.EndStanding.{held_stands, stands_step}
 use Rattle.channel_laws.proofs.HandshakeCases.{AttributesAgreed, AttributesAsked, AttributesRefused, Declined, OneRingAgreed, Opened, Opens, Owes, OwnReadyFollows, PeerAgreed, ReadyAgreed, ReadyAsked, ReadyFollows, RingAgreed, RingAsked, RingFollows, RingRefused, RowSent, RowTaken, VersionAgreed, VersionAsked, VersionRefused, row_sent}
 use Rattle.channel_laws.specs.EndCore.{Begins, EndCore, EndMove, Fails, Hears, Renews, Says, Stays, Waits}
 use Rattle.channel_laws.specs.EndStep.{EndBegins, EndHears, EndSays, EndStep, Holding, Holds}
 use Rattle.channel_laws.specs.Grounds.{Among, OpenRests, OwnHeard, PeerHeard, RestsOn, RestsIn, VersionHeard, When, has_named, knows_own, knows_sid, knows_version}
-use Rattle.channel_laws.specs.LaneCore.{turns_after}
+use Rattle.channel_laws.specs.LaneCore.{utterances_after}
 use Rattle.channel_laws.specs.Standing.{EndStands}
 
 -- WHAT WAS HEARD before is heard still
@@ -268,7 +268,7 @@ says_rests role c t turns packet opens all says = by_what (end_put role c t turn
         (sent_rests role says.held.handshake (handshake_sent says.held.handshake) _ (heard turns) rests (row_sent says.held.handshake))
 
 rests_step : (role : Role) (c : EndCore) (move : EndMove) (t : EndCore) (turns : List Utterance) → StandsResting role c turns → EndStep role c move t
-    → RestsOn role t.handshake (heard (turns_after turns move))
+    → RestsOn role t.handshake (heard (utterances_after turns move))
 rests_step role c Begins t turns all step = begins_rests role c t turns all.stands step
 rests_step Initiator c Renews t turns all step =
     same_handshake Initiator (joined_handshake c.handshake) t.handshake [] step.handshake
@@ -282,7 +282,7 @@ rests_step role c Waits t turns all step = same_handshake role c.handshake t.han
 rests_step role c Stays t turns all step = same_handshake role c.handshake t.handshake (heard turns) step.handshake all.rests
 
 pub resting_step : (role : Role) (c : EndCore) (move : EndMove) (t : EndCore) (turns : List Utterance) → StandsResting role c turns → EndStep role c move t
-    → StandsResting role t (turns_after turns move)
+    → StandsResting role t (utterances_after turns move)
 resting_step role c move t turns all step = record { stands = stands_step role c move t turns all.stands step; rests = rests_step role c move t turns all step }
 
 -- AN OPEN SESSION

@@ -16,8 +16,8 @@ use Rattle.ldc_queue.specs.Transcript.{Utterance}
 use Rattle.vio_handshake.specs.declared.handshake.Handshake.{Handshake}
 use Rattle.vio_tag.specs.declared.message.Message.{Message}
 use Rattle.vio_tag.specs.Spelling.{canonical}
-use Rattle.channel_model.specs.EndPuts.{EndsHandshake, PutKind, put_opens}
-use Rattle.channel_model.specs.Sayings.{half_said}
+use Rattle.channel_laws.specs.EndPuts.{EndsHandshake, PutKind, put_opens}
+use Rattle.channel_laws.specs.Sayings.{half_said}
 use Rattle.vio_handshake.specs.Rules.{opens_by_put}
 use Rattle.channel_laws.proofs.Apart.{false_is_true, none_is_some, true_is_false}
 use Rattle.channel_laws.proofs.EndCases.{EndTook, NoMessage, Rises, TookHandshake, TookOwn, TookWhat, end_took, link_hears}

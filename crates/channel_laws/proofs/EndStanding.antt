@@ -24,7 +24,7 @@ use Rattle.vio_handshake.specs.Rules.{is_declined, opens_by_put, handshake_sent}
 use Rattle.vio_handshake.specs.State.{begun, joined_handshake, handshake_up}
 use Rattle.vio_tag.specs.declared.message.Message.{Message}
 use Rattle.vio_tag.specs.Spelling.{canonical}
-use Rattle.channel_model.specs.Sayings.{half_said}
+use Rattle.channel_laws.specs.Sayings.{half_said}
 use Rattle.channel_laws.proofs.Apart.{false_is_true, none_is_some, true_is_false}
 use Rattle.channel_laws.proofs.EndCases.{EndTook, NoMessage, PutControl, PutMore, PutOwn, PutReady, PutHandshake, PutWhat, Rises, TookOwn, TookHandshake, TookWhat, end_put, end_took, put_down}
 use Rattle.channel_laws.proofs.HandshakeCases.{RowSent, RowTaken, row_sent}
@@ -34,7 +34,7 @@ use Rattle.channel_laws.proofs.UtteranceCases.{SaysLast, SaysMore, SaysNothing}
 use Rattle.channel_laws.specs.Cuts.{Carries, Cuts, HoldsIts}
 use Rattle.channel_laws.specs.EndCore.{Begins, EndCore, EndMove, Fails, Hears, Renews, Says, Stays, Waits, fresh_end, holds}
 use Rattle.channel_laws.specs.EndStep.{EndBegins, EndHears, EndRenews, EndSays, EndStays, EndStep, Holding, Holds, HoldsOn, HoldsOwed, HoldsOwn, KeepsOwn}
-use Rattle.channel_laws.specs.LaneCore.{turns_after}
+use Rattle.channel_laws.specs.LaneCore.{utterances_after}
 use Rattle.channel_laws.specs.Standing.{EndStands, HandshakeStands, IsBelow, IsPhaseOf, LinkStands, OwedIsShort, is_open_in}
 
 -- WHAT IT HOLDS
@@ -368,7 +368,7 @@ says_stands role c t turns packet opens stands says = by_what (end_put role c t 
 
 -- EACH MOVE
 pub stands_step : (role : Role) (c : EndCore) (move : EndMove) (t : EndCore) (turns : List Utterance) → EndStands role c turns → EndStep role c move t
-    → EndStands role t (turns_after turns move)
+    → EndStands role t (utterances_after turns move)
 stands_step role c Begins t turns stands step = begins_stands role c t turns stands step
 stands_step role c Renews t turns stands step = renews_stands role c t turns stands step
 stands_step role c (Fails cause packet) t turns stands step = begins_stands role c t turns stands step.1

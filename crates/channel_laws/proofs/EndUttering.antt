@@ -20,7 +20,7 @@ use Rattle.vio_handshake.specs.State.{begun, joined_handshake, handshake_up}
 use Rattle.vio_tag.specs.declared.message.Message.{Message}
 use Rattle.vio_tag.specs.declared.message.MsgBody.{MsgBody}
 use Rattle.vio_tag.specs.declared.message.MsgBody.TheVariants.{Attr, DringReg, Rdx, Ver}
-use Rattle.channel_model.specs.Sayings.{half_said, said}
+use Rattle.channel_laws.specs.Sayings.{half_said, said}
 use Rattle.channel_laws.proofs.Apart.{false_is_true, not_taken}
 use Rattle.channel_laws.proofs.EndCases.{EndTook, NoMessage, PutControl, PutMore, PutOwn, PutReady, PutHandshake, PutWhat, Rises, TookOwn, TookHandshake, TookWhat, end_put, end_took}
 use Rattle.channel_laws.proofs.EndResting.{StandsResting, held_handshake, of_sid, resting_step}
@@ -32,7 +32,7 @@ use Rattle.channel_laws.specs.Cuts.{Carries}
 use Rattle.channel_laws.specs.EndCore.{Begins, EndCore, fresh_end, EndMove, Fails, Hears, Renews, Says as Says_, Stays, Waits}
 use Rattle.channel_laws.specs.EndStep.{EndHears, EndSays, EndStep, IsOfSession}
 use Rattle.channel_laws.specs.Grounds.{When, has_named, knows_sid, knows_version}
-use Rattle.channel_laws.specs.LaneCore.{CoreEvent, CoreFits, CoreStep, LaneCore, fresh_core, transcript_behind, turns_after}
+use Rattle.channel_laws.specs.LaneCore.{CoreEvent, CoreFits, CoreStep, LaneCore, fresh_core, transcript_behind, utterances_after}
 use Rattle.channel_laws.specs.Standing.{EndStands}
 use Rattle.channel_laws.specs.Utterances.{OwesSo, SaysByPhase, SaysBody, SaysBytes, SaysEach, SaysSid, Utters}
 
@@ -341,7 +341,7 @@ says_utters role c t turns packet opens all says = by_what (end_put role c t tur
         (sent_words role held.handshake (handshake_sent held.handshake) _ (said (Said packet ∷ turns)) stands.handshake.role_is (whole at last) (row_sent held.handshake)) (whole at last))
 
 utters_step : (role : Role) (c : EndCore) (move : EndMove) (t : EndCore) (turns : List Utterance) → EndSpeaks role c turns → EndStep role c move t
-    → Utters role t.handshake (said (turns_after turns move))
+    → Utters role t.handshake (said (utterances_after turns move))
 utters_step role c Begins t turns all step = down_utters role t.handshake (ap (λ (h : Handshake). h.phase) step.handshake) (ap (λ (h : Handshake). h.owed) step.handshake)
 utters_step Initiator c Renews t turns all step = down_utters Initiator t.handshake (ap (λ (h : Handshake). h.phase) step.handshake) (ap (λ (h : Handshake). h.owed) step.handshake)
 utters_step Responder c Renews t turns all step = down_utters Responder t.handshake (ap (λ (h : Handshake). h.phase) step.handshake) (ap (λ (h : Handshake). h.owed) step.handshake)
@@ -354,7 +354,7 @@ utters_step role c Waits t turns all step =
 utters_step role c Stays t turns all step = same_utters role c.handshake t.handshake (said turns) (said turns) step.handshake refl all.utters
 
 pub speaks_step : (role : Role) (c : EndCore) (move : EndMove) (t : EndCore) (turns : List Utterance) → EndSpeaks role c turns → EndStep role c move t
-    → EndSpeaks role t (turns_after turns move)
+    → EndSpeaks role t (utterances_after turns move)
 speaks_step role c move t turns all step =
     record { knows = resting_step role c move t turns all.knows step; utters = utters_step role c move t turns all step }
 

@@ -9,7 +9,7 @@ use Rattle.channel_laws.specs.EndCore.{EndCore, EndMove, fresh_end}
 use Rattle.channel_laws.specs.EndRests.{EndRests, EndUtters}
 use Rattle.channel_laws.specs.EndStep.{EndStep}
 use Rattle.channel_laws.specs.HandshakeFits.{HandshakeFits}
-use Rattle.channel_laws.specs.LaneCore.{turns_after}
+use Rattle.channel_laws.specs.LaneCore.{utterances_after}
 
 rests_of : (role : Role) (c : EndCore) (turns : List Utterance) → EndSpeaks role c turns → HandshakeFits role c.offer c.handshake → EndRests role c turns
 rests_of role c turns speaks fits = grind arith
@@ -17,9 +17,9 @@ rests_of role c turns speaks fits = grind arith
 pub fresh_end_rests : (role : Role) (offer : Offer) → offer.count ≤ 14 → EndRests role (fresh_end role offer) []
 fresh_end_rests role offer most = rests_of role (fresh_end role offer) [] (fresh_speaks role offer most) (fresh_fits role offer)
 
-pub rests_move : (role : Role) (c : EndCore) (move : EndMove) (t : EndCore) (turns : List Utterance) → EndRests role c turns → EndStep role c move t → EndRests role t (turns_after turns move)
+pub rests_move : (role : Role) (c : EndCore) (move : EndMove) (t : EndCore) (turns : List Utterance) → EndRests role c turns → EndStep role c move t → EndRests role t (utterances_after turns move)
 rests_move role c move t turns rests step =
-    rests_of role t (turns_after turns move)
+    rests_of role t (utterances_after turns move)
     (speaks_step role c move t turns (record { knows = record { stands = rests.stands; rests = rests.rests }; utters = rests.utters }) step)
     (fits_step role c move t turns (record { stands = rests.stands; fits = rests.fits }) step).fits
 

@@ -19,7 +19,7 @@ use Rattle.channel_laws.proofs.Lifting.{EndsAll, ends_run}
 use Rattle.channel_laws.specs.EndCore.{Begins, EndCore, EndMove, Fails, Hears, Renews, Says, Stays, Waits}
 use Rattle.channel_laws.specs.EndStep.{EndSays, EndStep}
 use Rattle.channel_laws.specs.HandshakeFits.{HandshakeFits}
-use Rattle.channel_laws.specs.LaneCore.{CoreEvent, CoreFits, CoreStep, LaneCore, fresh_core, transcript_behind, turns_after}
+use Rattle.channel_laws.specs.LaneCore.{CoreEvent, CoreFits, CoreStep, LaneCore, fresh_core, transcript_behind, utterances_after}
 use Rattle.channel_laws.specs.Standing.{EndStands}
 
 -- IT BEGINS: no ring is agreed on
@@ -87,9 +87,9 @@ move_fits role c Waits t turns end step = same_fits role c.offer c.handshake t.h
 move_fits role c Stays t turns end step = same_fits role c.offer c.handshake t.handshake end.fits step.handshake
 
 -- what an end offers is what its handshake does
-pub fits_step : (role : Role) (c : EndCore) (move : EndMove) (t : EndCore) (turns : List Utterance) → EndFits role c turns → EndStep role c move t → EndFits role t (turns_after turns move)
+pub fits_step : (role : Role) (c : EndCore) (move : EndMove) (t : EndCore) (turns : List Utterance) → EndFits role c turns → EndStep role c move t → EndFits role t (utterances_after turns move)
 fits_step role c move t turns end step =
-    let now : EndStands role t (turns_after turns move) = stands_step role c move t turns end.stands step in
+    let now : EndStands role t (utterances_after turns move) = stands_step role c move t turns end.stands step in
     let fits = move_fits role c move t turns end step in
     record { stands = now; fits = subst (λ (o : Offer). HandshakeFits role o t.handshake) (sym fits.offer_is ∙ now.handshake.offer_is) fits }
 

@@ -23,7 +23,7 @@ use Rattle.vio_handshake.specs.State.{next_sid, handshake_up}
 use Rattle.vio_handshake.proofs.MessageWidths.{OfferHasWidths, message_has_widths, message_is_well_formed}
 use Rattle.vio_handshake.proofs.PlaceRows.{Fits, GoesTo, put_at, take_at}
 use Rattle.vio_handshake.proofs.Places.{AllSaid, AttributesAnswered, AttributesSaid, Deal, IsPlace, PeerReadyAnswered, PeerReadySaid, PeerRingAnswered, PeerRingSaid, Place, ReadyAnswered, ReadySaid, RingAnswered, RingSaid, VersionAnswered, VersionSaid, message_at, next, owed_by, owner, phase_at, handshake_at}
-use Rattle.channel_model.specs.Sayings.{heard, said}
+use Rattle.channel_laws.specs.Sayings.{heard, said}
 use Rattle.channel_laws.proofs.Apart.{some_is_none, some_same}
 use Rattle.channel_laws.proofs.EndStanding.{opened_phase}
 use Rattle.channel_laws.proofs.Script.{PeerSaid, all_before, bytes_at, hears_beyond, hears_next, not_last, other_next, said_at, said_by, says_next, script}
@@ -82,9 +82,9 @@ pub record HandshakesAt (asks answers : Offer) (role : Role) (s : Sides) : Type 
   pub offer_theirs : s.theirs.core.offer ≡ offer_in asks answers (other role)
   pub last_mine : role ≡ Responder → s.mine.core.handshake.last_sid ≡ 0
   pub last_theirs : other role ≡ Responder → s.theirs.core.handshake.last_sid ≡ 0
-  pub mine : s.mine.state ≡ Up → is_up s.mine.core.link ≡ true → AtPlace asks.both_rings (deal asks answers sid) role s.mine.core.handshake s.mine.turns
+  pub mine : s.mine.state ≡ Up → is_up s.mine.core.link ≡ true → AtPlace asks.both_rings (deal asks answers sid) role s.mine.core.handshake s.mine.utterances
   pub theirs : s.theirs.state ≡ Up → is_up s.theirs.core.link ≡ true
-      → AtPlace asks.both_rings (deal asks answers sid) (other role) s.theirs.core.handshake s.theirs.turns
+      → AtPlace asks.both_rings (deal asks answers sid) (other role) s.theirs.core.handshake s.theirs.utterances
 
 -- THE OFFERS of a deal
 pub record Matches (asks answers : Offer) : Type 0 where

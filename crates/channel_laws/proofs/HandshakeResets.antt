@@ -18,7 +18,7 @@ use Rattle.vio_handshake.specs.declared.handshake.Phase.{Phase}
 use Rattle.vio_handshake.specs.declared.handshake.Phase.TheVariants.{Attributes, OwnReady, OwnRing, PeerReady, PeerRing, Version}
 use Rattle.vio_handshake.specs.Attributes.{accepts_answered}
 use Rattle.vio_handshake.specs.Rules.{Faults, Goes, GoesOpen, HandshakeTake, answered, asked, attributes_answered, fault_or, is_declined, row, handshake_hear, handshake_take, sid_fault, version_answered}
-use Rattle.channel_model.specs.ResetSays.{MessageSays}
+use Rattle.channel_laws.specs.ResetSays.{MessageSays}
 use Rattle.channel_laws.proofs.LinkResets.{other_number}
 
 -- bytes that spell a message

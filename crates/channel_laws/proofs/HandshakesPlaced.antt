@@ -21,8 +21,8 @@ use Rattle.vio_handshake.specs.declared.session.Offer.{Offer}
 use Rattle.vio_handshake.specs.Rules.{is_declined, handshake_sent}
 use Rattle.vio_handshake.specs.State.{begun, joined_handshake, next_sid, handshake_up}
 use Rattle.vio_handshake.proofs.Places.{AllSaid, Deal, IsPlace, Place, VersionSaid, last_at, handshake_at}
-use Rattle.channel_model.specs.Sayings.{half_said, heard, said}
-use Rattle.channel_model.specs.TranscriptLog.{nothing_said}
+use Rattle.channel_laws.specs.Sayings.{half_said, heard, said}
+use Rattle.channel_laws.specs.TranscriptLog.{nothing_said}
 use Rattle.channel_laws.proofs.Apart.{false_is_true, none_is_some, roles_differ, true_is_false}
 use Rattle.channel_laws.proofs.Conversations.{held_phase}
 use Rattle.channel_laws.proofs.ConversingRuns.{HeardFrom, converse_keeps, hears_next}
@@ -82,7 +82,7 @@ goes_handshakes asks answers role s t link handshake offer at = record {
   last_mine = λ is. ap (λ (h : Handshake). h.last_sid) handshake ∙ at.last_mine is;
   last_theirs = at.last_theirs;
   mine = λ up now.
-      same_at asks.both_rings (deal asks answers at.sid) role s.mine.core.handshake t.handshake s.mine.turns s.mine.turns (at.mine up (sym (ap is_established link) ∙ now)) handshake refl refl;
+      same_at asks.both_rings (deal asks answers at.sid) role s.mine.core.handshake t.handshake s.mine.utterances s.mine.utterances (at.mine up (sym (ap is_established link) ∙ now)) handshake refl refl;
   theirs = at.theirs;
 }
 
@@ -101,9 +101,9 @@ placed : (asks answers : Offer) (sid : ℕ) (role : Role) (s : Sides) (t : EndCo
     → (at_sid : sid < 2 ^ 32)
     → (role ≡ Responder → t.handshake.last_sid ≡ 0)
     → (is_up t.link ≡ true → AtPlace asks.both_rings (deal asks answers sid) role t.handshake turns)
-    → (s.theirs.state ≡ Up → is_up s.theirs.core.link ≡ true → AtPlace asks.both_rings (deal asks answers sid) (other role) s.theirs.core.handshake s.theirs.turns)
+    → (s.theirs.state ≡ Up → is_up s.theirs.core.link ≡ true → AtPlace asks.both_rings (deal asks answers sid) (other role) s.theirs.core.handshake s.theirs.utterances)
     → (waiting peer_waiting : List (List ℕ))
-    → HandshakesAt asks answers role (record s { mine = record s.mine { waiting = waiting; core = t; turns = turns }; theirs = record s.theirs { waiting = peer_waiting } })
+    → HandshakesAt asks answers role (record s { mine = record s.mine { waiting = waiting; core = t; utterances = turns }; theirs = record s.theirs { waiting = peer_waiting } })
 placed asks answers sid role s t turns at offer small last mine theirs waiting peer_waiting = grind arith
 
 -- at a place a responder's count of sids is none
@@ -126,9 +126,9 @@ sid_small : (h : Handshake) → next_sid h < 2 ^ 32
 sid_small h = omega arith
 
 -- IT PUTS a packet
-put_handshakes : (asks answers : Offer) (role : Role) (s : Sides) (t : EndCore) (packet : List ℕ) (opens : Bool) → Matches asks answers → EndStands role s.mine.core s.mine.turns → s.mine.state ≡ Up
+put_handshakes : (asks answers : Offer) (role : Role) (s : Sides) (t : EndCore) (packet : List ℕ) (opens : Bool) → Matches asks answers → EndStands role s.mine.core s.mine.utterances → s.mine.state ≡ Up
     → EndSays role s.mine.core packet opens t → LinksAt role s → HandshakesAt asks answers role s → HandshakesAt asks answers role (put packet t s)
-put_handshakes asks answers role s t packet opens fits stands up says links at = by_what (end_put role s.mine.core t s.mine.turns packet opens says held_stands_so)
+put_handshakes asks answers role s t packet opens fits stands up says links at = by_what (end_put role s.mine.core t s.mine.utterances packet opens says held_stands_so)
   where
     both : Bool
     both = asks.both_rings
@@ -137,10 +137,10 @@ put_handshakes asks answers role s t packet opens fits stands up says links at =
     held = says.held
 
     now : List Utterance
-    now = Said packet ∷ s.mine.turns
+    now = Said packet ∷ s.mine.utterances
 
-    held_stands_so : EndStands role held s.mine.turns
-    held_stands_so = held_stands role s.mine.core held s.mine.turns says.what stands says.holds
+    held_stands_so : EndStands role held s.mine.utterances
+    held_stands_so = held_stands role s.mine.core held s.mine.utterances says.what stands says.holds
 
     offer : t.offer ≡ s.mine.core.offer
     offer = says.offer ∙ held_offer s.mine.core held says.what says.holds
@@ -155,9 +155,9 @@ put_handshakes asks answers role s t packet opens fits stands up says links at =
     phase_is = held_phase s.mine.core held says.what says.holds
 
     -- where its link was up
-    was : held.link.phase ≡ phase.Established → AtPlace both (deal asks answers at.sid) role held.handshake s.mine.turns
+    was : held.link.phase ≡ phase.Established → AtPlace both (deal asks answers at.sid) role held.handshake s.mine.utterances
     was est =
-        same_at both (deal asks answers at.sid) role s.mine.core.handshake held.handshake s.mine.turns s.mine.turns (at.mine up (ap is_established (sym phase_is ∙ est))) same_handshake refl refl
+        same_at both (deal asks answers at.sid) role s.mine.core.handshake held.handshake s.mine.utterances s.mine.utterances (at.mine up (ap is_established (sym phase_is ∙ est))) same_handshake refl refl
 
     goes : (role ≡ Responder → t.handshake.last_sid ≡ 0) → (is_up t.link ≡ true → AtPlace both (deal asks answers at.sid) role t.handshake now) → HandshakesAt asks answers role (put packet t s)
     goes last_now mine = placed asks answers at.sid role s t now at offer at.small last_now mine at.theirs s.mine.waiting (s.theirs.waiting ++ packet ∷ [])
@@ -166,7 +166,7 @@ put_handshakes asks answers role s t packet opens fits stands up says links at =
     their_phase : (x : ChannelState) (first ph : LinkPhase) → x ≡ Up → live_phase x first ph ≡ ph
     their_phase x first ph is = ap (λ (y : ChannelState). live_phase y first ph) is
 
-    rises : role ≡ Initiator → held.link.phase ≡ phase.OwesRdx → t.handshake ≡ handshake_up held.handshake → said now ≡ said s.mine.turns → HandshakesAt asks answers role (put packet t s)
+    rises : role ≡ Initiator → held.link.phase ≡ phase.OwesRdx → t.handshake ≡ handshake_up held.handshake → said now ≡ said s.mine.utterances → HandshakesAt asks answers role (put packet t s)
     rises is owes handshake quiet =
         placed asks answers (next_sid held.handshake) role s t now at offer (sid_small held.handshake) (λ responds. roles_differ (sym is ∙ responds))
         (λ now_up. subst (λ (h : Handshake). AtPlace both (deal asks answers (next_sid held.handshake)) role h now) (sym handshake)
@@ -174,7 +174,7 @@ put_handshakes asks answers role s t packet opens fits stands up says links at =
         (λ responds. roles_differ (sym is ∙ responds)) (λ i. refl) (version_here both) (quiet ∙ below.said_none) below.heard_none))
         (λ their_up their_now. absurd (below_there their_up their_now)) s.mine.waiting (s.theirs.waiting ++ packet ∷ [])
       where
-        below : IsBelow held.link held.handshake s.mine.turns
+        below : IsBelow held.link held.handshake s.mine.utterances
         below = held_stands_so.below (ap is_established owes)
 
         own_offer : held.handshake.offer ≡ (handshake_at both (deal asks answers (next_sid held.handshake)) role VersionSaid).offer
@@ -195,7 +195,7 @@ put_handshakes asks answers role s t packet opens fits stands up says links at =
             let awaits : s.theirs.core.link.phase ≡ phase.AwaitsRdx = there ∙ ap (phase_at (other role)) place.1 ∙ ap (λ (r : Role). phase_at (other r) ModeAgreed) place.0 in
             true_is_false (sym their_now ∙ ap is_established awaits)
 
-    whole : SaysLast held.link s.mine.turns packet → held.link.phase ≡ phase.Established → Carries held.own held.handshake (half_said s.mine.turns ++ held.link.to_send)
+    whole : SaysLast held.link s.mine.utterances packet → held.link.phase ≡ phase.Established → Carries held.own held.handshake (half_said s.mine.utterances ++ held.link.to_send)
     whole last_part est = held_stands_so.carries (holds_some held.link (ap is_established est) last_part.some)
 
     carried_owed : (b : Bool) (bytes : List ℕ) → b ≡ false → Carries b held.handshake bytes → CarriesOwed held.handshake.owed bytes
@@ -206,18 +206,18 @@ put_handshakes asks answers role s t packet opens fits stands up says links at =
     carried_own true bytes is carries = carries
     carried_own false bytes is carries = false_is_true is
 
-    handshakes : held.own ≡ false → (est : held.link.phase ≡ phase.Established) → (last_part : SaysLast held.link s.mine.turns packet) → AtPlace both (deal asks answers at.sid) role (handshake_sent held.handshake) now
+    handshakes : held.own ≡ false → (est : held.link.phase ≡ phase.Established) → (last_part : SaysLast held.link s.mine.utterances packet) → AtPlace both (deal asks answers at.sid) role (handshake_sent held.handshake) now
     handshakes not est last_part =
-        let carries = carried_owed held.own (half_said s.mine.turns ++ held.link.to_send) not (whole last_part est) in
-        says_at both (deal asks answers at.sid) role held.handshake s.mine.turns now (half_said s.mine.turns ++ held.link.to_send) carries.message (was est) carries.owed carries.is last_part.messages refl
+        let carries = carried_owed held.own (half_said s.mine.utterances ++ held.link.to_send) not (whole last_part est) in
+        says_at both (deal asks answers at.sid) role held.handshake s.mine.utterances now (half_said s.mine.utterances ++ held.link.to_send) carries.message (was est) carries.owed carries.is last_part.messages refl
 
-    owns : held.own ≡ true → (est : held.link.phase ≡ phase.Established) → (last_part : SaysLast held.link s.mine.turns packet) → t.handshake ≡ held.handshake
+    owns : held.own ≡ true → (est : held.link.phase ≡ phase.Established) → (last_part : SaysLast held.link s.mine.utterances packet) → t.handshake ≡ held.handshake
         → AtPlace both (deal asks answers at.sid) role t.handshake now
     owns own est last_part handshake =
-        let carries = carried_own held.own (half_said s.mine.turns ++ held.link.to_send) own (whole last_part est) in
+        let carries = carried_own held.own (half_said s.mine.utterances ++ held.link.to_send) own (whole last_part est) in
         let there = was est in
         let all_said : there.place ≡ AllSaid = open_at both role there.place (ap (λ (h : Handshake). h.phase) (sym there.is) ∙ carries.opened) in
-        says_own_at both (deal asks answers at.sid) role held.handshake t.handshake s.mine.turns now (half_said s.mine.turns ++ held.link.to_send) there handshake all_said
+        says_own_at both (deal asks answers at.sid) role held.handshake t.handshake s.mine.utterances now (half_said s.mine.utterances ++ held.link.to_send) there handshake all_said
         (record { message = carries.message; body = carries.body; sid = carries.sid ∙ ap (λ (h : Handshake). h.draft.sid) there.is ∙ sid_there there.place all_said; is = carries.is })
         last_part.messages refl
       where
@@ -230,14 +230,14 @@ put_handshakes asks answers role s t packet opens fits stands up says links at =
             by_role false Initiator = refl
             by_role false Responder = refl
 
-    by_what : PutWhat role held s.mine.turns packet opens t → HandshakesAt asks answers role (put packet t s)
+    by_what : PutWhat role held s.mine.utterances packet opens t → HandshakesAt asks answers role (put packet t s)
     by_what (PutControl next gone link quiet handshake not is_open) =
         goes (same_last role held.handshake t.handshake handshake last)
         (λ now_up. true_is_false (sym now_up ∙ ap is_up link ∙ (put_down held.link.phase packet next gone).1))
     by_what (PutReady role_is owes spelled link quiet handshake not is_open) = rises role_is owes handshake quiet.messages
     by_what (PutMore est link more handshake not is_open) =
         goes (same_last role held.handshake t.handshake handshake last)
-        (λ now_up. same_at both (deal asks answers at.sid) role held.handshake t.handshake s.mine.turns now (was est) handshake more.messages refl)
+        (λ now_up. same_at both (deal asks answers at.sid) role held.handshake t.handshake s.mine.utterances now (was est) handshake more.messages refl)
     by_what (PutOwn own est link last_part handshake not is_open) =
         goes (same_last role held.handshake t.handshake handshake last) (λ now_up. owns own est last_part handshake)
     by_what (PutHandshake not est link last_part handshake flag is_open) =
@@ -270,21 +270,21 @@ link_or true = inl refl
 link_or false = inr refl
 
 -- a message that it hears was said by the other, whose link is up
-pub link_place : (asks answers : Offer) (role : Role) (s : Sides) (messages : List (List ℕ)) (bytes : List ℕ) → EndStands (other role) s.theirs.core s.theirs.turns
-    → (at : HandshakesAt asks answers role s) → s.theirs.state ≡ Up → IsFront (messages ++ bytes ∷ []) (said s.theirs.turns)
-    → AtPlace asks.both_rings (deal asks answers at.sid) (other role) s.theirs.core.handshake s.theirs.turns
+pub link_place : (asks answers : Offer) (role : Role) (s : Sides) (messages : List (List ℕ)) (bytes : List ℕ) → EndStands (other role) s.theirs.core s.theirs.utterances
+    → (at : HandshakesAt asks answers role s) → s.theirs.state ≡ Up → IsFront (messages ++ bytes ∷ []) (said s.theirs.utterances)
+    → AtPlace asks.both_rings (deal asks answers at.sid) (other role) s.theirs.core.handshake s.theirs.utterances
 link_place asks answers role s messages bytes stands at up front =
     elim (link_or (is_up s.theirs.core.link)) [
       | inl now_up ↦ at.theirs up now_up
       | inr down ↦ absurd (none_after messages front.0 bytes (sym (stands.below down).said_none ∙ front.1))
     ]
 
-pub peer_place : (asks answers : Offer) (role : Role) (s : Sides) (now before : List Utterance) (bytes : List ℕ) → EndStands (other role) s.theirs.core s.theirs.turns
+pub peer_place : (asks answers : Offer) (role : Role) (s : Sides) (now before : List Utterance) (bytes : List ℕ) → EndStands (other role) s.theirs.core s.theirs.utterances
     → (at : HandshakesAt asks answers role s) → HeardFrom s now → heard now ≡ heard before ++ bytes ∷ []
-    → AtPlace asks.both_rings (deal asks answers at.sid) (other role) s.theirs.core.handshake s.theirs.turns
+    → AtPlace asks.both_rings (deal asks answers at.sid) (other role) s.theirs.core.handshake s.theirs.utterances
 peer_place asks answers role s now before bytes stands at from grows =
     elim (up_or s.theirs.state) [
-      | inl up ↦ link_place asks answers role s (heard before) bytes stands at up (subst (λ (xs : List (List ℕ)). IsFront xs (said s.theirs.turns)) grows from.front)
+      | inl up ↦ link_place asks answers role s (heard before) bytes stands at up (subst (λ (xs : List (List ℕ)). IsFront xs (said s.theirs.utterances)) grows from.front)
       | inr not ↦ (
           let nothing : [] ≡ (heard before ++ bytes ∷ []) ++ [] = sym (from.none not) ∙ grows ∙ sym (append-nil (heard before ++ bytes ∷ [])) in
           absurd (none_after (heard before) [] bytes nothing))
@@ -292,13 +292,13 @@ peer_place asks answers role s now before bytes stands at from grows =
 
 -- and where its session is open it is one of the session
 pub next_own : (asks answers : Offer) (role : Role) (s : Sides) (bytes : List ℕ) → BothStand role s → (at : HandshakesAt asks answers role s) → s.mine.state ≡ Up
-    → s.mine.core.is_open ≡ true → s.theirs.state ≡ Up → IsFront (heard s.mine.turns ++ bytes ∷ []) (said s.theirs.turns) → IsOwn (deal asks answers at.sid) bytes
+    → s.mine.core.is_open ≡ true → s.theirs.state ≡ Up → IsFront (heard s.mine.utterances ++ bytes ∷ []) (said s.theirs.utterances) → IsOwn (deal asks answers at.sid) bytes
 next_own asks answers role s bytes stands at up opened their_up front =
     let both = asks.both_rings in
     let d = deal asks answers at.sid in
-    let here = at.mine up (open_up role s.mine.core s.mine.turns stands.mine opened) in
-    own_heard both d role s.mine.core.handshake s.theirs.core.handshake s.mine.turns s.theirs.turns bytes here (open_place both d role s.mine.core s.mine.turns stands.mine here opened)
-    (link_place asks answers role s (heard s.mine.turns) bytes stands.theirs at their_up front) front
+    let here = at.mine up (open_up role s.mine.core s.mine.utterances stands.mine opened) in
+    own_heard both d role s.mine.core.handshake s.theirs.core.handshake s.mine.utterances s.theirs.utterances bytes here (open_place both d role s.mine.core s.mine.utterances stands.mine here opened)
+    (link_place asks answers role s (heard s.mine.utterances) bytes stands.theirs at their_up front) front
 
 took_handshakes : (asks answers : Offer) (role : Role) (s : Sides) (t : EndCore) (packet : List ℕ) (opens : Bool) → Matches asks answers → BothStand role s → s.mine.state ≡ Up
     → slice_get s.mine.waiting 0 ≡ Some packet → EndHears role s.mine.core packet opens t → Converse role s → HandshakesAt asks answers role s → HandshakesAt asks answers role (took packet t s)
@@ -311,27 +311,27 @@ took_handshakes asks answers role s t packet opens fits stands up first hears co
     c = s.mine.core
 
     now : List Utterance
-    now = Heard packet ∷ s.mine.turns
+    now = Heard packet ∷ s.mine.utterances
 
-    took_so : EndTook role c s.mine.turns packet opens t
-    took_so = end_took role c t s.mine.turns packet opens stands.mine hears
+    took_so : EndTook role c s.mine.utterances packet opens t
+    took_so = end_took role c t s.mine.utterances packet opens stands.mine hears
 
     from : HeardFrom s now
     from = hears_next role s packet took_so.now converse up first stands.mine.link.follows took_so.takes
 
-    front : IsFront (heard now) (said s.theirs.turns)
+    front : IsFront (heard now) (said s.theirs.utterances)
     front = from.front
 
     goes : (role ≡ Responder → t.handshake.last_sid ≡ 0) → (is_up t.link ≡ true → AtPlace both (deal asks answers at.sid) role t.handshake now) → HandshakesAt asks answers role (took packet t s)
     goes last mine = placed asks answers at.sid role s t now at hears.offer at.small last mine at.theirs _ s.theirs.waiting
 
-    peer : (bytes : List ℕ) → heard now ≡ heard s.mine.turns ++ bytes ∷ [] → AtPlace both (deal asks answers at.sid) (other role) s.theirs.core.handshake s.theirs.turns
-    peer bytes grows = peer_place asks answers role s now s.mine.turns bytes stands.theirs at from grows
+    peer : (bytes : List ℕ) → heard now ≡ heard s.mine.utterances ++ bytes ∷ [] → AtPlace both (deal asks answers at.sid) (other role) s.theirs.core.handshake s.theirs.utterances
+    peer bytes grows = peer_place asks answers role s now s.mine.utterances bytes stands.theirs at from grows
 
-    mine : is_up c.link ≡ true → AtPlace both (deal asks answers at.sid) role c.handshake s.mine.turns
+    mine : is_up c.link ≡ true → AtPlace both (deal asks answers at.sid) role c.handshake s.mine.utterances
     mine was = at.mine up was
 
-    rises : role ≡ Responder → is_up c.link ≡ false → heard now ≡ heard s.mine.turns → t.handshake ≡ handshake_up c.handshake → AtPlace both (deal asks answers at.sid) role t.handshake now
+    rises : role ≡ Responder → is_up c.link ≡ false → heard now ≡ heard s.mine.utterances → t.handshake ≡ handshake_up c.handshake → AtPlace both (deal asks answers at.sid) role t.handshake now
     rises is down quiet handshake =
         let below = stands.mine.below down in
         subst (λ (h : Handshake). AtPlace both (deal asks answers at.sid) role h now) (sym handshake)
@@ -343,11 +343,11 @@ took_handshakes asks answers role s t packet opens fits stands up first hears co
         by_role Responder = refl
 
     -- at the last place it is a message of the session
-    last_own : (bytes : List ℕ) → (there : AtPlace both (deal asks answers at.sid) role c.handshake s.mine.turns) → there.place ≡ AllSaid → heard now ≡ heard s.mine.turns ++ bytes ∷ []
+    last_own : (bytes : List ℕ) → (there : AtPlace both (deal asks answers at.sid) role c.handshake s.mine.utterances) → there.place ≡ AllSaid → heard now ≡ heard s.mine.utterances ++ bytes ∷ []
         → IsOwn (deal asks answers at.sid) bytes
     last_own bytes there last grows =
-        own_heard both (deal asks answers at.sid) role c.handshake s.theirs.core.handshake s.mine.turns s.theirs.turns bytes there last (peer bytes grows)
-        (subst (λ (xs : List (List ℕ)). IsFront xs (said s.theirs.turns)) grows front)
+        own_heard both (deal asks answers at.sid) role c.handshake s.theirs.core.handshake s.mine.utterances s.theirs.utterances bytes there last (peer bytes grows)
+        (subst (λ (xs : List (List ℕ)). IsFront xs (said s.theirs.utterances)) grows front)
 
     open_there : (n : Place) → n ≡ AllSaid → (handshake_at both (deal asks answers at.sid) role n).phase ≡ Open
     open_there n is = ap (λ (m : Place). (handshake_at both (deal asks answers at.sid) role m).phase) is ∙ by_role role
@@ -356,10 +356,10 @@ took_handshakes asks answers role s t packet opens fits stands up first hears co
         by_role Initiator = refl
         by_role Responder = refl
 
-    by_what : TookWhat role c s.mine.turns packet opens t took_so.now → HandshakesAt asks answers role (took packet t s)
+    by_what : TookWhat role c s.mine.utterances packet opens t took_so.now → HandshakesAt asks answers role (took packet t s)
     by_what (NoMessage same quiet handshake not is_open) =
         goes (same_last role c.handshake t.handshake handshake at.last_mine)
-        (λ now_up. same_at both (deal asks answers at.sid) role c.handshake t.handshake s.mine.turns now
+        (λ now_up. same_at both (deal asks answers at.sid) role c.handshake t.handshake s.mine.utterances now
         (mine (sym same ∙ sym (ap is_up took_so.link) ∙ now_up)) handshake refl quiet)
     by_what (Rises role_is down now_up quiet handshake not is_open) =
         goes (up_last role c.handshake t.handshake stands.mine.handshake.role_is handshake at.last_mine) (λ up_now. rises role_is down quiet handshake)
@@ -368,20 +368,20 @@ took_handshakes asks answers role s t packet opens fits stands up first hears co
         let is_open_now : c.handshake.phase ≡ Open = opened_phase c.handshake.phase (sym stands.mine.opened ∙ own.opened) in
         let last = open_at both role there.place (ap (λ (h : Handshake). h.phase) (sym there.is) ∙ is_open_now) in
         goes (same_last role c.handshake t.handshake handshake at.last_mine)
-        (λ now_up. hears_own_at both (deal asks answers at.sid) role c.handshake t.handshake s.mine.turns now took_message.bytes there handshake last
+        (λ now_up. hears_own_at both (deal asks answers at.sid) role c.handshake t.handshake s.mine.utterances now took_message.bytes there handshake last
         (last_own took_message.bytes there last took_message.messages) took_message.messages refl)
     by_what (TookHandshake message took_message handshake is_open) =
         let now_at = by_turn (mine took_message.up) in
         goes (place_last both asks answers at.sid role t.handshake now now_at) (λ now_up. now_at)
       where
-        by_turn : AtPlace both (deal asks answers at.sid) role c.handshake s.mine.turns → AtPlace both (deal asks answers at.sid) role t.handshake now
+        by_turn : AtPlace both (deal asks answers at.sid) role c.handshake s.mine.utterances → AtPlace both (deal asks answers at.sid) role t.handshake now
         by_turn there =
             elim (who role there.place) [
               | inl own ↦ (
                   none_is_some (sym hears.may.owed ∙ ap (λ (h : Handshake). h.owed) there.is ∙ owes_at both (deal asks answers at.sid) role there.place own))
               | inr (inl turn) ↦
-                  hears_at asks answers at.sid role c.handshake t.handshake s.mine.turns now took_message.bytes message (said s.theirs.turns) fits at.small there turn
-                  (peer_said both (deal asks answers at.sid) (other role) s.theirs.core.handshake s.theirs.turns (peer took_message.bytes took_message.messages)) front took_message.messages refl
+                  hears_at asks answers at.sid role c.handshake t.handshake s.mine.utterances now took_message.bytes message (said s.theirs.utterances) fits at.small there turn
+                  (peer_said both (deal asks answers at.sid) (other role) s.theirs.core.handshake s.theirs.utterances (peer took_message.bytes took_message.messages)) front took_message.messages refl
                   took_message.form took_message.spells handshake.takes
               | inr (inr last) ↦ (
                   let own = last_own took_message.bytes there last took_message.messages in

@@ -1,3 +1,6 @@
+pub mod SameSayings
+pub mod OwnCauses
+pub mod OwnMessages
 pub mod Apart
 pub mod LinkCases
 pub mod UtteranceCases
@@ -39,7 +42,6 @@ pub mod CoreLaws
 pub mod Opening
 pub mod OpeningRows
 pub mod OpeningOrder
-pub mod ToyRuns
 pub mod WhoOwes
 pub mod AtRest
 pub mod EndFolding

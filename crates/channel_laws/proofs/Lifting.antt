@@ -13,19 +13,19 @@ use Rattle.ldc_queue.specs.declared.end.End.TheVariants.{A, B}
 use Rattle.ldc_queue.specs.Transcript.{Utterance}
 use Rattle.vio_handshake.specs.declared.session.Offer.{Offer}
 use Rattle.vio_tag.specs.declared.cause.Cause.{Cause}
-use Rattle.channel_model.specs.TranscriptLog.{TranscriptLog, nothing_said, transcript_of}
-use Rattle.channel_model.specs.WireEvent.{Blocked, Giver, Injected, Joined, Lost, Poked, Reset, Sent, Took, giver}
-use Rattle.channel_model.specs.WireLog.{WireLog, wire_moved}
+use Rattle.channel_laws.specs.TranscriptLog.{TranscriptLog, nothing_said, transcript_of}
+use Rattle.channel_laws.specs.WireEvent.{Blocked, Giver, Injected, Joined, Lost, Poked, Reset, Sent, Took, giver}
+use Rattle.channel_laws.specs.WireLog.{WireLog, wire_moved}
 use Rattle.channel_laws.proofs.Apart.{true_is_false}
 use Rattle.channel_laws.proofs.EndStanding.{fresh_end_stands, stands_step}
 use Rattle.channel_laws.specs.EndCore.{EndCore, EndMove, Stays, fresh_end}
 use Rattle.channel_laws.specs.EndStep.{EndAnew, EndBegins, EndHears, EndRenews, EndSays, EndStays, EndStep, EndWaits}
-use Rattle.channel_laws.specs.LaneCore.{Closes, CoreEvent, CoreFits, CoreStep, LaneCore, OnChannel, fresh_core, move_of, reset_move, transcript_after, transcript_behind, turns_after, wire_after}
+use Rattle.channel_laws.specs.LaneCore.{Closes, CoreEvent, CoreFits, CoreStep, LaneCore, OnChannel, fresh_core, move_of, reset_move, transcript_after, transcript_behind, utterances_after, wire_after}
 use Rattle.channel_laws.specs.Sides.{Sides, anew, goes_on, missed, other, put, shut, sides_in, sides_of, swapped, took}
 use Rattle.channel_laws.specs.Standing.{EndStands}
 
 -- THE TURNS of each end are those of its moves
-pub transcript_turns : (e : End) (l : TranscriptLog) (event : CoreEvent) → transcript_of e (transcript_after l event) ≡ turns_after (transcript_of e l) (move_of e event)
+pub transcript_turns : (e : End) (l : TranscriptLog) (event : CoreEvent) → transcript_of e (transcript_after l event) ≡ utterances_after (transcript_of e l) (move_of e event)
 transcript_turns e l event = grind arith
 
 -- A LAW OF ONE END, each move keeping it, is one of both ends along every run
@@ -34,7 +34,7 @@ pub record EndsAll (P : Role → EndCore → List Utterance → Type 0) (s : Lan
   pub b : P Responder s.b transcript.server
 
 abbrev pub MovesKeep : (Role → EndCore → List Utterance → Type 0) → Type 0
-MovesKeep P = (role : Role) (c : EndCore) (move : EndMove) (t : EndCore) (turns : List Utterance) → P role c turns → EndStep role c move t → P role t (turns_after turns move)
+MovesKeep P = (role : Role) (c : EndCore) (move : EndMove) (t : EndCore) (turns : List Utterance) → P role c turns → EndStep role c move t → P role t (utterances_after turns move)
 
 pub ends_step : (P : Role → EndCore → List Utterance → Type 0) → MovesKeep P → (s : LaneCore) (event : CoreEvent) (t : LaneCore) (transcript : TranscriptLog) → EndsAll P s transcript → CoreStep s event t
     → EndsAll P t (transcript_after transcript event)
@@ -57,8 +57,8 @@ stand_run entries asks answers events s fits run = search (ends_run, stands_step
 
 -- WHAT EACH ACT KEEPS of both, from the side of the end that acts
 pub record BothStand (role : Role) (s : Sides) : Type 0 where
-  pub mine : EndStands role s.mine.core s.mine.turns
-  pub theirs : EndStands (other role) s.theirs.core s.theirs.turns
+  pub mine : EndStands role s.mine.core s.mine.utterances
+  pub theirs : EndStands (other role) s.theirs.core s.theirs.utterances
 
 pub record ActsKeep (Holds : Role → Sides → Type 0) : Type 0 where
   pub swaps : (role : Role) (s : Sides) → Holds role s → Holds (other role) (swapped s)

@@ -24,9 +24,9 @@ use Rattle.ldc_queue.specs.Numbered.{is_numbered, numbered}
 use Rattle.ldc_queue.specs.OneStream.{live}
 use Rattle.ldc_queue.specs.Transcript.{Utterance, numbered_heard, numbered_said}
 use Rattle.vio_handshake.specs.declared.session.Offer.{Offer}
-use Rattle.channel_model.specs.TranscriptLog.{nothing_said}
+use Rattle.channel_laws.specs.TranscriptLog.{nothing_said}
 use Rattle.ldc_queue.specs.Wire.{peer_behind, queue_behind, upset}
-use Rattle.channel_model.specs.WireLog.{lossy_behind}
+use Rattle.channel_laws.specs.WireLog.{lossy_behind}
 use Rattle.channel_laws.proofs.Conversations.{held_phase}
 use Rattle.channel_laws.proofs.EndCases.{end_took}
 use Rattle.channel_laws.proofs.EndStanding.{held_stands}
@@ -55,19 +55,19 @@ at_first Responder = refl
 
 -- both begin
 emptied : (role : Role) (s : Sides) (state : ChannelState) (lossy : Bool) (t : EndCore) → live_phase state (first_phase role) t.link.phase ≡ first_phase role
-    → LinksAt role (record s { lossy = lossy; mine = record { state = state; waiting = []; core = t; turns = [] }; theirs = record s.theirs { state = upset s.theirs.state; waiting = [] } })
+    → LinksAt role (record s { lossy = lossy; mine = record { state = state; waiting = []; core = t; utterances = [] }; theirs = record s.theirs { state = upset s.theirs.state; waiting = [] } })
 emptied role s state lossy t first = grind (arith, at_first)
 
 -- one that wasn't up counted as one that begins
 woken : (role : Role) (s : Sides) (t : EndCore) → t.link.phase ≡ first_phase role → live_phase s.mine.state (first_phase role) s.mine.core.link.phase ≡ first_phase role
-    → live s.mine.state (numbered_said s.mine.turns) ≡ [] → live s.mine.state (numbered_heard s.mine.turns) ≡ [] → LinksAt role s
-    → LinksAt role (record s { mine = record { state = Up; waiting = s.mine.waiting; core = t; turns = [] } })
+    → live s.mine.state (numbered_said s.mine.utterances) ≡ [] → live s.mine.state (numbered_heard s.mine.utterances) ≡ [] → LinksAt role s
+    → LinksAt role (record s { mine = record { state = Up; waiting = s.mine.waiting; core = t; utterances = [] } })
 woken role s t first was said heard at = grind arith
 
 abbrev anew_in : ChannelState → EndCore → Sides → Sides
 anew_in x t s = record s {
   lossy = lossy_behind x s.lossy;
-  mine = record { state = Up; waiting = queue_behind x s.mine.waiting; core = t; turns = [] };
+  mine = record { state = Up; waiting = queue_behind x s.mine.waiting; core = t; utterances = [] };
   theirs = record s.theirs { state = peer_behind x s.theirs.state; waiting = queue_behind x s.theirs.waiting };
 }
 
@@ -77,11 +77,11 @@ anew_links role s t begins at = by_state s.mine.state refl
     first : t.link.phase ≡ first_phase role
     first = ap (λ (k : LinkState). k.phase) begins.link
 
-    woken_in : (x : ChannelState) → s.mine.state ≡ x → live_phase x (first_phase role) s.mine.core.link.phase ≡ first_phase role → live x (numbered_said s.mine.turns) ≡ []
-        → live x (numbered_heard s.mine.turns) ≡ [] → LinksAt role (record s { mine = record { state = Up; waiting = s.mine.waiting; core = t; turns = [] } })
+    woken_in : (x : ChannelState) → s.mine.state ≡ x → live_phase x (first_phase role) s.mine.core.link.phase ≡ first_phase role → live x (numbered_said s.mine.utterances) ≡ []
+        → live x (numbered_heard s.mine.utterances) ≡ [] → LinksAt role (record s { mine = record { state = Up; waiting = s.mine.waiting; core = t; utterances = [] } })
     woken_in x is was said heard =
         woken role s t first (ap (λ (y : ChannelState). live_phase y (first_phase role) s.mine.core.link.phase) is ∙ was)
-        (ap (λ (y : ChannelState). live y (numbered_said s.mine.turns)) is ∙ said) (ap (λ (y : ChannelState). live y (numbered_heard s.mine.turns)) is ∙ heard) at
+        (ap (λ (y : ChannelState). live y (numbered_said s.mine.utterances)) is ∙ said) (ap (λ (y : ChannelState). live y (numbered_heard s.mine.utterances)) is ∙ heard) at
 
     by_state : (x : ChannelState) → s.mine.state ≡ x → LinksAt role (anew t s)
     by_state Up is = subst (λ (x : ChannelState). LinksAt role (anew_in x t s)) (sym is) (emptied role s Up false t first)
@@ -277,25 +277,25 @@ up_phase x first now is = ap (λ (y : ChannelState). live_phase y first now) is
 pub up_live : (x : ChannelState) (packets : List (List ℕ)) → x ≡ Up → live x packets ≡ packets
 up_live x packets is = ap (λ (y : ChannelState). live y packets) is
 
-put_links : (role : Role) (s : Sides) (t : EndCore) (packet : List ℕ) (opens : Bool) → EndStands role s.mine.core s.mine.turns → s.mine.state ≡ Up → EndSays role s.mine.core packet opens t
+put_links : (role : Role) (s : Sides) (t : EndCore) (packet : List ℕ) (opens : Bool) → EndStands role s.mine.core s.mine.utterances → s.mine.state ≡ Up → EndSays role s.mine.core packet opens t
     → LinksAt role s → LinksAt role (put packet t s)
 put_links role s t packet opens stands up says at =
     let held : EndCore = says.held in
-    let stands_held = held_stands role s.mine.core held s.mine.turns says.what stands says.holds in
+    let stands_held = held_stands role s.mine.core held s.mine.utterances says.what stands says.holds in
     let here : held.link.phase ≡ phase_at role at.place =
     held_phase s.mine.core held says.what says.holds ∙ sym (up_phase s.mine.state (first_phase role) s.mine.core.link.phase up) ∙ at.mine in
-    let goes = put_place role at.place held.link t.link s.mine.turns packet stands_held.link.follows here (link_put held.link t.link packet says.puts) in
+    let goes = put_place role at.place held.link t.link s.mine.utterances packet stands_held.link.follows here (link_put held.link t.link packet says.puts) in
     record {
       place = goes.next;
       mine = up_phase s.mine.state (first_phase role) t.link.phase up ∙ goes.mine;
       theirs = at.theirs ∙ goes.theirs;
       to_mine = goes.to_mine s.lossy s.mine.waiting at.to_mine;
       to_theirs = goes.to_theirs s.lossy s.theirs.waiting at.to_theirs;
-      said_mine = subst (SaidAt role goes.next) (sym (up_live s.mine.state (numbered_said s.mine.turns ++ numbered (packet ∷ [])) up))
-          (goes.said_mine (numbered_said s.mine.turns) (subst (SaidAt role at.place) (up_live s.mine.state (numbered_said s.mine.turns) up) at.said_mine));
-      said_theirs = goes.said_theirs (live s.theirs.state (numbered_said s.theirs.turns)) at.said_theirs;
-      heard_mine = goes.heard_mine (live s.mine.state (numbered_heard s.mine.turns)) at.heard_mine;
-      heard_theirs = goes.heard_theirs (live s.theirs.state (numbered_heard s.theirs.turns)) at.heard_theirs;
+      said_mine = subst (SaidAt role goes.next) (sym (up_live s.mine.state (numbered_said s.mine.utterances ++ numbered (packet ∷ [])) up))
+          (goes.said_mine (numbered_said s.mine.utterances) (subst (SaidAt role at.place) (up_live s.mine.state (numbered_said s.mine.utterances) up) at.said_mine));
+      said_theirs = goes.said_theirs (live s.theirs.state (numbered_said s.theirs.utterances)) at.said_theirs;
+      heard_mine = goes.heard_mine (live s.mine.state (numbered_heard s.mine.utterances)) at.heard_mine;
+      heard_theirs = goes.heard_theirs (live s.theirs.state (numbered_heard s.theirs.utterances)) at.heard_theirs;
     }
 
 -- A PACKET IS TAKEN: what waits first
@@ -461,10 +461,10 @@ took_place Responder BothUp lossy waiting k m bytes at waits first takes how =
 took_place Initiator _ lossy waiting k m bytes at waits first takes how = absurd (nothing_first waiting bytes waits first)
 took_place Responder _ lossy waiting k m bytes at waits first takes how = absurd (nothing_first waiting bytes waits first)
 
-took_links : (role : Role) (s : Sides) (t : EndCore) (packet : List ℕ) (opens : Bool) → EndStands role s.mine.core s.mine.turns → s.mine.state ≡ Up
+took_links : (role : Role) (s : Sides) (t : EndCore) (packet : List ℕ) (opens : Bool) → EndStands role s.mine.core s.mine.utterances → s.mine.state ≡ Up
     → slice_get s.mine.waiting 0 ≡ Some packet → EndHears role s.mine.core packet opens t → LinksAt role s → LinksAt role (took packet t s)
 took_links role s t packet opens stands up first hears at =
-    let took_so = end_took role s.mine.core t s.mine.turns packet opens stands hears in
+    let took_so = end_took role s.mine.core t s.mine.utterances packet opens stands hears in
     let here : s.mine.core.link.phase ≡ phase_at role at.place = sym (up_phase s.mine.state (first_phase role) s.mine.core.link.phase up) ∙ at.mine in
     let goes = took_place role at.place s.lossy s.mine.waiting s.mine.core.link took_so.now packet here at.to_mine first took_so.takes took_so.how in
     record {
@@ -473,11 +473,11 @@ took_links role s t packet opens stands up first hears at =
       theirs = at.theirs ∙ goes.theirs;
       to_mine = goes.to_mine;
       to_theirs = goes.to_theirs s.theirs.waiting at.to_theirs;
-      said_mine = goes.said_mine (live s.mine.state (numbered_said s.mine.turns)) at.said_mine;
-      said_theirs = goes.said_theirs (live s.theirs.state (numbered_said s.theirs.turns)) at.said_theirs;
-      heard_mine = subst (HeardAt role goes.next) (sym (up_live s.mine.state (numbered_heard s.mine.turns ++ numbered (packet ∷ [])) up))
-          (goes.heard_mine (numbered_heard s.mine.turns) (subst (HeardAt role at.place) (up_live s.mine.state (numbered_heard s.mine.turns) up) at.heard_mine));
-      heard_theirs = goes.heard_theirs (live s.theirs.state (numbered_heard s.theirs.turns)) at.heard_theirs;
+      said_mine = goes.said_mine (live s.mine.state (numbered_said s.mine.utterances)) at.said_mine;
+      said_theirs = goes.said_theirs (live s.theirs.state (numbered_said s.theirs.utterances)) at.said_theirs;
+      heard_mine = subst (HeardAt role goes.next) (sym (up_live s.mine.state (numbered_heard s.mine.utterances ++ numbered (packet ∷ [])) up))
+          (goes.heard_mine (numbered_heard s.mine.utterances) (subst (HeardAt role at.place) (up_live s.mine.state (numbered_heard s.mine.utterances) up) at.heard_mine));
+      heard_theirs = goes.heard_theirs (live s.theirs.state (numbered_heard s.theirs.utterances)) at.heard_theirs;
     }
 
 pub links_keep : ActsKeep LinksAt

@@ -89,19 +89,19 @@ live_parts : (x : ChannelState) (turns : List Utterance) → PartsSaid turns →
 live_parts x turns all = grind arith
 
 -- A LINK that doesn't take the packet that waits first for it
-pub link_refuses : (role : Role) (s : Sides) (packet : List ℕ) (cause : Cause) → Converse role s → LinksAt role s → Follows s.mine.core.link s.mine.turns → PartsSaid s.theirs.turns
+pub link_refuses : (role : Role) (s : Sides) (packet : List ℕ) (cause : Cause) → Converse role s → LinksAt role s → Follows s.mine.core.link s.mine.utterances → PartsSaid s.theirs.utterances
     → s.mine.state ≡ Up → slice_get s.mine.waiting 0 ≡ Some packet → TakesBytes s.mine.core.link packet (Unheard cause) → IsGapBehindLoss s.lossy cause
 link_refuses role s packet cause converse links follows parts up first takes =
-    let said = live s.theirs.state (numbered_said s.theirs.turns) in
-    at_place role links.place s.lossy s.mine.core.link s.mine.turns said s.mine.waiting packet cause
+    let said = live s.theirs.state (numbered_said s.theirs.utterances) in
+    at_place role links.place s.lossy s.mine.core.link s.mine.utterances said s.mine.waiting packet cause
     (sym (ap (λ (x : ChannelState). live_phase x (first_phase role) s.mine.core.link.phase) up) ∙ links.mine) links.to_mine links.said_theirs
-    (subst (λ (x : ChannelState). HeardAt role links.place (live x (numbered_heard s.mine.turns))) up links.heard_mine)
+    (subst (λ (x : ChannelState). HeardAt role links.place (live x (numbered_heard s.mine.utterances))) up links.heard_mine)
     (record {
       lost = converse.lost_mine;
       follows = follows;
       first = first;
-      way = subst (λ (x : ChannelState). OneWay said (live x (numbered_heard s.mine.turns)) (numbered s.mine.waiting) converse.lost_mine) up converse.stream.to_a;
+      way = subst (λ (x : ChannelState). OneWay said (live x (numbered_heard s.mine.utterances)) (numbered s.mine.waiting) converse.lost_mine) up converse.stream.to_a;
       few = below_turn _ _ _ _ _ _ converse.to_mine.few;
       whole = λ full. (converse.whole full).0;
-      parts = live_parts s.theirs.state s.theirs.turns parts;
+      parts = live_parts s.theirs.state s.theirs.utterances parts;
     }) takes

@@ -23,9 +23,9 @@ use Rattle.ldc_queue.specs.Numbered.{is_numbered}
 use Rattle.ldc_queue.specs.Transcript.{Utterance}
 use Rattle.vio_tag.specs.declared.cause.Cause.{Cause}
 use Rattle.vio_tag.specs.declared.cause.Cause.TheVariants as the_cause
-use Rattle.channel_model.proofs.SameSayings.{half_heard_is}
-use Rattle.channel_model.specs.Sayings.{count_heard, half_heard}
-use Rattle.channel_model.specs.WireAt.{counts_next}
+use Rattle.channel_laws.proofs.SameSayings.{half_heard_is}
+use Rattle.channel_laws.specs.Sayings.{count_heard, half_heard}
+use Rattle.channel_laws.specs.WireAt.{counts_next}
 use Rattle.channel_laws.proofs.Numbering.{count_heard_is}
 use Rattle.channel_laws.specs.Resetting.{SaysWhy}
 

@@ -5,8 +5,8 @@ use Rattle.runs.specs.Run.{Run}
 use Rattle.ldc_queue.specs.declared.end.End.{End}
 use Rattle.ldc_queue.specs.Wire.{waiting_for}
 use Rattle.vio_handshake.specs.declared.session.Offer.{Offer}
-use Rattle.channel_model.specs.WireEvent.{Lost}
-use Rattle.channel_model.specs.WireLog.{WireLog}
+use Rattle.channel_laws.specs.WireEvent.{Lost}
+use Rattle.channel_laws.specs.WireLog.{WireLog}
 use Rattle.channel_laws.specs.CoreLog.{CoreLog, after, nothing_yet}
 use Rattle.channel_laws.specs.LaneCore.{CoreEvent, CoreFits, CoreStep, LaneCore, OnChannel, fresh_core}
 use Rattle.channel_laws.specs.LossStands.{Empties, EmptiesNone, LossAmong, LossStands}

@@ -2,7 +2,7 @@
 use Rattle.std.proofs.Common.{◌≡◌, ◌≤◌, ◌++◌, false, List, length, arith}
 use Rattle.ldc_link.specs.declared.phase.Role.{Role}
 use Rattle.ldc_queue.specs.Transcript.{Utterance}
-use Rattle.channel_model.specs.Sayings.{half_said}
+use Rattle.channel_laws.specs.Sayings.{half_said}
 use Rattle.channel_laws.specs.Cuts.{CarriesOwed}
 use Rattle.channel_laws.specs.EndCore.{EndCore}
 use Rattle.channel_laws.specs.Standing.{EndStands}

@@ -32,11 +32,11 @@ use Rattle.ldc_queue.specs.Numbered.{CountUp, is_numbered, kept}
 use Rattle.ldc_queue.specs.Transcript as turn
 use Rattle.ldc_queue.specs.Transcript.{Utterance, numbered_heard, numbered_said}
 use Rattle.vio_handshake.specs.declared.session.Offer.{Offer}
-use Rattle.channel_model.proofs.SameSayings.{half_heard_is}
-use Rattle.channel_model.specs.Sayings.{count_heard, count_said, half_heard, half_said}
-use Rattle.channel_model.specs.TranscriptLog.{more_if}
-use Rattle.channel_model.specs.WireAt.{IsHeard, IsHeardPart, IsSaid, IsSaidPart, WireHeardAt, WireSaidAt, counts_next}
-use Rattle.channel_model.specs.WireEvent.{WireEvent}
+use Rattle.channel_laws.proofs.SameSayings.{half_heard_is}
+use Rattle.channel_laws.specs.Sayings.{count_heard, count_said, half_heard, half_said}
+use Rattle.channel_laws.specs.TranscriptLog.{more_if}
+use Rattle.channel_laws.specs.WireAt.{IsHeard, IsHeardPart, IsSaid, IsSaidPart, WireHeardAt, WireSaidAt, counts_next}
+use Rattle.channel_laws.specs.WireEvent.{WireEvent}
 use Rattle.channel_laws.proofs.ConversingRuns.{converse_keeps, first_converse}
 use Rattle.channel_laws.proofs.CoreRuns.{Knows, knows_run}
 use Rattle.channel_laws.proofs.EndStanding.{held_stands}

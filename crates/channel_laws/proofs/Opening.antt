@@ -20,8 +20,8 @@ use Rattle.vio_tag.specs.Spelling.{SpellsMessage, canonical, envelope_code}
 use Rattle.vio_handshake.specs.declared.handshake.Handshake.{Handshake}
 use Rattle.vio_handshake.specs.declared.handshake.Phase.{Phase}
 use Rattle.vio_handshake.specs.declared.handshake.Phase.TheVariants.{Attributes, Down, Open, OwnReady, OwnRing, PeerReady, PeerReadyTaken, PeerRing, PeerRingTaken, Version}
-use Rattle.channel_model.specs.HandshakeOrder.{ComesUpBelow, EndsAs, FollowsRow, Hears, HearsControl, Line, MayEnd, Meets, Says, SaysControl, opening_lines, row, sid_in_bytes}
-use Rattle.channel_model.specs.Sayings.{half_heard, half_said}
+use Rattle.channel_laws.specs.HandshakeOrder.{ComesUpBelow, EndsAs, FollowsRow, Hears, HearsControl, Line, MayEnd, Meets, Says, SaysControl, opening_lines, row, sid_in_bytes}
+use Rattle.channel_laws.specs.Sayings.{half_heard, half_said}
 use Rattle.channel_laws.proofs.HandshakeCases.{NothingFollows}
 use Rattle.channel_laws.proofs.UtteranceCases.{EndsBy}
 use Rattle.channel_laws.specs.EndCore.{EndCore}

@@ -26,10 +26,10 @@ use Rattle.vio_handshake.specs.declared.handshake.Phase.TheVariants.{Open}
 use Rattle.vio_handshake.specs.declared.session.Offer.{Offer}
 use Rattle.vio_handshake.specs.Rules.{opens_by_put, put_in, handshake_sent, sid_fault}
 use Rattle.vio_handshake.specs.State.{handshake_up}
-use Rattle.channel_model.specs.HandshakeOrder.{ComesUpBelow, Control, FollowsRow, HandshakeOrder, IsControlOf, IsVersNack, Line, MayEnd, RdxGiven, RtrAnswered, RtsAsked, Says as Says_, VersAgreed, VersOffer}
-use Rattle.channel_model.specs.Sayings.{half_said}
-use Rattle.channel_model.specs.TranscriptLog.{transcript_of}
-use Rattle.channel_model.specs.WireEvent.{Sent as Sent_, Took as Took_}
+use Rattle.channel_laws.specs.HandshakeOrder.{ComesUpBelow, Control, FollowsRow, HandshakeOrder, IsControlOf, IsVersNack, Line, MayEnd, RdxGiven, RtrAnswered, RtsAsked, Says as Says_, VersAgreed, VersOffer}
+use Rattle.channel_laws.specs.Sayings.{half_said}
+use Rattle.channel_laws.specs.TranscriptLog.{transcript_of}
+use Rattle.channel_laws.specs.WireEvent.{Sent as Sent_, Took as Took_}
 use Rattle.channel_laws.proofs.Apart.{false_is_true}
 use Rattle.channel_laws.proofs.EndCases.{EndTook, NoMessage, PutControl, PutMore, PutOwn, PutReady, PutHandshake, PutWhat, Rises, TookMessage, TookOwn, TookHandshake, TookWhat, end_put, end_took, put_down, taken_down}
 use Rattle.channel_laws.proofs.EndResting.{StandsResting, held_handshake, of_sid, resting_step}
@@ -48,7 +48,7 @@ use Rattle.channel_laws.specs.Cuts.{Carries, CarriesOwed, CarriesOwn}
 use Rattle.channel_laws.specs.EndCore.{Begins, EndCore, EndMove, Fails, Hears, Renews, Says, Stays, Waits, fresh_end}
 use Rattle.channel_laws.specs.EndStep.{EndHears, EndSays, EndStep}
 use Rattle.channel_laws.specs.Grounds.{When, knows_sid}
-use Rattle.channel_laws.specs.LaneCore.{CoreEvent, CoreFits, CoreStep, LaneCore, OnChannel, end_of, fresh_core, role_of, transcript_behind, turns_after}
+use Rattle.channel_laws.specs.LaneCore.{CoreEvent, CoreFits, CoreStep, LaneCore, OnChannel, end_of, fresh_core, role_of, transcript_behind, utterances_after}
 use Rattle.channel_laws.specs.Standing.{EndStands, IsPhaseOf}
 
 -- A CONTROL PACKET that is heard
@@ -387,7 +387,7 @@ anew_came role t is = grind arith
 same_came : (role : Role) (c t : EndCore) (turns : List Utterance) → t.link.phase ≡ c.link.phase → t.handshake ≡ c.handshake → EndCame role c turns → EndCame role t turns
 same_came role c t turns link handshake came = grind arith
 
-came_step : (role : Role) (c : EndCore) (move : EndMove) (t : EndCore) (turns : List Utterance) → OrderStands role c turns → EndStep role c move t → EndCame role t (turns_after turns move)
+came_step : (role : Role) (c : EndCore) (move : EndMove) (t : EndCore) (turns : List Utterance) → OrderStands role c turns → EndStep role c move t → EndCame role t (utterances_after turns move)
 came_step role c Begins t turns all step = anew_came role t (step.link ∙ ap fresh_link all.knows.stands.link.role_is)
 came_step role c Renews t turns all step = anew_came role t step.link
 came_step role c (Fails cause packet) t turns all step = anew_came role t (step.1.link ∙ ap fresh_link all.knows.stands.link.role_is)
@@ -397,7 +397,7 @@ came_step role c Waits t turns all step = same_came role c t turns (held_phase c
 came_step role c Stays t turns all step = same_came role c t turns (ap (λ (k : LinkState). k.phase) step.link) step.handshake all.came
 
 pub order_step : (role : Role) (c : EndCore) (move : EndMove) (t : EndCore) (turns : List Utterance) → OrderStands role c turns → EndStep role c move t
-    → OrderStands role t (turns_after turns move)
+    → OrderStands role t (utterances_after turns move)
 order_step role c move t turns all step = record { knows = resting_step role c move t turns all.knows step; came = came_step role c move t turns all step }
 
 -- ALONG EVERY RUN

@@ -16,8 +16,8 @@ use Rattle.vio_handshake.specs.declared.handshake.Phase.{Phase}
 use Rattle.vio_handshake.specs.declared.handshake.Phase.TheVariants.{Attributes, Open, OwnReady, OwnRing, PeerReady, PeerReadyTaken, PeerRing, PeerRingTaken, Version}
 use Rattle.vio_handshake.specs.Messages.{ack, info, nack, own_ring}
 use Rattle.vio_handshake.specs.Rules.{behind_ring, own_named}
-use Rattle.channel_model.specs.HandshakeOrder.{EndsAs, FollowsRow, HandshakeOrder, OpensBy, opening_lines, own_ring_lines, row}
-use Rattle.channel_model.specs.Sayings.{half_heard}
+use Rattle.channel_laws.specs.HandshakeOrder.{EndsAs, FollowsRow, HandshakeOrder, OpensBy, opening_lines, own_ring_lines, row}
+use Rattle.channel_laws.specs.Sayings.{half_heard}
 use Rattle.channel_laws.proofs.Apart.{roles_differ}
 use Rattle.channel_laws.proofs.HandshakeCases.{AttributesAgreed, AttributesAsked, AttributesRefused, Declined, NothingFollows, OneRingAgreed, Opened, Opens, Owes, OwnReadyFollows, PeerAgreed, ReadyAgreed, ReadyAsked, ReadyFollows, RingAgreed, RingAsked, RingFollows, RingRefused, RowSent, RowTaken, VersionAgreed, VersionAsked, VersionRefused}
 use Rattle.channel_laws.proofs.Opening.{Comes, HandshakeComes, IsComing, IsNext, Owing, SaysWhole, Waiting, any_sid, comes_up, heard_line, hears_aside, last_follows, met, said_line, sid_of}

@@ -18,7 +18,7 @@ use Rattle.vio_tag.proofs.Canonical.{length_canonical}
 use Rattle.vio_tag.specs.declared.message.Message.{Message}
 use Rattle.vio_tag.specs.declared.message.MsgBody.TheVariants.{Rdx, Ver}
 use Rattle.vio_tag.specs.Spelling.{canonical}
-use Rattle.channel_model.specs.EndPuts.{EndsHandshake, PutKind, put_opens}
+use Rattle.channel_laws.specs.EndPuts.{EndsHandshake, PutKind, put_opens}
 use Rattle.channel_laws.proofs.EndCases.{PutControl, PutHandshake, PutMore, PutOwn, PutReady, PutWhat, end_put}
 use Rattle.channel_laws.proofs.EndStanding.{few_offered, held_stands, holds_some, last_none}
 use Rattle.channel_laws.proofs.HandshakeCases.{RowSent, row_sent}

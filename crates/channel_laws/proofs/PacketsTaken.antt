@@ -33,9 +33,9 @@ use Rattle.vio_tag.proofs.Canonical.{length_canonical}
 use Rattle.vio_tag.specs.declared.message.Message.{Message}
 use Rattle.vio_tag.specs.declared.message.MsgBody.TheVariants.{DringReg}
 use Rattle.vio_tag.specs.Spelling.{canonical}
-use Rattle.channel_model.specs.Sayings.{heard, said}
-use Rattle.channel_model.specs.TranscriptLog.{TranscriptLog}
-use Rattle.channel_model.specs.WireEvent.{Took}
+use Rattle.channel_laws.specs.Sayings.{heard, said}
+use Rattle.channel_laws.specs.TranscriptLog.{TranscriptLog}
+use Rattle.channel_laws.specs.WireEvent.{Took}
 use Rattle.channel_laws.proofs.Apart.{none_is_some, not_turn, true_is_false}
 use Rattle.channel_laws.proofs.ConversingRuns.{HeardFrom, hears_next}
 use Rattle.channel_laws.proofs.CoreRuns.{Knows}
@@ -165,10 +165,10 @@ took_packets asks answers role s t packet opens fits few_asks few_answers stands
     d = deal asks answers meets.handshakes.sid
 
     now : List Utterance
-    now = turn.Heard packet ∷ s.mine.turns
+    now = turn.Heard packet ∷ s.mine.utterances
 
-    took_so : EndTook role c s.mine.turns packet opens t
-    took_so = end_took role c t s.mine.turns packet opens stands.mine hears
+    took_so : EndTook role c s.mine.utterances packet opens t
+    took_so = end_took role c t s.mine.utterances packet opens stands.mine hears
 
     sends : SameSending c.link took_so.now
     sends = heard_sending c.link took_so.now packet took_so.how
@@ -204,22 +204,22 @@ took_packets asks answers role s t packet opens fits few_asks few_answers stands
     from : HeardFrom s now
     from = hears_next role s packet took_so.now meets.converse up first stands.mine.link.follows took_so.takes
 
-    peer : (bytes : List ℕ) → heard now ≡ heard s.mine.turns ++ bytes ∷ [] → AtPlace both d (other role) s.theirs.core.handshake s.theirs.turns
-    peer bytes grows = peer_place asks answers role s now s.mine.turns bytes stands.theirs meets.handshakes from grows
+    peer : (bytes : List ℕ) → heard now ≡ heard s.mine.utterances ++ bytes ∷ [] → AtPlace both d (other role) s.theirs.core.handshake s.theirs.utterances
+    peer bytes grows = peer_place asks answers role s now s.mine.utterances bytes stands.theirs meets.handshakes from grows
 
     rings : (r : Role) → (offer_at d r).both_rings ≡ both
     rings Initiator = refl
     rings Responder = fits.matched.kind
 
-    shut : (there : AtPlace both d role c.handshake s.mine.turns) → owner there.place ≡ Some (other role) → (b : Bool) → c.is_open ≡ b → c.is_open ≡ false
-    shut there is true opened = absurd (not_last (other role) there.place is (open_place both d role c s.mine.turns stands.mine there opened))
+    shut : (there : AtPlace both d role c.handshake s.mine.utterances) → owner there.place ≡ Some (other role) → (b : Bool) → c.is_open ≡ b → c.is_open ≡ false
+    shut there is true opened = absurd (not_last (other role) there.place is (open_place both d role c s.mine.utterances stands.mine there opened))
     shut there is false closed = closed
 
-    in_turn : (message : Message) → (took_message : TookMessage c s.mine.turns packet took_so.now message) → HandshakeTook c.handshake message t.handshake opens
-        → (there : AtPlace both d role c.handshake s.mine.turns) → owner there.place ≡ Some (other role) → packets_left t ≤ packets_left c
+    in_turn : (message : Message) → (took_message : TookMessage c s.mine.utterances packet took_so.now message) → HandshakeTook c.handshake message t.handshake opens
+        → (there : AtPlace both d role c.handshake s.mine.utterances) → owner there.place ≡ Some (other role) → packets_left t ≤ packets_left c
     in_turn message took_message handshake there is =
-        let bytes_are = place_bytes asks answers meets.handshakes.sid role c.handshake s.mine.turns now took_message.bytes (said s.theirs.turns) there is
-        (peer_said both d (other role) s.theirs.core.handshake s.theirs.turns (peer took_message.bytes took_message.messages)) from.front took_message.messages in
+        let bytes_are = place_bytes asks answers meets.handshakes.sid role c.handshake s.mine.utterances now took_message.bytes (said s.theirs.utterances) there is
+        (peer_said both d (other role) s.theirs.core.handshake s.theirs.utterances (peer took_message.bytes took_message.messages)) from.front took_message.messages in
         let named = message_is asks answers meets.handshakes.sid there.place message took_message.bytes fits meets.handshakes.small bytes_are took_message.form took_message.spells in
         let goes : t.handshake ≡ handshake_at both d role (next both there.place) =
         goes_alike t.handshake (handshake_at both d role (next both there.place)) (handshake_take c.handshake message) (handshake_take (handshake_at both d role there.place) (message_at d there.place))
@@ -236,18 +236,18 @@ took_packets asks answers role s t packet opens fits few_asks few_answers stands
     open_there Responder n is = ap (λ (m : Place). (handshake_at both d Responder m).phase) is
 
     -- at the last place it is a message of the session, which no handshake takes
-    at_last : (message : Message) → (took_message : TookMessage c s.mine.turns packet took_so.now message) → HandshakeTook c.handshake message t.handshake opens
-        → (there : AtPlace both d role c.handshake s.mine.turns) → there.place ≡ AllSaid → packets_left t ≤ packets_left c
+    at_last : (message : Message) → (took_message : TookMessage c s.mine.utterances packet took_so.now message) → HandshakeTook c.handshake message t.handshake opens
+        → (there : AtPlace both d role c.handshake s.mine.utterances) → there.place ≡ AllSaid → packets_left t ≤ packets_left c
     at_last message took_message handshake there last =
         let own : IsOwn d took_message.bytes =
-        own_heard both d role c.handshake s.theirs.core.handshake s.mine.turns s.theirs.turns took_message.bytes there last (peer took_message.bytes took_message.messages)
-        (subst (λ (xs : List (List ℕ)). IsFront xs (said s.theirs.turns)) took_message.messages from.front) in
+        own_heard both d role c.handshake s.theirs.core.handshake s.mine.utterances s.theirs.utterances took_message.bytes there last (peer took_message.bytes took_message.messages)
+        (subst (λ (xs : List (List ℕ)). IsFront xs (said s.theirs.utterances)) took_message.messages from.front) in
         let opened : c.handshake.phase ≡ Open = ap (λ (h : Handshake). h.phase) there.is ∙ open_there role there.place last in
         absurd (never_declined own.message message took_message.bytes own.body own.is took_message.form took_message.spells
         (open_declines c.handshake t.handshake message opens opened handshake.row).2)
 
-    by_turn : (message : Message) → (took_message : TookMessage c s.mine.turns packet took_so.now message) → HandshakeTook c.handshake message t.handshake opens
-        → AtPlace both d role c.handshake s.mine.turns → packets_left t ≤ packets_left c
+    by_turn : (message : Message) → (took_message : TookMessage c s.mine.utterances packet took_so.now message) → HandshakeTook c.handshake message t.handshake opens
+        → AtPlace both d role c.handshake s.mine.utterances → packets_left t ≤ packets_left c
     by_turn message took_message handshake there =
         elim (who role there.place) [
           | inl own ↦ (
@@ -266,7 +266,7 @@ took_packets asks answers role s t packet opens fits few_asks few_answers stands
         (ap (λ (p : LinkPhase). left_in p (all_in t.handshake) (messages_in t)) (now_phase ∙ established took_so.now.phase now_up))
         (held_empty t.own t.link.to_send t.handshake.owed (left ∙ below.left)) (ap (λ (h : Handshake). parts_owed h.owed) handshake) (ap later_in handshake)
 
-    by_what : TookWhat role c s.mine.turns packet opens t took_so.now → packets_left t ≤ packets_left c
+    by_what : TookWhat role c s.mine.utterances packet opens t took_so.now → packets_left t ≤ packets_left c
     by_what (NoMessage same quiet handshake not is_open) = by_how same handshake took_so.how
     by_what (Rises role_is down now_up quiet handshake not is_open) = rising down handshake now_up took_so.how
     by_what (TookOwn message took_message own handshake not is_open) = up_so took_message.up took_message.stays handshake

@@ -14,9 +14,9 @@ use Rattle.ldc_queue.specs.Fragments.{Fragment, fragment_at, fragments_in, is_pa
 use Rattle.ldc_queue.specs.Messages.{AllMayCome, MayCome, half_in, half_with}
 use Rattle.ldc_queue.specs.Numbered.{is_numbered}
 use Rattle.ldc_queue.specs.Transcript.{Said, Utterance, numbered_said}
-use Rattle.channel_model.proofs.SameSayings.{half_said_is}
-use Rattle.channel_model.specs.Sayings.{half_said}
-use Rattle.channel_model.specs.WireAt.{IsSaid, IsSaidPart}
+use Rattle.channel_laws.proofs.SameSayings.{half_said_is}
+use Rattle.channel_laws.specs.Sayings.{half_said}
+use Rattle.channel_laws.specs.WireAt.{IsSaid, IsSaidPart}
 use Rattle.ldc_link.specs.declared.phase.Role.{Role}
 use Rattle.ldc_link.specs.declared.phase.Role.TheVariants.{Initiator, Responder}
 use Rattle.vio_handshake.specs.declared.session.Offer.{Offer}
@@ -25,7 +25,7 @@ use Rattle.channel_laws.proofs.Lifting.{EndsAll, ends_run}
 use Rattle.channel_laws.proofs.Numbering.{end_said}
 use Rattle.channel_laws.specs.EndCore.{EndCore, EndMove}
 use Rattle.channel_laws.specs.EndStep.{EndStep}
-use Rattle.channel_laws.specs.LaneCore.{CoreEvent, CoreFits, CoreStep, LaneCore, fresh_core, transcript_behind, turns_after}
+use Rattle.channel_laws.specs.LaneCore.{CoreEvent, CoreFits, CoreStep, LaneCore, fresh_core, transcript_behind, utterances_after}
 use Rattle.channel_laws.specs.Standing.{EndStands}
 
 abbrev pub PartsSaid : List Utterance → Type 0
@@ -74,7 +74,7 @@ pub record SaysParts (role : Role) (c : EndCore) (turns : List Utterance) : Type
   pub stands : EndStands role c turns
   pub parts : PartsSaid turns
 
-parts_move : (role : Role) (c : EndCore) (move : EndMove) (t : EndCore) (turns : List Utterance) → SaysParts role c turns → EndStep role c move t → PartsSaid (turns_after turns move)
+parts_move : (role : Role) (c : EndCore) (move : EndMove) (t : EndCore) (turns : List Utterance) → SaysParts role c turns → EndStep role c move t → PartsSaid (utterances_after turns move)
 parts_move role c move t turns says step = grind (arith, says_more, end_said)
 
 pub parts_run : (entries : ℕ) (asks answers : Offer) (events : List CoreEvent) (s : LaneCore) → CoreFits entries asks answers

@@ -15,9 +15,9 @@ use Rattle.ldc_queue.specs.Numbered.{is_numbered, kept, numbered}
 use Rattle.ldc_queue.specs.OneStream.{OneWay, live}
 use Rattle.ldc_queue.specs.Transcript.{Said, Utterance, numbered_heard, numbered_said}
 use Rattle.vio_handshake.specs.declared.session.Offer.{Offer}
-use Rattle.channel_model.proofs.SameSayings.{half_said_is, heard_is, said_is}
-use Rattle.channel_model.specs.Sayings.{half_said, heard, said}
-use Rattle.channel_model.specs.WireAt.{IsSaid, IsSaidPart}
+use Rattle.channel_laws.proofs.SameSayings.{half_said_is, heard_is, said_is}
+use Rattle.channel_laws.specs.Sayings.{half_said, heard, said}
+use Rattle.channel_laws.specs.WireAt.{IsSaid, IsSaidPart}
 use Rattle.channel_laws.proofs.EndStanding.{fresh_end_stands, stands_step}
 use Rattle.channel_laws.proofs.Lifting.{EndsAll, ends_run}
 use Rattle.channel_laws.proofs.TakenInOrder.{part_is}
@@ -26,7 +26,7 @@ use Rattle.channel_laws.proofs.PartsSaid.{PartsSaid}
 use Rattle.channel_laws.specs.Conversing.{Converse}
 use Rattle.channel_laws.specs.EndCore.{EndCore, EndMove}
 use Rattle.channel_laws.specs.EndStep.{EndStep}
-use Rattle.channel_laws.specs.LaneCore.{CoreEvent, CoreFits, CoreStep, LaneCore, fresh_core, transcript_behind, turns_after}
+use Rattle.channel_laws.specs.LaneCore.{CoreEvent, CoreFits, CoreStep, LaneCore, fresh_core, transcript_behind, utterances_after}
 use Rattle.channel_laws.specs.LinkPlaces.{AllNumbered, BothUp, EachPart, LinkPlace, LinksAt, ReadyFirst, SaidAt, HeardAt}
 use Rattle.channel_laws.specs.LinkPlaces as link
 use Rattle.channel_laws.specs.Sides.{Sides}
@@ -77,7 +77,7 @@ pub record SaysLong (role : Role) (c : EndCore) (turns : List Utterance) : Type 
   pub stands : EndStands role c turns
   pub long : LongSaid turns
 
-long_move : (role : Role) (c : EndCore) (move : EndMove) (t : EndCore) (turns : List Utterance) → SaysLong role c turns → EndStep role c move t → LongSaid (turns_after turns move)
+long_move : (role : Role) (c : EndCore) (move : EndMove) (t : EndCore) (turns : List Utterance) → SaysLong role c turns → EndStep role c move t → LongSaid (utterances_after turns move)
 long_move role c move t turns says step = grind (arith, says_long, end_said)
 
 pub long_run : (entries : ℕ) (asks answers : Offer) (events : List CoreEvent) (s : LaneCore) → CoreFits entries asks answers
@@ -129,20 +129,20 @@ all_numbered (packet ∷ packets) all = ap (λ (b : Bool). kept b packet (number
 -- THE MESSAGES that the responder hasn't heard, and how many packets that makes
 pub record Unheard (s : Sides) : Type 0 where
   pub messages : List (List ℕ)
-  pub says : said s.mine.turns ≡ heard s.theirs.turns ++ messages
-  pub few : 56 * length s.theirs.waiting ≤ room_of messages + length (half_said s.mine.turns)
+  pub says : said s.mine.utterances ≡ heard s.theirs.utterances ++ messages
+  pub few : 56 * length s.theirs.waiting ≤ room_of messages + length (half_said s.mine.utterances)
 
-pub unheard : (s : Sides) → Converse Initiator s → (at : LinksAt Initiator s) → at.place ≡ BothUp → s.lossy ≡ false → s.mine.state ≡ Up → s.theirs.state ≡ Up → PartsSaid s.mine.turns
-    → LongSaid s.mine.turns → Unheard s
+pub unheard : (s : Sides) → Converse Initiator s → (at : LinksAt Initiator s) → at.place ≡ BothUp → s.lossy ≡ false → s.mine.state ≡ Up → s.theirs.state ≡ Up → PartsSaid s.mine.utterances
+    → LongSaid s.mine.utterances → Unheard s
 unheard s converse at both whole up other_up parts long = record {
   messages = whole_in half_first (fragments_in waits);
-  says = said_is s.mine.turns ∙ ap (whole_in []) split ∙ whole_in-append [] first (fragments_in waits)
-      ∙ ap (λ (xs : List (List ℕ)). xs ++ whole_in half_first (fragments_in waits)) (sym (heard_is s.theirs.turns));
+  says = said_is s.mine.utterances ∙ ap (whole_in []) split ∙ whole_in-append [] first (fragments_in waits)
+      ∙ ap (λ (xs : List (List ℕ)). xs ++ whole_in half_first (fragments_in waits)) (sym (heard_is s.theirs.utterances));
   few = omega (arith, few, many, ap length half_is);
 }
   where
     took : List (List ℕ)
-    took = numbered_heard s.theirs.turns
+    took = numbered_heard s.theirs.utterances
 
     waits : List (List ℕ)
     waits = s.theirs.waiting
@@ -153,7 +153,7 @@ unheard s converse at both whole up other_up parts long = record {
     half_first : List ℕ
     half_first = half_in [] first
 
-    way : OneWay (live s.mine.state (numbered_said s.mine.turns)) (live s.theirs.state took) (numbered waits) converse.lost_theirs
+    way : OneWay (live s.mine.state (numbered_said s.mine.utterances)) (live s.theirs.state took) (numbered waits) converse.lost_theirs
     way = converse.stream.to_b
 
     gone : way.gone ≡ []
@@ -162,18 +162,18 @@ unheard s converse at both whole up other_up parts long = record {
     numbers : AllNumbered waits
     numbers = subst (λ (p : LinkPlace). link.Waits Responder s.lossy p waits) both at.to_theirs
 
-    put : numbered_said s.mine.turns ≡ took ++ waits
+    put : numbered_said s.mine.utterances ≡ took ++ waits
     put =
-        sym (up_live s.mine.state (numbered_said s.mine.turns) up) ∙ way.is ∙ ap (λ (xs : List (List ℕ)). live s.theirs.state took ++ (xs ++ numbered waits)) gone
+        sym (up_live s.mine.state (numbered_said s.mine.utterances) up) ∙ way.is ∙ ap (λ (xs : List (List ℕ)). live s.theirs.state took ++ (xs ++ numbered waits)) gone
         ∙ ap (λ (xs : List (List ℕ)). live s.theirs.state took ++ xs) (all_numbered waits numbers) ∙ ap (λ (xs : List (List ℕ)). xs ++ waits) (up_live s.theirs.state took other_up)
 
-    split : fragments_in (numbered_said s.mine.turns) ≡ first ++ fragments_in waits
+    split : fragments_in (numbered_said s.mine.utterances) ≡ first ++ fragments_in waits
     split = ap fragments_in put ∙ fragments_in-append took waits
 
     ready : ReadyFirst (took ++ waits)
     ready =
-        subst ReadyFirst (up_live s.mine.state (numbered_said s.mine.turns) up ∙ put)
-        (subst (λ (p : LinkPlace). SaidAt Initiator p (live s.mine.state (numbered_said s.mine.turns))) both at.said_mine)
+        subst ReadyFirst (up_live s.mine.state (numbered_said s.mine.utterances) up ∙ put)
+        (subst (λ (p : LinkPlace). SaidAt Initiator p (live s.mine.state (numbered_said s.mine.utterances))) both at.said_mine)
 
     some : 1 ≤ length took
     some =
@@ -186,5 +186,5 @@ unheard s converse at both whole up other_up parts long = record {
     few : 56 * length (fragments_in waits) + length half_first ≤ room_of (whole_in half_first (fragments_in waits)) + length (half_in half_first (fragments_in waits))
     few = few_parts half_first (fragments_in waits) (come_behind [] first (fragments_in waits) (subst (AllMayCome []) split parts)) (long_behind first (fragments_in waits) (subst AllLong split long))
 
-    half_is : half_in half_first (fragments_in waits) ≡ half_said s.mine.turns
-    half_is = sym (half_said_is s.mine.turns ∙ ap (half_in []) split ∙ half_in-append [] first (fragments_in waits))
+    half_is : half_in half_first (fragments_in waits) ≡ half_said s.mine.utterances
+    half_is = sym (half_said_is s.mine.utterances ∙ ap (half_in []) split ∙ half_in-append [] first (fragments_in waits))

@@ -12,8 +12,8 @@ use Rattle.ldc_link.specs.Following.{Follows}
 use Rattle.ldc_link.specs.LinkState.{LinkState, is_established, is_up}
 use Rattle.ldc_link.specs.Putting.{behind_put, left_behind_put}
 use Rattle.ldc_queue.specs.Transcript.{Said, Utterance}
-use Rattle.channel_model.specs.EndPuts.{ComesUp, EndsOwn, EndsHandshake, Goes, PutKind, ending, kind_in, put_kind}
-use Rattle.channel_model.specs.Sayings.{half_said, said}
+use Rattle.channel_laws.specs.EndPuts.{ComesUp, EndsOwn, EndsHandshake, Goes, PutKind, ending, kind_in, put_kind}
+use Rattle.channel_laws.specs.Sayings.{half_said, said}
 use Rattle.channel_laws.proofs.LinkCases.{ControlGone, ControlPut, LinkPut, PartGone, ReadyGone, canonical_is, link_put, put_quiet, ready_loud}
 use Rattle.channel_laws.proofs.UtteranceCases.{SaysNothing, SaysPart, says_last, says_more, says_nothing, says_part}
 

@@ -18,9 +18,9 @@ use Rattle.vio_tag.specs.declared.cause.Cause.TheVariants as the_cause
 use Rattle.vio_tag.specs.declared.message.Message.{Message}
 use Rattle.vio_tag.specs.declared.message.TagFault.{TagFault}
 use Rattle.vio_tag.specs.Decoding.{Decodes}
-use Rattle.channel_model.specs.ResetSays.{MessageSays}
-use Rattle.channel_model.specs.TranscriptLog.{transcript_of}
-use Rattle.channel_model.specs.WireEvent.{ByStep, Reset, giver}
+use Rattle.channel_laws.specs.ResetSays.{MessageSays}
+use Rattle.channel_laws.specs.TranscriptLog.{transcript_of}
+use Rattle.channel_laws.specs.WireEvent.{ByStep, Reset, giver}
 use Rattle.channel_laws.proofs.HandshakeResets.{HandshakeWhy, Spelled, handshake_why}
 use Rattle.channel_laws.proofs.LinkCases.{link_heard}
 use Rattle.channel_laws.proofs.LinkResets.{link_why}

@@ -18,7 +18,7 @@ use Rattle.vio_handshake.specs.declared.session.Offer.{Offer}
 use Rattle.vio_handshake.specs.Rules.{handshake_sent}
 use Rattle.vio_handshake.specs.State.{handshake_up}
 use Rattle.vio_tag.specs.declared.message.Message.{Message}
-use Rattle.channel_model.specs.TranscriptLog.{TranscriptLog, is_rdx, nothing_said}
+use Rattle.channel_laws.specs.TranscriptLog.{TranscriptLog, is_rdx, nothing_said}
 use Rattle.channel_laws.proofs.Apart.{roles_differ}
 use Rattle.channel_laws.proofs.EndCases.{EndTook, NoMessage, PutControl, PutMore, PutOwn, PutReady, PutHandshake, PutWhat, Rises, TookOwn, TookHandshake, TookWhat, end_put, end_took}
 use Rattle.channel_laws.proofs.EndResting.{held_handshake}

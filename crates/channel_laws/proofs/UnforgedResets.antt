@@ -23,10 +23,10 @@ use Rattle.vio_tag.specs.declared.cause.Cause.{Cause}
 use Rattle.vio_tag.specs.declared.message.Message.{Message}
 use Rattle.vio_tag.specs.declared.message.TagFault.{TagFault}
 use Rattle.vio_tag.specs.Decoding.{Decodes}
-use Rattle.channel_model.specs.Sayings.{said}
-use Rattle.channel_model.specs.TranscriptLog.{TranscriptLog, transcript_of}
-use Rattle.channel_model.specs.WireAt.{IsOwnReset, MayReset}
-use Rattle.channel_model.specs.WireEvent.{ByStep, Giver, Reset, giver}
+use Rattle.channel_laws.specs.Sayings.{said}
+use Rattle.channel_laws.specs.TranscriptLog.{TranscriptLog, transcript_of}
+use Rattle.channel_laws.specs.WireAt.{IsOwnReset, MayReset}
+use Rattle.channel_laws.specs.WireEvent.{ByStep, Giver, Reset, giver}
 use Rattle.channel_laws.proofs.Apart.{none_is_some, some_is_none}
 use Rattle.channel_laws.proofs.ConversingRuns.{HeardFrom, hears_next}
 use Rattle.channel_laws.proofs.CoreRuns.{Knows}
@@ -56,7 +56,7 @@ never_refused take answer h cause is (inl goes) refused = let wrong : Goes h ≡
 never_refused take answer h cause is (inr goes) refused = let wrong : GoesOpen h ≡ Faults cause = sym goes ∙ sym is ∙ refused in cc wrong
 
 -- AN END that resets itself for a packet
-pub side_fails : (asks answers : Offer) (role : Role) (s : Sides) (packet : List ℕ) (cause : Cause) → Matches asks answers → BothStand role s → Meets asks answers role s → PartsSaid s.theirs.turns
+pub side_fails : (asks answers : Offer) (role : Role) (s : Sides) (packet : List ℕ) (cause : Cause) → Matches asks answers → BothStand role s → Meets asks answers role s → PartsSaid s.theirs.utterances
     → s.mine.state ≡ Up → slice_get s.mine.waiting 0 ≡ Some packet → EndFails role s.mine.core cause (Some packet) → IsGapBehindLoss s.lossy cause ⊎ LiesInMessage s.mine.core packet
 side_fails asks answers role s packet cause fits stands meets parts up first fails = by_take fails.take fails.takes fails.fails
   where
@@ -67,16 +67,16 @@ side_fails asks answers role s packet cause fits stands meets parts up first fai
     both = asks.both_rings
 
     by_place : (m : LinkState) → TakesBytes c.link packet (Heard m) → (bytes : List ℕ) → m.whole ≡ Some bytes → WholeFails (risen_at role c.link m c.handshake) c.is_open (Some bytes) cause
-        → AtPlace both (deal asks answers meets.handshakes.sid) role c.handshake s.mine.turns → LiesInMessage c packet
+        → AtPlace both (deal asks answers meets.handshakes.sid) role c.handshake s.mine.utterances → LiesInMessage c packet
     by_place m takes bytes whole bad at = by_turn
       where
         how : LinkHeard c.link packet m
         how = link_heard c.link m packet takes
 
-        on : HearsOn s.mine.turns packet (Some bytes)
-        on = subst (HearsOn s.mine.turns packet) whole (hears_on c.link m s.mine.turns packet stands.mine.link.seen stands.mine.link.follows how)
+        on : HearsOn s.mine.utterances packet (Some bytes)
+        on = subst (HearsOn s.mine.utterances packet) whole (hears_on c.link m s.mine.utterances packet stands.mine.link.seen stands.mine.link.follows how)
 
-        from : HeardFrom s (turn.Heard packet ∷ s.mine.turns)
+        from : HeardFrom s (turn.Heard packet ∷ s.mine.utterances)
         from = hears_next role s packet m meets.converse up first stands.mine.link.follows takes
 
         was : is_up c.link ≡ true
@@ -89,9 +89,9 @@ side_fails asks answers role s packet cause fits stands meets parts up first fai
         by_decoded turn_is d decodes bad_message = by_result d decodes bad_message
           where
             is : bytes ≡ bytes_at (deal asks answers meets.handshakes.sid) at.place
-            is = place_bytes asks answers meets.handshakes.sid role c.handshake s.mine.turns (turn.Heard packet ∷ s.mine.turns) bytes (said s.theirs.turns) at turn_is
-                (peer_said both (deal asks answers meets.handshakes.sid) (other role) s.theirs.core.handshake s.theirs.turns
-                (peer_place asks answers role s (turn.Heard packet ∷ s.mine.turns) s.mine.turns bytes stands.theirs meets.handshakes from on.messages)) from.front on.messages
+            is = place_bytes asks answers meets.handshakes.sid role c.handshake s.mine.utterances (turn.Heard packet ∷ s.mine.utterances) bytes (said s.theirs.utterances) at turn_is
+                (peer_said both (deal asks answers meets.handshakes.sid) (other role) s.theirs.core.handshake s.theirs.utterances
+                (peer_place asks answers role s (turn.Heard packet ∷ s.mine.utterances) s.mine.utterances bytes stands.theirs meets.handshakes from on.messages)) from.front on.messages
 
             by_result : (x : Result Message TagFault) → Decodes bytes x → DecodedFails (risen_at role c.link m c.handshake) c.is_open x cause → ⊥
             by_result (Ok one) reads (inl refused) =
@@ -100,7 +100,7 @@ side_fails asks answers role s packet cause fits stands meets parts up first fai
                 (handshake_at both (deal asks answers meets.handshakes.sid) role (next both at.place)) cause
                 (ap (λ (h : Handshake). handshake_take h one) (same ∙ at.is) ∙ ap (handshake_take (handshake_at both (deal asks answers meets.handshakes.sid) role at.place)) named)
                 (take_at both (deal asks answers meets.handshakes.sid) role at.place (deal_fits asks answers meets.handshakes.sid fits.matched) at.here turn_is) refused
-            by_result (Ok one) reads (inr own) = not_last (other role) at.place turn_is (open_place both (deal asks answers meets.handshakes.sid) role c s.mine.turns stands.mine at own.opened)
+            by_result (Ok one) reads (inr own) = not_last (other role) at.place turn_is (open_place both (deal asks answers meets.handshakes.sid) role c s.mine.utterances stands.mine at own.opened)
             by_result (Err fault) reads is_fault =
                 let spells = message_at_spelled asks answers meets.handshakes.sid at.place bytes fits meets.handshakes.small is in
                 some_is_none (sym reads.fault ∙ spelled_no_fault bytes (message_at (deal asks answers meets.handshakes.sid) at.place) spells.0 spells.1)
@@ -112,7 +112,7 @@ side_fails asks answers role s packet cause fits stands meets parts up first fai
                   none_is_some (sym fails.may.owed ∙ ap (λ (h : Handshake). h.owed) at.is ∙ owes_at both (deal asks answers meets.handshakes.sid) role at.place own))
               | inr (inl turn_is) ↦ absurd (by_decoded turn_is bad.0 bad.1 bad.2)
               | inr (inr last) ↦ record {
-                opened = place_open both (deal asks answers meets.handshakes.sid) role c s.mine.turns stands.mine at last;
+                opened = place_open both (deal asks answers meets.handshakes.sid) role c s.mine.utterances stands.mine at last;
                 ends = record { part = on.ends.part; stop = on.ends.stop };
               }
             ]
@@ -128,7 +128,7 @@ side_fails asks answers role s packet cause fits stands meets parts up first fai
     by_take (Heard m) takes bad = inr (by_whole m takes m.whole refl bad)
 
 -- A STEP by which an end resets itself
-by_packet : (asks answers : Offer) (role : Role) (s : Sides) (packet : Option (List ℕ)) (cause : Cause) → Matches asks answers → BothStand role s → Meets asks answers role s → PartsSaid s.theirs.turns
+by_packet : (asks answers : Offer) (role : Role) (s : Sides) (packet : Option (List ℕ)) (cause : Cause) → Matches asks answers → BothStand role s → Meets asks answers role s → PartsSaid s.theirs.utterances
     → s.mine.state ≡ Up → ((bytes : List ℕ) → packet ≡ Some bytes → slice_get s.mine.waiting 0 ≡ Some bytes) → EndFails role s.mine.core cause packet
     → IsGapBehindLoss s.lossy cause ⊎ LiesInSession s.mine.core packet
 by_packet asks answers role s None cause fits stands meets parts up first fails = inr fails

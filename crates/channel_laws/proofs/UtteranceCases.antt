@@ -11,9 +11,9 @@ use Rattle.ldc_link.proofs.Spelled.{has_part, spelled_fragment, spelled_part}
 use Rattle.ldc_link.specs.Following.{Follows}
 use Rattle.ldc_link.specs.LinkState.{LinkState}
 use Rattle.ldc_link.specs.Putting.{first_part, part_bytes}
-use Rattle.channel_model.proofs.SameSayings.{half_heard_is}
-use Rattle.channel_model.specs.Messages.{ended_by, whole_with}
-use Rattle.channel_model.specs.Sayings.{half_heard, half_past, half_said, heard, said, whole_by, whole_past}
+use Rattle.channel_laws.proofs.SameSayings.{half_heard_is}
+use Rattle.channel_laws.specs.Messages.{ended_by, whole_with}
+use Rattle.channel_laws.specs.Sayings.{half_heard, half_past, half_said, heard, said, whole_by, whole_past}
 use Rattle.channel_laws.proofs.LinkCases.{IsPacket, LinkHeard, canonical_is}
 
 -- A PACKET THAT IS NO PART says nothing of a message

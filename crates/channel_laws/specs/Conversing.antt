@@ -72,8 +72,8 @@ pub record FewLost (role : Role) (s : Sides) (lost : ℕ) : Type 0 where
 abbrev pub queue_log : Sides → ℕ → ℕ → QueueLog
 queue_log s lost_mine lost_theirs = record {
   wire = record { end_a = s.mine.state; end_b = s.theirs.state; to_a = s.mine.waiting; to_b = s.theirs.waiting };
-  transcript_a = s.mine.turns;
-  transcript_b = s.theirs.turns;
+  transcript_a = s.mine.utterances;
+  transcript_b = s.theirs.utterances;
   lost_a = lost_mine;
   lost_b = lost_theirs;
 }

@@ -1,10 +1,10 @@
 -- What a run comes to, counted from its events alone: the wire, and what each end said and heard since it last began; and where an event may
 -- stand by that.
 use Rattle.std.specs.Prelude.{◌≡◌, false, ℕ, ◌+◌, ◌≤◌, length, ⊤}
-use Rattle.channel_model.specs.TranscriptLog.{TranscriptLog, is_rdx, more_if, nothing_said}
-use Rattle.channel_model.specs.WireAt.{IsUp, WireHeardAt, WireSaidAt}
-use Rattle.channel_model.specs.WireEvent.{Blocked, Sent, WireEvent}
-use Rattle.channel_model.specs.WireLog.{WireLog, nothing_on_wire}
+use Rattle.channel_laws.specs.TranscriptLog.{TranscriptLog, is_rdx, more_if, nothing_said}
+use Rattle.channel_laws.specs.WireAt.{IsUp, WireHeardAt, WireSaidAt}
+use Rattle.channel_laws.specs.WireEvent.{Blocked, Sent, WireEvent}
+use Rattle.channel_laws.specs.WireLog.{WireLog, nothing_on_wire}
 use Rattle.ldc_queue.specs.declared.end.ChannelState.TheVariants.{Down, Resetting}
 use Rattle.ldc_queue.specs.declared.end.End.{End}
 use Rattle.ldc_queue.specs.declared.end.End.TheVariants.{A}

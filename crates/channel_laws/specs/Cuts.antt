@@ -7,16 +7,16 @@ use Rattle.vio_handshake.specs.declared.handshake.Handshake.{Handshake}
 use Rattle.vio_handshake.specs.declared.handshake.Phase.TheVariants.{Open}
 use Rattle.vio_tag.specs.declared.message.Message.{Message}
 use Rattle.vio_tag.specs.Spelling.{canonical}
-use Rattle.channel_model.specs.Sayings.{half_said}
+use Rattle.channel_laws.specs.Sayings.{half_said}
 use Rattle.channel_laws.specs.EndCore.{holds}
 use Rattle.channel_laws.specs.EndStep.{IsOfSession}
 
 -- part of its message is put where part of one was said, what was said of a message and what is left of it are at most 256 bytes, and where
 -- nothing is left nothing of a message was said
-pub record Cuts (k : LinkState) (turns : List Utterance) : Type 0 where
-  pub begun : k.begun ≡ not (is_empty (half_said turns))
-  pub most : length (half_said turns) + length k.to_send ≤ 256
-  pub free : k.to_send ≡ [] → half_said turns ≡ []
+pub record Cuts (k : LinkState) (utterances : List Utterance) : Type 0 where
+  pub begun : k.begun ≡ not (is_empty (half_said utterances))
+  pub most : length (half_said utterances) + length k.to_send ≤ 256
+  pub free : k.to_send ≡ [] → half_said utterances ≡ []
 
 -- what was put of a message and what is left of it: one of the end's session, which is open, or the message that its handshake owes
 pub record CarriesOwed (owing : Option Message) (bytes : List ℕ) : Type 0 where
@@ -36,4 +36,4 @@ Carries false h bytes = CarriesOwed h.owed bytes
 Carries true h bytes = CarriesOwn h bytes
 
 abbrev pub HoldsIts : Bool → LinkState → Handshake → List Utterance → Type 0
-HoldsIts own k h turns = holds k ≡ true → Carries own h (half_said turns ++ k.to_send)
+HoldsIts own k h utterances = holds k ≡ true → Carries own h (half_said utterances ++ k.to_send)

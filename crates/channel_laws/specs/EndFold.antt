@@ -1,4 +1,4 @@
--- What an end is by what it said and heard since it last began anew: its link's phase, and its handshake. Both are counted from the turns, newest
+-- What an end is by what it said and heard since it last began anew: its link's phase, and its handshake. Both are counted from the utterances, newest
 -- first, by the tables of the link and of the handshake.
 use Rattle.std.specs.Prelude.{◌≡◌, ℕ, ◌==◌, ◌||◌, Bool, true, false, nat_eq, if◌then◌else◌, List, [], ◌∷◌, Option, Some, None, Result, Ok, Err}
 use Rattle.ldc_link.specs.declared.phase.LinkPhase.{LinkPhase}
@@ -24,9 +24,9 @@ use Rattle.vio_handshake.specs.declared.session.Offer.{Offer}
 use Rattle.vio_handshake.specs.Messages.{info}
 use Rattle.vio_handshake.specs.Rules.{Faults, Goes, GoesOpen, HandshakeTake, handshake_sent, handshake_take}
 use Rattle.vio_handshake.specs.State.{fresh_handshake, no_session}
-use Rattle.channel_model.specs.Messages.{ended_by}
-use Rattle.channel_model.specs.Sayings.{half_heard, half_said}
-use Rattle.channel_model.specs.TranscriptLog.{is_rdx}
+use Rattle.channel_laws.specs.Messages.{ended_by}
+use Rattle.channel_laws.specs.Sayings.{half_heard, half_said}
+use Rattle.channel_laws.specs.TranscriptLog.{is_rdx}
 use Rattle.channel_laws.specs.EndCore.{EndCore}
 
 -- THE LINK'S PHASE. A control packet that is heard moves it by its fields, a part of a message by none
@@ -50,8 +50,8 @@ phase_heard false phase packet = or_stays phase (phase_by (ctrl_at packet) phase
 
 abbrev pub link_phase : Role → List Utterance → LinkPhase
 link_phase role [] = first_phase role
-link_phase role (Said packet ∷ turns) = phase_behind_put (link_phase role turns)
-link_phase role (Heard packet ∷ turns) = phase_heard (is_part packet) (link_phase role turns) packet
+link_phase role (Said packet ∷ utterances) = phase_behind_put (link_phase role utterances)
+link_phase role (Heard packet ∷ utterances) = phase_heard (is_part packet) (link_phase role utterances) packet
 
 -- THE HANDSHAKE of an end that offers this, where so many links came up
 abbrev pub down_with : Role → Offer → ℕ → Handshake
@@ -103,12 +103,12 @@ up_if false up h = h
 
 abbrev pub handshake_of : Role → Offer → ℕ → List Utterance → Handshake
 handshake_of role offer last [] = down_with role offer last
-handshake_of role offer last (Said packet ∷ turns) =
-    up_if (is_rdx packet) (up_with role offer last) (behind_said (ended_by (half_said turns) packet) (handshake_of role offer last turns))
-handshake_of role offer last (Heard packet ∷ turns) =
-    up_if (is_rdx packet) (up_with role offer last) (behind_heard (ended_by (half_heard turns) packet) (handshake_of role offer last turns))
+handshake_of role offer last (Said packet ∷ utterances) =
+    up_if (is_rdx packet) (up_with role offer last) (behind_said (ended_by (half_said utterances) packet) (handshake_of role offer last utterances))
+handshake_of role offer last (Heard packet ∷ utterances) =
+    up_if (is_rdx packet) (up_with role offer last) (behind_heard (ended_by (half_heard utterances) packet) (handshake_of role offer last utterances))
 
 -- AN END is so: its link, and its handshake, where its last sid is known
-pub record EndFolds (role : Role) (c : EndCore) (turns : List Utterance) : Type 0 where
-  pub phase : c.link.phase ≡ link_phase role turns
-  pub handshake : c.handshake ≡ handshake_of role c.offer c.handshake.last_sid turns
+pub record EndFolds (role : Role) (c : EndCore) (utterances : List Utterance) : Type 0 where
+  pub phase : c.link.phase ≡ link_phase role utterances
+  pub handshake : c.handshake ≡ handshake_of role c.offer c.handshake.last_sid utterances

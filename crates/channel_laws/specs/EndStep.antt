@@ -17,7 +17,7 @@ use Rattle.vio_tag.specs.declared.message.MsgBody.TheVariants.{DringData, Mcast}
 use Rattle.vio_tag.specs.declared.message.TagFault.{TagFault}
 use Rattle.vio_tag.specs.Decoding.{Decodes}
 use Rattle.vio_tag.specs.Spelling.{canonical}
-use Rattle.channel_model.specs.EndPuts.{PutKind, put_kind, put_opens, handshake_behind, handshake_risen}
+use Rattle.channel_laws.specs.EndPuts.{PutKind, put_kind, put_opens, handshake_behind, handshake_risen}
 use Rattle.channel_laws.specs.EndCore.{Begins, EndCore, EndMove, Fails, Hears, Renews, Says, Stays, Waits, holds}
 
 -- IT BEGINS ANEW, or its values are made new. An initiator's count of sids goes on both times: who asks for sessions never counts anew.

@@ -3,7 +3,7 @@ use Rattle.std.specs.Prelude.{◌≡◌, false, None, []}
 use Rattle.ldc_link.specs.Putting.{owes}
 use Rattle.ldc_queue.specs.declared.end.End.{End}
 use Rattle.ldc_queue.specs.Wire.{waiting_for}
-use Rattle.channel_model.specs.WireAt.{IsUp}
+use Rattle.channel_laws.specs.WireAt.{IsUp}
 use Rattle.channel_laws.specs.LaneCore.{LaneCore, end_of}
 
 pub record IsAtRest (e : End) (s : LaneCore) : Type 0 where

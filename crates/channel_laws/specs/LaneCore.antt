@@ -10,10 +10,10 @@ use Rattle.ldc_queue.specs.declared.end.End.TheVariants.{A, B}
 use Rattle.ldc_queue.specs.Transcript.{Heard, Said, Utterance}
 use Rattle.ldc_queue.specs.Wire.{Wire, closed, peer_of, state_of, waiting_for}
 use Rattle.vio_handshake.specs.declared.session.Offer.{Offer}
-use Rattle.channel_model.specs.TranscriptLog.{TranscriptLog, nothing_said, silenced, transcript_moved}
-use Rattle.channel_model.specs.WireAt.{IsFirstOn, IsUp, MayReset}
-use Rattle.channel_model.specs.WireEvent.{Blocked, ByRestart, ByScript, ByStep, ByTick, Declined, Declines, Giver, Idle, Injected, InjectedFull, Joined, Lost, NotInjected, NothingLost, PokeRefused, Poked, Reset, Sent, Took, WireEvent, giver}
-use Rattle.channel_model.specs.WireLog.{WireLog, nothing_on_wire, wire_moved}
+use Rattle.channel_laws.specs.TranscriptLog.{TranscriptLog, nothing_said, silenced, transcript_moved}
+use Rattle.channel_laws.specs.WireAt.{IsFirstOn, IsUp, MayReset}
+use Rattle.channel_laws.specs.WireEvent.{Blocked, ByRestart, ByScript, ByStep, ByTick, Declined, Declines, Giver, Idle, Injected, InjectedFull, Joined, Lost, NotInjected, NothingLost, PokeRefused, Poked, Reset, Sent, Took, WireEvent, giver}
+use Rattle.channel_laws.specs.WireLog.{WireLog, nothing_on_wire, wire_moved}
 use Rattle.map_table.specs.Cookies.{IsCookie}
 use Rattle.vio_tag.specs.declared.cause.Cause.{Cause}
 use Rattle.vio_tag.specs.Form.{AreCookies}
@@ -95,14 +95,14 @@ move_of e (Closes end) = at_end e end Renews
 move_of e Beside = Stays
 
 -- WHAT AN END SAID AND HEARD since it last began anew, by its moves; the same for both ends, by the events
-abbrev pub turns_after : List Utterance → EndMove → List Utterance
-turns_after turns Begins = []
-turns_after turns Renews = []
-turns_after turns (Fails cause packet) = []
-turns_after turns (Hears packet opens) = Heard packet ∷ turns
-turns_after turns (Says packet opens) = Said packet ∷ turns
-turns_after turns Waits = turns
-turns_after turns Stays = turns
+abbrev pub utterances_after : List Utterance → EndMove → List Utterance
+utterances_after utterances Begins = []
+utterances_after utterances Renews = []
+utterances_after utterances (Fails cause packet) = []
+utterances_after utterances (Hears packet opens) = Heard packet ∷ utterances
+utterances_after utterances (Says packet opens) = Said packet ∷ utterances
+utterances_after utterances Waits = utterances
+utterances_after utterances Stays = utterances
 
 abbrev pub transcript_after : TranscriptLog → CoreEvent → TranscriptLog
 transcript_after l (OnChannel event) = transcript_moved l event

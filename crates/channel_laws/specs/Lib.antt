@@ -1,3 +1,15 @@
+pub mod WireEvent
+pub mod WireLog
+pub mod TranscriptLog
+pub mod Sayings
+pub mod WireAt
+pub mod ResetSays
+pub mod HandshakeOrder
+pub mod Seeing
+pub mod Ranges
+pub mod EndPuts
+pub mod Messages
+pub mod OwnMemory
 pub mod EndCore
 pub mod EndStep
 pub mod LaneCore
@@ -13,7 +25,6 @@ pub mod Conversing
 pub mod LinkPlaces
 pub mod CoreLog
 pub mod Resetting
-pub mod ToyKind
 pub mod EndFold
 pub mod PacketsLeft
 pub mod EndsAtRest

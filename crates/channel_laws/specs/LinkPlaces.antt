@@ -138,7 +138,7 @@ pub record LinksAt (role : Role) (s : Sides) : Type 0 where
   pub theirs : live_phase s.theirs.state (first_phase (other role)) s.theirs.core.link.phase ≡ phase_at (other role) place
   pub to_mine : Waits role s.lossy place s.mine.waiting
   pub to_theirs : Waits (other role) s.lossy place s.theirs.waiting
-  pub said_mine : SaidAt role place (live s.mine.state (numbered_said s.mine.turns))
-  pub said_theirs : SaidAt (other role) place (live s.theirs.state (numbered_said s.theirs.turns))
-  pub heard_mine : HeardAt role place (live s.mine.state (numbered_heard s.mine.turns))
-  pub heard_theirs : HeardAt (other role) place (live s.theirs.state (numbered_heard s.theirs.turns))
+  pub said_mine : SaidAt role place (live s.mine.state (numbered_said s.mine.utterances))
+  pub said_theirs : SaidAt (other role) place (live s.theirs.state (numbered_said s.theirs.utterances))
+  pub heard_mine : HeardAt role place (live s.mine.state (numbered_heard s.mine.utterances))
+  pub heard_theirs : HeardAt (other role) place (live s.theirs.state (numbered_heard s.theirs.utterances))

@@ -2,8 +2,8 @@
 use Rattle.std.specs.Prelude.{◌≡◌, ℕ, List, [], ◌∷◌, ◌++◌, ⊤}
 use Rattle.runs.specs.Lawful.{Lawful, log_of}
 use Rattle.ldc_queue.specs.declared.end.End.{End}
-use Rattle.channel_model.specs.WireAt.{IsUp}
-use Rattle.channel_model.specs.WireEvent.{Joined, Lost, Reset}
+use Rattle.channel_laws.specs.WireAt.{IsUp}
+use Rattle.channel_laws.specs.WireEvent.{Joined, Lost, Reset}
 use Rattle.channel_laws.specs.CoreLog.{CoreLog, after, nothing_yet}
 use Rattle.channel_laws.specs.LaneCore.{Closes, CoreEvent, OnChannel}
 

@@ -21,10 +21,10 @@ use Rattle.vio_tag.specs.Decoding.{Decodes}
 use Rattle.vio_tag.specs.Fault as message
 use Rattle.vio_tag.specs.Spelling as message_at
 use Rattle.vio_tag.specs.Spelling.{SpellsMessage}
-use Rattle.channel_model.specs.Messages.{ended_by}
-use Rattle.channel_model.specs.ResetSays.{MessageSays}
-use Rattle.channel_model.specs.Sayings.{count_heard, half_heard}
-use Rattle.channel_model.specs.WireAt.{counts_next}
+use Rattle.channel_laws.specs.Messages.{ended_by}
+use Rattle.channel_laws.specs.ResetSays.{MessageSays}
+use Rattle.channel_laws.specs.Sayings.{count_heard, half_heard}
+use Rattle.channel_laws.specs.WireAt.{counts_next}
 use Rattle.channel_laws.specs.EndCore.{EndCore}
 use Rattle.channel_laws.specs.EndFold.{decoded_of}
 use Rattle.channel_laws.specs.EndStep.{risen_at}
@@ -64,12 +64,12 @@ part_cause part comes rest = if part then (if comes then rest else Some the_caus
 
 -- THE CAUSE, in a session of this sid
 abbrev pub packet_cause : (Message → Option Cause) → ℕ → List Utterance → List ℕ → Option Cause
-packet_cause own sid turns packet =
+packet_cause own sid utterances packet =
     fault_cause (first_fault packet)
-    (number_cause (is_numbered packet) (counts_next (count_heard turns)) (seqid_at packet)
+    (number_cause (is_numbered packet) (counts_next (count_heard utterances)) (seqid_at packet)
     (mode_cause (names_mode packet) (env_at packet)
-    (part_cause (is_part packet) (may_come (half_heard turns) (fragment_at packet))
-    (message_cause own sid (ended_by (half_heard turns) packet)))))
+    (part_cause (is_part packet) (may_come (half_heard utterances) (fragment_at packet))
+    (message_cause own sid (ended_by (half_heard utterances) packet)))))
 
 -- WHAT AN END MAKES of a packet, by its link, its handshake and its session
 abbrev pub refused_by : HandshakeTake → Option Cause

@@ -4,8 +4,8 @@ use Rattle.std.specs.Prelude.{◌≡◌, ℕ, Bool, true, ◌⊎◌, List, Optio
 use Rattle.ldc_queue.specs.Transcript.{Utterance}
 use Rattle.vio_tag.specs.declared.cause.Cause.{Cause}
 use Rattle.vio_tag.specs.declared.cause.Cause.TheVariants as the_cause
-use Rattle.channel_model.specs.ResetSays.{EndsMessage, PacketSays}
-use Rattle.channel_model.specs.WireAt.{GapOf}
+use Rattle.channel_laws.specs.ResetSays.{EndsMessage, PacketSays}
+use Rattle.channel_laws.specs.WireAt.{GapOf}
 use Rattle.channel_laws.specs.EndCore.{EndCore}
 
 -- a slot of a ring that isn't DONE lies in no packet
@@ -13,9 +13,9 @@ abbrev pub LiesInPacket : Cause → Type 0
 LiesInPacket (the_cause.NotDone slot state) = ⊥
 LiesInPacket _ = ⊤
 
-pub record SaysWhy (turns : List Utterance) (packet : List ℕ) (cause : Cause) : Type 0 where
-  pub says : PacketSays turns packet cause
-  pub gap : GapOf turns cause (Some packet)
+pub record SaysWhy (utterances : List Utterance) (packet : List ℕ) (cause : Cause) : Type 0 where
+  pub says : PacketSays utterances packet cause
+  pub gap : GapOf utterances cause (Some packet)
   pub carried : LiesInPacket cause
 
 -- a cause of the session's own
@@ -28,8 +28,8 @@ LiesInSession c (Some packet) = LiesInMessage c packet
 LiesInSession c None = c.is_open ≡ true
 
 abbrev pub ResetsFor : EndCore → List Utterance → Cause → Option (List ℕ) → Type 0
-ResetsFor c turns cause (Some packet) = SaysWhy turns packet cause ⊎ LiesInMessage c packet
-ResetsFor c turns cause None = c.is_open ≡ true
+ResetsFor c utterances cause (Some packet) = SaysWhy utterances packet cause ⊎ LiesInMessage c packet
+ResetsFor c utterances cause None = c.is_open ≡ true
 
 -- a gap, where a packet was lost since the queues were last emptied
 pub record IsGapBehindLoss (lossy : Bool) (cause : Cause) : Type 0 where

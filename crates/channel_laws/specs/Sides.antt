@@ -6,8 +6,8 @@ use Rattle.ldc_queue.specs.declared.end.ChannelState.TheVariants.{Down, Up}
 use Rattle.ldc_queue.specs.Transcript.{Heard, Said, Utterance}
 use Rattle.ldc_queue.specs.Wire.{peer_behind, queue_behind, upset}
 pub use Rattle.vio_handshake.specs.Pairing.{other}
-use Rattle.channel_model.specs.TranscriptLog.{TranscriptLog}
-use Rattle.channel_model.specs.WireLog.{WireLog, lossy_behind}
+use Rattle.channel_laws.specs.TranscriptLog.{TranscriptLog}
+use Rattle.channel_laws.specs.WireLog.{WireLog, lossy_behind}
 use Rattle.channel_laws.specs.EndCore.{EndCore}
 use Rattle.channel_laws.specs.LaneCore.{LaneCore}
 
@@ -16,7 +16,7 @@ pub record Side : Type 0 where
   pub state : ChannelState
   pub waiting : List (List ℕ)
   pub core : EndCore
-  pub turns : List Utterance
+  pub utterances : List Utterance
 
 pub record Sides : Type 0 where
   pub entries : ℕ
@@ -32,8 +32,8 @@ abbrev pub sides_in : ℕ → WireLog → EndCore → EndCore → TranscriptLog 
 sides_in entries l a b transcript = record {
   entries = entries;
   lossy = l.lossy;
-  mine = record { state = l.wire.end_a; waiting = l.wire.to_a; core = a; turns = transcript.client };
-  theirs = record { state = l.wire.end_b; waiting = l.wire.to_b; core = b; turns = transcript.server };
+  mine = record { state = l.wire.end_a; waiting = l.wire.to_a; core = a; utterances = transcript.client };
+  theirs = record { state = l.wire.end_b; waiting = l.wire.to_b; core = b; utterances = transcript.server };
 }
 
 abbrev pub sides_of : LaneCore → TranscriptLog → Sides
@@ -47,23 +47,23 @@ goes_on t s = record s { mine = record s.mine { core = t } }
 abbrev pub anew : EndCore → Sides → Sides
 anew t s = record s {
   lossy = lossy_behind s.mine.state s.lossy;
-  mine = record { state = Up; waiting = queue_behind s.mine.state s.mine.waiting; core = t; turns = [] };
+  mine = record { state = Up; waiting = queue_behind s.mine.state s.mine.waiting; core = t; utterances = [] };
   theirs = record s.theirs { state = peer_behind s.mine.state s.theirs.state; waiting = queue_behind s.mine.state s.theirs.waiting };
 }
 
 abbrev pub shut : EndCore → Sides → Sides
 shut t s = record s {
   lossy = false;
-  mine = record { state = Down; waiting = []; core = t; turns = [] };
+  mine = record { state = Down; waiting = []; core = t; utterances = [] };
   theirs = record s.theirs { state = upset s.theirs.state; waiting = [] };
 }
 
 abbrev pub took : List ℕ → EndCore → Sides → Sides
-took packet t s = record s { mine = record s.mine { waiting = drop 1 s.mine.waiting; core = t; turns = Heard packet ∷ s.mine.turns } }
+took packet t s = record s { mine = record s.mine { waiting = drop 1 s.mine.waiting; core = t; utterances = Heard packet ∷ s.mine.utterances } }
 
 abbrev pub put : List ℕ → EndCore → Sides → Sides
 put packet t s = record s {
-  mine = record s.mine { core = t; turns = Said packet ∷ s.mine.turns };
+  mine = record s.mine { core = t; utterances = Said packet ∷ s.mine.utterances };
   theirs = record s.theirs { waiting = s.theirs.waiting ++ packet ∷ [] };
 }
 

@@ -15,7 +15,7 @@ use Rattle.vio_tag.specs.declared.message.Message.{Message}
 use Rattle.vio_tag.specs.declared.message.MsgBody.{MsgBody}
 use Rattle.vio_tag.specs.declared.message.MsgBody.TheVariants.{Attr, DringData, DringReg, DringUnreg, Mcast, Plain, Rdx, Ver}
 use Rattle.vio_tag.specs.Form.{HasForm}
-use Rattle.channel_model.specs.Sayings.{heard, said}
+use Rattle.channel_laws.specs.Sayings.{heard, said}
 use Rattle.channel_laws.specs.Cuts.{Cuts, HoldsIts}
 use Rattle.channel_laws.specs.EndCore.{EndCore}
 
@@ -35,12 +35,12 @@ IsPhaseOf Responder phase.OwesRtr = ⊤
 IsPhaseOf Responder phase.AwaitsRdx = ⊤
 IsPhaseOf role _ = ⊥
 
-pub record LinkStands (role : Role) (k : LinkState) (turns : List Utterance) : Type 0 where
+pub record LinkStands (role : Role) (k : LinkState) (utterances : List Utterance) : Type 0 where
   pub role_is : k.role ≡ role
   pub of_role : IsPhaseOf role k.phase
-  pub follows : Follows k turns
+  pub follows : Follows k utterances
   pub seen : k.whole ≡ None
-  pub cuts : Cuts k turns
+  pub cuts : Cuts k utterances
 
 -- A HANDSHAKE, which owes a message of at most 256 bytes, never one of the session, and is open where that is
 abbrev pub IsShort : MsgBody → Type 0
@@ -68,17 +68,17 @@ pub record HandshakeStands (role : Role) (offer : Offer) (h : Handshake) : Type 
   pub owed : OwedIsShort h.owed
 
 -- BEFORE ITS LINK IS UP an end holds nothing and owes nothing, and said and heard no message
-pub record IsBelow (k : LinkState) (h : Handshake) (turns : List Utterance) : Type 0 where
+pub record IsBelow (k : LinkState) (h : Handshake) (utterances : List Utterance) : Type 0 where
   pub left : k.to_send ≡ []
   pub owed : h.owed ≡ None
   pub down : h.phase ≡ Down
-  pub said_none : said turns ≡ []
-  pub heard_none : heard turns ≡ []
+  pub said_none : said utterances ≡ []
+  pub heard_none : heard utterances ≡ []
 
-pub record EndStands (role : Role) (c : EndCore) (turns : List Utterance) : Type 0 where
-  pub link : LinkStands role c.link turns
+pub record EndStands (role : Role) (c : EndCore) (utterances : List Utterance) : Type 0 where
+  pub link : LinkStands role c.link utterances
   pub handshake : HandshakeStands role c.offer c.handshake
   pub opened : c.is_open ≡ is_open_in c.handshake.phase
   pub more : c.more ≤ 256
-  pub below : is_up c.link ≡ false → IsBelow c.link c.handshake turns
-  pub carries : HoldsIts c.own c.link c.handshake turns
+  pub below : is_up c.link ≡ false → IsBelow c.link c.handshake utterances
+  pub carries : HoldsIts c.own c.link c.handshake utterances

@@ -1,11 +1,12 @@
 //! Two ends on a channel, of any kind of lane: an end as its channel sees it, what may happen to it, and two of them with the wire
-//! between. What always holds of an end by its role, and of both where nobody forged, whatever was lost, reset or closed. It has no code.
+//! between. What an end sees, puts, takes and tells, the messages that its packets make, and where each event of the wire may stand.
+//! What always holds of an end by its role, and of both where nobody forged, whatever was lost, reset or closed. It has no code.
 #![tactic(auto)]
 
 mod end_laws;
 mod pair_laws;
 mod session_laws;
-mod toy_laws;
+mod wire_laws;
 
 pub use end_laws::{
     a_reset_of_an_end_says_why, an_end_rests_on_what_it_heard,
@@ -22,4 +23,4 @@ pub use session_laws::{
     a_packet_resets_a_session_for_its_first_cause, open_sessions_know_each_others_attributes,
     two_ends_at_rest_are_in_session,
 };
-pub use toy_laws::toys_with_rings_both_ways_have_their_row_and_one_session;
+pub use wire_laws::transcripts_count_messages;

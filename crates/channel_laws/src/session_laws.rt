@@ -10,10 +10,10 @@ ghost use Rattle.vio_handshake.specs.Offers.{Match};
 ghost use Rattle.vio_handshake.specs.declared.session.Offer.{Offer};
 ghost use Rattle.vio_tag.specs.declared.cause.Cause.{Cause};
 ghost use Rattle.vio_tag.specs.declared.message.Message.{Message};
-ghost use Rattle.channel_model.specs.ResetSays.{PacketSays};
-ghost use Rattle.channel_model.specs.Sayings.{heard, said};
-ghost use Rattle.channel_model.specs.TranscriptLog.{transcript_of};
-ghost use Rattle.channel_model.specs.WireAt.{GapOf};
+ghost use Rattle.channel_laws.specs.ResetSays.{PacketSays};
+ghost use Rattle.channel_laws.specs.Sayings.{heard, said};
+ghost use Rattle.channel_laws.specs.TranscriptLog.{transcript_of};
+ghost use Rattle.channel_laws.specs.WireAt.{GapOf};
 ghost use Rattle.channel_laws.specs.EndsAtRest.{IsAtRest};
 ghost use Rattle.channel_laws.specs.KnownAttributes.{KnowAttributes};
 ghost use Rattle.channel_laws.specs.LaneCore.{end_of, fresh_core, role_of, transcript_behind, CoreEvent, CoreFits, CoreStep, LaneCore};
@@ -52,7 +52,7 @@ pub fn a_packet_resets_a_session_for_its_first_cause()
         → CoreFits entries asks answers → Run CoreStep (fresh_core entries asks answers) events s
         → (end_of e s).is_open ≡ true → Judges own (role_of e) (end_of e s) packet answer
         → answer ≡ packet_cause own (end_of e s).handshake.draft.sid (transcript_of e (transcript_behind events)) packet }
-    ensures says { (own : Message → Option Cause) (sid : ℕ) (turns : List Utterance) (packet : List ℕ) (cause : Cause)
-        → JudgesRightly own → packet_cause own sid turns packet ≡ Some cause
-        → PacketSays turns packet cause × GapOf turns cause (Some packet) }
+    ensures says { (own : Message → Option Cause) (sid : ℕ) (utterances : List Utterance) (packet : List ℕ) (cause : Cause)
+        → JudgesRightly own → packet_cause own sid utterances packet ≡ Some cause
+        → PacketSays utterances packet cause × GapOf utterances cause (Some packet) }
 {}

@@ -3,11 +3,11 @@ use Rattle.std.proofs.Common.{◌≡◌, ◌≢◌, ℕ, Bool, false, List, Opti
 use Rattle.ldc_queue.specs.declared.end.ChannelState.{ChannelState}
 use Rattle.ldc_queue.specs.declared.end.ChannelState.TheVariants.{Down, Up, Resetting}
 use Rattle.vio_tag.specs.declared.cause.Cause.{Cause}
-use Rattle.channel_model.specs.WireLog.{lossy_behind}
+use Rattle.channel_laws.specs.WireLog.{lossy_behind}
 use Rattle.disk_model.specs.ClientRule as client
 use Rattle.disk_model.specs.ClientState.{ClientState}
 use Rattle.disk_model.specs.ClientStep.{ClientFails}
-use Rattle.channel_model.specs.Seeing.{Seen}
+use Rattle.channel_laws.specs.Seeing.{Seen}
 use Rattle.disk_model.specs.ServerRule as server
 use Rattle.disk_model.specs.ServerState.{ServerState}
 use Rattle.disk_model.specs.ServerStep.{ServerFails}

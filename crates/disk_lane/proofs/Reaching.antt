@@ -3,14 +3,14 @@ use Rattle.std.proofs.Common.{◌≡◌, refl, sym, subst, ℕ, List, [], ◌∷
 use Rattle.runs.specs.Run.{run_push}
 use Rattle.ldc_queue.specs.declared.end.End.TheVariants.{B}
 use Rattle.vio_tag.specs.declared.cause.Cause.{Cause}
-use Rattle.channel_model.specs.WireEvent as wire
-use Rattle.channel_model.specs.WireEvent.{Giver, giver}
+use Rattle.channel_laws.specs.WireEvent as wire
+use Rattle.channel_laws.specs.WireEvent.{Giver, giver}
 use Rattle.disk_model.proofs.OwnSteps.{server_resets_own}
 use Rattle.disk_model.specs.DiskEvent.{DiskEvent}
 use Rattle.disk_model.specs.LaneState.{IsShape, LaneState, Shape, fresh}
 use Rattle.disk_model.specs.LaneStep.{LaneStep, ResetBy, ServerOnWire, reach}
 use Rattle.disk_model.specs.Reached.{IsReached}
-use Rattle.channel_model.specs.Seeing.{seen}
+use Rattle.channel_laws.specs.Seeing.{seen}
 use Rattle.disk_model.specs.Served.{Served, ServedStep}
 use Rattle.disk_model.specs.ServerRule.{server_rule}
 use Rattle.lane_laws.proofs.RingPages.{same_pages}

@@ -1,7 +1,7 @@
 -- What a lane notes of a step, beside what its ends did: whether a packet was lost, how near the image is, and whether
 -- the store failed.
 use Rattle.std.specs.Prelude.{◌||◌, Bool, false}
-use Rattle.channel_model.specs.WireEvent.{Reset}
+use Rattle.channel_laws.specs.WireEvent.{Reset}
 use Rattle.disk_model.specs.ClientState.{ClientState}
 use Rattle.disk_model.specs.DiskEvent.{DiskEvent, OnWire, Stored, Works}
 use Rattle.disk_model.specs.LaneState.{LaneState, NearCounts, near_disturbed}

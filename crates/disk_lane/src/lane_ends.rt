@@ -250,7 +250,7 @@ impl LaneEnds {
 
 impl LaneEnds {
     ghost use Rattle.disk_model.specs.LaneState.{near_disturbed};
-    ghost use Rattle.channel_model.specs.WireLog.{lossy_behind};
+    ghost use Rattle.channel_laws.specs.WireLog.{lossy_behind};
 
     // An end that was in this state began anew.
     fn disturbed(&mut self, was: ChannelState)

@@ -12,7 +12,7 @@ use Rattle.vio_bytes.specs.Place.{put_at}
 use Rattle.vio_handshake.specs.declared.handshake.Phase.TheVariants as handshake
 use Rattle.disk_model.specs.ClientStep.{published_memory}
 use Rattle.disk_model.specs.LaneState.{LaneState}
-use Rattle.channel_model.specs.OwnMemory.{filled}
+use Rattle.channel_laws.specs.OwnMemory.{filled}
 use Rattle.disk_model.specs.Offering.{client_offer, server_offer}
 use Rattle.disk_model.specs.FirstRounds.{attr_ack, data_info, rdx_ack, rdx_info, reg_ack, reg_info, carries}
 use Rattle.disk_model.proofs.RoundStates.{lane_at, link_at, handshake_at}

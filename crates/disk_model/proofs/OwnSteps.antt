@@ -14,13 +14,13 @@ use Rattle.vio_tag.specs.declared.message.MsgBody.{MsgBody}
 use Rattle.vio_tag.specs.declared.message.MsgBody.TheVariants.{DringData}
 use Rattle.vio_tag.specs.declared.message.TagFault.{TagFault}
 use Rattle.vio_handshake.specs.Rules.{Faults, Goes, GoesOpen, HandshakeTake, handshake_take, sid_fault}
-use Rattle.channel_model.specs.WireEvent.{ByStep, giver}
+use Rattle.channel_laws.specs.WireEvent.{ByStep, giver}
 use Rattle.disk_model.specs.ClientRule as client_rule
 use Rattle.disk_model.specs.ClientState.{ClientSession, ClientState, slot_in}
 use Rattle.disk_model.specs.ClientStep.{ClientFails}
 use Rattle.disk_model.specs.ClientTaking as client
-use Rattle.channel_model.specs.EndPuts.{handshake_risen}
-use Rattle.channel_model.specs.Ranges.{is_other}
+use Rattle.channel_laws.specs.EndPuts.{handshake_risen}
+use Rattle.channel_laws.specs.Ranges.{is_other}
 use Rattle.dring.specs.Slots.{range_length}
 use Rattle.disk_model.specs.ServerRule as server_rule
 use Rattle.disk_model.specs.ServerState.{Ends, Progress, ServerSession, ServerState, SlotRange, Work}
@@ -28,8 +28,8 @@ use Rattle.disk_model.specs.ServerStep.{ServerFails, WorkFails}
 use Rattle.disk_model.specs.ServerTaking as server
 use Rattle.cookie_copy.specs.Reach.{Reach}
 use Rattle.disk_model.specs.ServerWork.{EndFails, FetchFails, cause_of, slot_at}
-use Rattle.channel_model.proofs.OwnCauses.{IsOwn, OwnLink, link_own}
-use Rattle.channel_model.proofs.OwnMessages.{OwnFault, OwnHandshake, handshake_own, sid_own}
+use Rattle.channel_laws.proofs.OwnCauses.{IsOwn, OwnLink, link_own}
+use Rattle.channel_laws.proofs.OwnMessages.{OwnFault, OwnHandshake, handshake_own, sid_own}
 
 -- THE CLIENT
 abbrev OwnClient : client.ClientTake → Type 0

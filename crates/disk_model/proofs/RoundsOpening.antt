@@ -11,7 +11,7 @@ use Rattle.vio_handshake.specs.Acceptance.{accepts_ring, hold_ring}
 use Rattle.vio_handshake.specs.Attributes.{accepts_answered, accepts_said, answered_attributes, said_attributes}
 use Rattle.vio_tag.proofs.Canonical.{canonical_spells}
 use Rattle.vio_tag.specs.Spelling.{canonical as spelled}
-use Rattle.channel_model.specs.WireEvent.{Idle, Joined, Sent, Took}
+use Rattle.channel_laws.specs.WireEvent.{Idle, Joined, Sent, Took}
 use Rattle.disk_model.specs.DiskEvent.{OnWire}
 use Rattle.disk_model.specs.LaneStep.{LaneStep}
 use Rattle.ldc_link.specs.Putting.{control}

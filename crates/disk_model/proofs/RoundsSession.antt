@@ -9,7 +9,7 @@ use Rattle.vio_handshake.specs.Acceptance.{accepts_ring, hold_ring}
 use Rattle.vio_handshake.specs.Attributes.{accepts_answered, accepts_said, answered_attributes, said_attributes}
 use Rattle.vio_tag.proofs.Canonical.{canonical_spells}
 use Rattle.vio_tag.specs.Spelling.{canonical as spelled}
-use Rattle.channel_model.specs.WireEvent.{Idle, Sent, Took}
+use Rattle.channel_laws.specs.WireEvent.{Idle, Sent, Took}
 use Rattle.disk_model.specs.DiskEvent.{OnWire, Published, Works}
 use Rattle.disk_model.specs.LaneStep.{LaneStep}
 use Rattle.disk_model.specs.FirstRounds.{attr_ack, data_info, rdx_ack, rdx_info, reg_ack, reg_info, carries}

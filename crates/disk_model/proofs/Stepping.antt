@@ -12,8 +12,8 @@ use Rattle.ldc_queue.specs.declared.end.End.TheVariants.{A, B}
 use Rattle.vdisk_msg.specs.declared.request.Request.{Request}
 use Rattle.vio_tag.specs.declared.message.Message.{Message}
 use Rattle.vio_tag.specs.Spelling as message_spelling
-use Rattle.channel_model.specs.WireEvent.{Idle, Joined, Sent, Took}
-use Rattle.channel_model.specs.WireLog.{wire_moved}
+use Rattle.channel_laws.specs.WireEvent.{Idle, Joined, Sent, Took}
+use Rattle.channel_laws.specs.WireLog.{wire_moved}
 use Rattle.disk_model.specs.ClientPutting as client_side
 use Rattle.disk_model.specs.ClientRule as client_rules
 use Rattle.disk_model.specs.ClientState.{ClientSession, ClientState, joined_client, slot_in}
@@ -22,7 +22,7 @@ use Rattle.disk_model.specs.ClientTaking as client_taking
 use Rattle.disk_model.specs.DiskEvent.{OnWire, Published, Works}
 use Rattle.disk_model.specs.LaneState.{LaneState}
 use Rattle.disk_model.specs.LaneStep.{LaneStep}
-use Rattle.channel_model.specs.Seeing.{Seen, seen}
+use Rattle.channel_laws.specs.Seeing.{Seen, seen}
 use Rattle.disk_model.specs.ServerPutting as server_side
 use Rattle.disk_model.specs.ServerRule as server_rules
 use Rattle.disk_model.specs.ServerState.{ServerState, joined_server}

@@ -10,8 +10,8 @@ use Rattle.vio_tag.specs.Spelling.{canonical}
 use Rattle.vio_handshake.specs.Messages.{info}
 use Rattle.disk_model.specs.ClientRule.{Announces, ClientRule, Puts, Says}
 use Rattle.disk_model.specs.ClientState.{ClientSession, ClientState, first_id, opened_session, slot_in}
-use Rattle.channel_model.specs.EndPuts.{ComesUp, EndsOwn, EndsHandshake, Goes, PutKind, put_kind, put_opens, handshake_behind}
-use Rattle.channel_model.specs.Ranges.{wrapped}
+use Rattle.channel_laws.specs.EndPuts.{ComesUp, EndsOwn, EndsHandshake, Goes, PutKind, put_kind, put_opens, handshake_behind}
+use Rattle.channel_laws.specs.Ranges.{wrapped}
 
 -- the slots from the first that isn't announced to the last that is published
 abbrev pub announcement : ClientState → ClientSession → Message

@@ -5,7 +5,7 @@ use Rattle.ldc_link.specs.Putting.{owes, owes_control}
 use Rattle.vdisk_msg.specs.declared.request.Request.{Request}
 use Rattle.vio_tag.specs.declared.message.Message.{Message}
 use Rattle.disk_model.specs.ClientState.{ClientSession, ClientState}
-use Rattle.channel_model.specs.Seeing.{Seen}
+use Rattle.channel_laws.specs.Seeing.{Seen}
 
 pub data ClientRule : Type 0 where
   -- its end isn't up

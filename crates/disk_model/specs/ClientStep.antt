@@ -14,13 +14,13 @@ use Rattle.vdisk_msg.specs.Requests.{defect, given_count, operation_of, written}
 use Rattle.vio_bytes.specs.Place.{put_at}
 use Rattle.vio_tag.specs.declared.cause.Cause.{Cause}
 use Rattle.vio_tag.specs.declared.cause.Cause.TheVariants as the_cause
-use Rattle.channel_model.specs.WireEvent.{Blocked, Idle, Joined, Reset, Sent, Took}
+use Rattle.channel_laws.specs.WireEvent.{Blocked, Idle, Joined, Reset, Sent, Took}
 use Rattle.disk_model.specs.ClientPutting.{client_holds, client_opens, client_put, memory_put}
 use Rattle.disk_model.specs.ClientRule.{ClientRule, Completes, Joins, Publishes, Idles, Takes, client_rule}
 use Rattle.disk_model.specs.ClientState.{ClientSession, ClientState, joined_client, slot_in}
 use Rattle.disk_model.specs.ClientTaking.{ClientTakes, GoesOn, Resets}
 use Rattle.disk_model.specs.DiskEvent.{Accepted, Admitted, DiskEvent, Done, Full, OnWire, Published, Refused, Works}
-use Rattle.channel_model.specs.Seeing.{Seen}
+use Rattle.channel_laws.specs.Seeing.{Seen}
 
 -- a write's bytes into a slot's buffer
 abbrev pub filled_buffer : Request → ℕ → List ℕ → List ℕ

@@ -13,7 +13,7 @@ use Rattle.vio_tag.specs.declared.message.TagFault.{TagFault}
 use Rattle.vio_tag.specs.Decoding.{Decodes}
 use Rattle.vio_handshake.specs.Rules.{Faults, Goes, GoesOpen, HandshakeTake, handshake_take, sid_fault}
 use Rattle.disk_model.specs.ClientState.{ClientSession, ClientState, slot_in}
-use Rattle.channel_model.specs.Ranges.{is_other}
+use Rattle.channel_laws.specs.Ranges.{is_other}
 pub use Rattle.dring.specs.Slots.{range_length}
 
 -- the client goes on so, or resets for a cause

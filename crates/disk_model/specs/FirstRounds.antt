@@ -17,13 +17,13 @@ use Rattle.vio_handshake.specs.State.{session_of}
 use Rattle.vio_tag.specs.declared.message.Message.{Message}
 use Rattle.vio_tag.specs.declared.message.MsgBody.TheVariants.{Ver, Attr, DringReg, Rdx, DringData}
 use Rattle.vio_tag.specs.Spelling.{canonical as spelled}
-use Rattle.channel_model.specs.WireEvent.{Idle, Joined, Sent, Took}
+use Rattle.channel_laws.specs.WireEvent.{Idle, Joined, Sent, Took}
 use Rattle.disk_model.specs.ClientStep.{published_memory}
 use Rattle.disk_model.specs.ClientState.{opened_session}
 use Rattle.disk_model.specs.DiskEvent.{Accepted, Asks, DiskEvent, OnWire, Published, Works}
 use Rattle.disk_model.specs.LaneState.{LaneState, Shape, fresh_over}
 use Rattle.disk_model.specs.LaneStep.{LaneStep}
-use Rattle.channel_model.specs.OwnMemory.{filled}
+use Rattle.channel_laws.specs.OwnMemory.{filled}
 
 -- the messages of the handshake, and the INFO of the write
 abbrev pub ver_info : Message

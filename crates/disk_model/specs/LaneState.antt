@@ -3,8 +3,8 @@
 use Rattle.std.specs.Prelude.{ℕ, ◌+◌, ◌-◌, ◌*◌, ◌^◌, ◌≤◌, min, Bool, false, List, replicate, Option}
 use Rattle.map_table.specs.declared.table.Entry.{Entry}
 use Rattle.vdisk_msg.specs.Requested.{ring_pages}
-use Rattle.channel_model.specs.WireLog.{WireLog, nothing_on_wire}
-use Rattle.channel_model.specs.OwnMemory.{IsPowerOfTwo, own_table}
+use Rattle.channel_laws.specs.WireLog.{WireLog, nothing_on_wire}
+use Rattle.channel_laws.specs.OwnMemory.{IsPowerOfTwo, own_table}
 use Rattle.disk_model.specs.ClientState.{ClientState, ever_published_count, fresh_client}
 use Rattle.disk_model.specs.ServerState.{ServerState, fresh_server}
 

@@ -5,14 +5,14 @@ use Rattle.ldc_queue.specs.declared.end.End.{End}
 use Rattle.ldc_queue.specs.declared.end.End.TheVariants.{A, B}
 use Rattle.vio_bytes.specs.Place.{put_at}
 use Rattle.vio_tag.specs.declared.cause.Cause.{Cause}
-use Rattle.channel_model.specs.WireAt.{DeclinesAt, HasRoomFor, IsFirstOn, IsUp, Sizes}
-use Rattle.channel_model.specs.WireEvent.{Blocked, ByRestart, ByScript, ByStep, ByTick, Declines, Giver, Idle, Injected, Joined, Lost, Poked, Reset, Sent, Took, WireEvent, giver}
-use Rattle.channel_model.specs.WireLog.{server_closed, wire_moved}
+use Rattle.channel_laws.specs.WireAt.{DeclinesAt, HasRoomFor, IsFirstOn, IsUp, Sizes}
+use Rattle.channel_laws.specs.WireEvent.{Blocked, ByRestart, ByScript, ByStep, ByTick, Declines, Giver, Idle, Injected, Joined, Lost, Poked, Reset, Sent, Took, WireEvent, giver}
+use Rattle.channel_laws.specs.WireLog.{server_closed, wire_moved}
 use Rattle.disk_model.specs.ClientState.{is_finished, joined_client}
 use Rattle.disk_model.specs.ClientStep.{ClientAdmits, ClientStep}
 use Rattle.disk_model.specs.DiskEvent.{Asks, Calm, CalmReset, CalmRestart, CalmStart, CalmStop, CalmTick, Desc, DiskEvent, Done, Finished, Misplaced, Moved, Off, OnWire, Published, Calms, Started, Stopped, Stored, Switched, Switches, Worked, Works}
 use Rattle.disk_model.specs.LaneState.{LaneState, NearCounts, near_disturbed, near_done, near_finished, risen}
-use Rattle.channel_model.specs.Seeing.{seen}
+use Rattle.channel_laws.specs.Seeing.{seen}
 use Rattle.disk_model.specs.ServerState.{joined_server, restarted_server}
 use Rattle.disk_model.specs.ServerStep.{ServerStep}
 use Rattle.cookie_copy.specs.Reach.{Reach}

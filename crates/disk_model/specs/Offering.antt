@@ -6,7 +6,7 @@ use Rattle.vdisk_msg.specs.Requested.{ring_pages}
 use Rattle.vio_tag.specs.Attributes.{disk_attr_bytes}
 use Rattle.vio_tag.specs.declared.attributes.DiskAttr.{DiskAttr}
 use Rattle.vio_handshake.specs.declared.session.Offer.{Offer}
-use Rattle.channel_model.specs.OwnMemory.{filled, page_cookies}
+use Rattle.channel_laws.specs.OwnMemory.{filled, page_cookies}
 
 -- a ring below a page has one cookie, of its size
 abbrev pub own_cookies : ℕ → List Cookie

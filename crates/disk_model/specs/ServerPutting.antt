@@ -3,7 +3,7 @@ use Rattle.std.specs.Prelude.{Bool, is_none, Option, Some, None}
 use Rattle.ldc_link.specs.LinkState.{offered}
 use Rattle.ldc_link.specs.Putting.{behind_put}
 use Rattle.vio_tag.specs.Spelling.{canonical}
-use Rattle.channel_model.specs.EndPuts.{ComesUp, EndsOwn, EndsHandshake, Goes, PutKind, put_kind, put_opens, handshake_behind}
+use Rattle.channel_laws.specs.EndPuts.{ComesUp, EndsOwn, EndsHandshake, Goes, PutKind, put_kind, put_opens, handshake_behind}
 use Rattle.disk_model.specs.ServerRule.{Puts, Says, ServerRule}
 use Rattle.disk_model.specs.ServerState.{ServerSession, ServerState}
 

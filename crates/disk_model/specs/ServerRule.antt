@@ -5,7 +5,7 @@ use Rattle.ldc_link.specs.Putting.{owes}
 use Rattle.vio_tag.specs.declared.message.Message.{Message}
 use Rattle.vio_tag.specs.declared.message.MsgBody.TheVariants.{DringData}
 use Rattle.vio_handshake.specs.Messages.{ack}
-use Rattle.channel_model.specs.Seeing.{Seen}
+use Rattle.channel_laws.specs.Seeing.{Seen}
 use Rattle.disk_model.specs.ServerState.{ServerSession, ServerState, SlotRange, Work}
 
 pub data ServerRule : Type 0 where

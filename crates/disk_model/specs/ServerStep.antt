@@ -6,10 +6,10 @@ use Rattle.ldc_link.specs.Calls.{Puts as PutsPacket}
 use Rattle.ldc_queue.specs.declared.end.End.TheVariants.{B}
 use Rattle.vdisk_msg.specs.Descriptor as slot_says
 use Rattle.vio_tag.specs.declared.cause.Cause.{Cause}
-use Rattle.channel_model.specs.WireEvent.{Blocked, Idle, Joined, Reset, Sent, Took}
+use Rattle.channel_laws.specs.WireEvent.{Blocked, Idle, Joined, Reset, Sent, Took}
 use Rattle.disk_model.specs.DiskEvent.{Desc, DiskEvent, Finished, Moved, OnWire, Stored, Works}
-use Rattle.channel_model.specs.Ranges.{wrapped}
-use Rattle.channel_model.specs.Seeing.{Seen}
+use Rattle.channel_laws.specs.Ranges.{wrapped}
+use Rattle.channel_laws.specs.Seeing.{Seen}
 use Rattle.disk_model.specs.ServerPutting.{server_holds, server_opens, server_put}
 use Rattle.disk_model.specs.ServerRule.{Fetches, Joins, Idles, ServerRule, Serves, Takes, server_rule}
 use Rattle.disk_model.specs.ServerState.{Ends, Progress, ServerSession, ServerState, Work, joined_server}

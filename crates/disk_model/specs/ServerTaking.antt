@@ -12,8 +12,8 @@ use Rattle.vio_tag.specs.declared.message.MsgBody.TheVariants.{DringData}
 use Rattle.vio_tag.specs.declared.message.TagFault.{TagFault}
 use Rattle.vio_tag.specs.Decoding.{Decodes}
 use Rattle.vio_handshake.specs.Rules.{Faults, Goes, GoesOpen, HandshakeTake, handshake_take, sid_fault}
-use Rattle.channel_model.specs.EndPuts.{handshake_risen}
-use Rattle.channel_model.specs.Ranges.{is_other, wrapped}
+use Rattle.channel_laws.specs.EndPuts.{handshake_risen}
+use Rattle.channel_laws.specs.Ranges.{is_other, wrapped}
 use Rattle.dring.specs.Slots.{range_length}
 use Rattle.disk_model.specs.ServerState.{ServerSession, ServerState, SlotRange, opened_server}
 

@@ -6,7 +6,7 @@ ghost use Rattle.vdisk_msg.specs.declared.request.Fill.{Fill};
 ghost use Rattle.vdisk_msg.specs.declared.request.Request.TheVariants.{Write};
 ghost use Rattle.vdisk_msg.specs.Fills.{IsFill};
 ghost use Rattle.vio_tag.specs.declared.cause.Cause.{Cause};
-ghost use Rattle.channel_model.specs.WireEvent.{ByStep, giver};
+ghost use Rattle.channel_laws.specs.WireEvent.{ByStep, giver};
 ghost use Rattle.disk_model.specs.ClientRule.{ClientRule};
 ghost use Rattle.disk_model.specs.ClientState.{ClientState};
 ghost use Rattle.disk_model.specs.ClientStep.{ClientFails};

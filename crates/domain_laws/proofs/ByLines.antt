@@ -9,8 +9,8 @@ use Rattle.runs.specs.Run.{Run}
 use Rattle.ldc_queue.specs.declared.end.End.{End}
 use Rattle.ldc_queue.specs.declared.end.End.TheVariants.{A, B}
 use Rattle.vdisk_msg.specs.declared.request.Request.{Request}
-use Rattle.channel_model.specs.WireEvent as wire
-use Rattle.channel_model.specs.WireEvent.{WireEvent}
+use Rattle.channel_laws.specs.WireEvent as wire
+use Rattle.channel_laws.specs.WireEvent.{WireEvent}
 use Rattle.disk_law.specs.ListState.{ImageState}
 use Rattle.disk_model.specs.DiskEvent.{Asks, Calms, DiskEvent, Off, OnWire, Started, Stopped, Switches, Works}
 use Rattle.disk_model.specs.LaneState.{LaneState, Shape, fresh}

@@ -2,7 +2,7 @@
 -- that moves, and some lane is named.
 use Rattle.std.proofs.Common.{◌≡◌, ◌⊎◌, inl, inr, ℕ, ◌+◌, ◌≤◌, Bool, true, false, List, [], ◌∷◌, ◌++◌, length, refl, sym, ap, subst, arith}
 use Rattle.std.specs.Prelude.{◌==◌, ◌&&◌, if◌then◌else◌}
-use Rattle.channel_model.specs.WireEvent as wire
+use Rattle.channel_laws.specs.WireEvent as wire
 use Rattle.disk_model.specs.DiskEvent.{DiskEvent, OnWire}
 use Rattle.disk_model.specs.Reached as disk
 use Rattle.ldc_queue.specs.declared.end.End.{End}

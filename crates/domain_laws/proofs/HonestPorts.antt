@@ -1,7 +1,7 @@
 -- An event of a port that injects no packet and writes into no memory leaves it as forged as it was.
 use Rattle.std.proofs.Common.{◌≡◌, ap, ◌∙◌}
 use Rattle.std.specs.Prelude.{⊤}
-use Rattle.channel_model.specs.WireLog.{WireLog}
+use Rattle.channel_laws.specs.WireLog.{WireLog}
 use Rattle.port_laws.proofs.PortWire.{port_wire, step_unforged}
 use Rattle.port_model.specs.NetEvent.{Asked, CalmTick, Declines, Gives, Injects, Joins, Loses, NetEvent, Pokes, Steps, Ticked}
 use Rattle.port_model.specs.PortState.{OnLane, PortEvent, PortState, PortStep, Receives}

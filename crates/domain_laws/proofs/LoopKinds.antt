@@ -2,7 +2,7 @@
 use Rattle.std.proofs.Common.{◌≡◌, ℕ, ◌+◌, Bool, true, false, Option, Some, List, [], ◌∷◌, length, slice_get, refl, sym, ap, ap₂, ◌∙◌, arith}
 use Rattle.std.proofs.lemmas.Option.{slice_get_within}
 use Rattle.std.specs.Prelude.{not}
-use Rattle.channel_model.specs.WireEvent.{Idle, Reset}
+use Rattle.channel_laws.specs.WireEvent.{Idle, Reset}
 use Rattle.disk_law.specs.ListState.{ImageState}
 use Rattle.disk_model.specs.ClientState as client
 use Rattle.disk_model.specs.DiskEvent.{CalmTick, Calms, DiskEvent, Off, OnWire, Switches}

@@ -2,7 +2,7 @@
 -- room with nothing but Blocked between, on any disk or port.
 use Rattle.std.specs.Prelude.{ℕ, Bool, true, false, if◌then◌else◌, List}
 use Rattle.ldc_queue.specs.declared.end.End.{End}
-use Rattle.channel_model.specs.WireEvent as wire
+use Rattle.channel_laws.specs.WireEvent as wire
 use Rattle.disk_model.specs.DiskEvent.{OnWire}
 use Rattle.lane_kinds.specs.Stuck.{sum_over}
 use Rattle.port_model.specs.NetEndStep.{Blocked}

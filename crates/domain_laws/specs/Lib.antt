@@ -19,4 +19,4 @@ pub use Rattle.port_laws.specs as port_laws
 pub use Rattle.port_model.specs as port_model
 pub use Rattle.lane_laws.specs as lane_laws
 pub use Rattle.disk_model.specs as disk_model
-pub use Rattle.channel_model.specs as channel_model
+pub use Rattle.channel_laws.specs as channel_laws

@@ -9,8 +9,8 @@ use Rattle.ldc_queue.specs.declared.end.End.{End}
 use Rattle.ldc_queue.specs.declared.end.End.TheVariants.{A, B}
 use Rattle.vdisk_msg.specs.declared.request.Request.{Request}
 use Rattle.vio_tag.specs.declared.cause.Cause.TheVariants as the_cause
-use Rattle.channel_model.specs.WireEvent.{InjectedFull, NotInjected, NothingLost, PokeRefused}
-use Rattle.channel_model.specs.WireEvent as wire
+use Rattle.channel_laws.specs.WireEvent.{InjectedFull, NotInjected, NothingLost, PokeRefused}
+use Rattle.channel_laws.specs.WireEvent as wire
 use Rattle.disk_model.specs.DiskEvent.{Accepted, Asks, CalmReset, CalmRestart, CalmStart, CalmStop, CalmTick, Calms, DiskEvent, OnWire, Refused, Started, Stopped, Switches}
 use Rattle.disk_model.specs.DiskEvent as disk
 use Rattle.disk_model.specs.LaneState.{LaneState}

@@ -1,4 +1,4 @@
--- Slots lie apart, and the numbers of one turn have slots of their own.
+-- Slots lie apart, and the numbers of one lap have slots of their own.
 use Rattle.std.proofs.Common.{◌≡◌, ◌≢◌, ℕ, zero, suc, ◌+◌, ◌*◌, ◌/◌, ◌%◌, ◌<◌, ◌≤◌, ◌⊎◌, inl, inr, List, ◌++◌, length, take, drop, refl, sym, ap, subst, ◌∙◌, arith}
 use Rattle.std.proofs.lemmas.List.{append_assoc, append-nil, drop-drop, drop_at, take_at}
 use Rattle.std.proofs.lemmas.Bool.{cases_lt, cases_order}
@@ -49,9 +49,9 @@ behind_put size n k at p w piece memory below within room past =
     let fits : size * k + size ≤ size * n = slot_fits size k n below in
     range_at-put_at_outside p w (size * k + at) piece memory (omega arith) (inr (omega arith))
 
--- numbers within one turn have slots of their own
-pub one_turn : (n a b : ℕ) → a ≤ b → b < a + n → a % n ≡ b % n → a ≡ b
-one_turn n a b le less same =
+-- numbers within one lap have slots of their own
+pub one_lap : (n a b : ℕ) → a ≤ b → b < a + n → a % n ≡ b % n → a ≡ b
+one_lap n a b le less same =
     let of_a = mod-add-div' a n in
     let of_b = mod-add-div' b n in
     elim (cases_order (a / n) (b / n)) [
@@ -73,12 +73,12 @@ pub slots_same : (size n d k lo hi j : ℕ) (memory new : List ℕ)
 slots_same size n d k lo hi j memory new one from to since until outside j_from j_to =
     let some : 0 < n = omega arith in
     let other : j % n ≢ k % n = λ same. elim (cases_lt j k) [
-      | inl less ↦ let is : j ≡ k = one_turn n j k (omega arith) (omega arith) same in not_both j k lo hi outside j_from j_to is
-      | inr past ↦ let is : k ≡ j = one_turn n k j (omega arith) (omega arith) (sym same) in not_both j k lo hi outside j_from j_to (sym is)
+      | inl less ↦ let is : j ≡ k = one_lap n j k (omega arith) (omega arith) same in not_both j k lo hi outside j_from j_to is
+      | inr past ↦ let is : k ≡ j = one_lap n k j (omega arith) (omega arith) (sym same) in not_both j k lo hi outside j_from j_to (sym is)
     ] in
     one.others (j % n) (mod_below j n some) other
 
--- what holds of the slots of numbers within one turn holds on where another slot is changed
+-- what holds of the slots of numbers within one lap holds on where another slot is changed
 pub slots_stay : (size n d k lo hi : ℕ) (Holds : ℕ → List ℕ → Type 0) (memory new : List ℕ)
     → OneSlot size n (k % n) memory new → d ≤ lo → hi ≤ d + n → d ≤ k → k < d + n → (k < lo) ⊎ (hi ≤ k)
     → Slots size n Holds lo hi memory → Slots size n Holds lo hi new

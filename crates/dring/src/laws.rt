@@ -16,7 +16,7 @@ pub fn one_slot_at_a_time()
         → range_at p w (put_at (size * k + at) piece memory) ≡ range_at p w memory }
 {}
 
-/// Numbers within one turn of a ring have slots of their own, and the slots of numbers within one turn
+/// Numbers within one lap of a ring have slots of their own, and the slots of numbers within one lap
 /// stay where another's slot is changed.
 pub fn one_lap_of_a_ring()
     ensures apart { (n a b : ℕ) → a ≤ b → b < a + n → a % n ≡ b % n → a ≡ b }

@@ -1,3 +1,4 @@
 pub mod Ports
 pub mod World
 pub mod PortCounts
+pub mod ToyKind

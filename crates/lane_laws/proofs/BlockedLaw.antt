@@ -6,7 +6,7 @@ use Rattle.ldc_link.specs.Putting.{owes, owes_control, owes_in}
 use Rattle.ldc_queue.specs.declared.end.End.TheVariants.{A, B}
 use Rattle.vio_tag.specs.declared.message.Message.{Message}
 use Rattle.vio_handshake.specs.declared.handshake.Handshake.{Handshake}
-use Rattle.channel_model.specs.Sayings.{half_said}
+use Rattle.channel_laws.specs.Sayings.{half_said}
 use Rattle.disk_model.specs.ClientPutting.{client_holds, is_announcing}
 use Rattle.disk_model.specs.ClientRule as client
 use Rattle.disk_model.specs.ClientState.{ClientSession, ClientState}

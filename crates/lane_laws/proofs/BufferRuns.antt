@@ -5,7 +5,7 @@ use Rattle.runs.specs.Run.{Run}
 use Rattle.vdisk_msg.specs.declared.request.Request.TheVariants.{Write}
 use Rattle.vdisk_msg.specs.Requested.{buffer_of, buffer_place}
 use Rattle.vio_bytes.specs.Range.{range_at}
-use Rattle.channel_model.specs.WireLog.{WireLog}
+use Rattle.channel_laws.specs.WireLog.{WireLog}
 use Rattle.lane_laws.specs.DiskLog.{after, nothing_yet}
 use Rattle.disk_model.specs.DiskEvent.{DiskEvent}
 use Rattle.disk_model.specs.LaneState.{IsShape, LaneState, Shape, fresh}

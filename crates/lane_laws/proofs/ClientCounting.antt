@@ -6,9 +6,9 @@ use Rattle.ldc_queue.specs.Transcript.{Heard as Heard_, Utterance}
 use Rattle.vio_tag.specs.Spelling.{canonical}
 use Rattle.vio_handshake.specs.declared.handshake.Handshake.{Handshake}
 use Rattle.vio_handshake.specs.declared.session.Session.{Session}
-use Rattle.channel_model.specs.Sayings.{half_heard, half_said, heard}
+use Rattle.channel_laws.specs.Sayings.{half_heard, half_said, heard}
 use Rattle.lane_laws.specs.Agreement.{ClientAgrees}
-use Rattle.channel_model.specs.Messages.{range_ended, range_in}
+use Rattle.channel_laws.specs.Messages.{range_ended, range_in}
 use Rattle.lane_laws.specs.WorkLog.{ClientCounts, change_client, length_in}
 use Rattle.disk_model.specs.ClientPutting.{announcement}
 use Rattle.disk_model.specs.ClientState.{ClientSession, ClientState, joined_client}

@@ -5,7 +5,7 @@ use Rattle.vio_tag.specs.declared.message.Message.{Message}
 use Rattle.disk_model.specs.ClientPutting.{announcement, announcing, client_holds, holding}
 use Rattle.disk_model.specs.ClientRule.{ClientRule}
 use Rattle.disk_model.specs.ClientState.{ClientSession, ClientState}
-use Rattle.channel_model.specs.Seeing.{Seen}
+use Rattle.channel_laws.specs.Seeing.{Seen}
 use Rattle.channel_laws.proofs.Short.{some_bytes}
 use Rattle.lane_laws.specs.RuleFacts.{ClientMay}
 use Rattle.lane_laws.specs.Sound.{ClientSound}

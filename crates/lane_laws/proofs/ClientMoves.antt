@@ -20,9 +20,9 @@ use Rattle.disk_model.specs.ClientState.{ClientSession, ClientState, joined_clie
 use Rattle.disk_model.specs.ClientStep.{ClientAdmits, ClientCompletes, ClientFails, ClientPublishes, ClientSends}
 use Rattle.disk_model.specs.ClientTaking.{ClientTake, ClientTakes, GoesOn, HearsLink, Resets}
 use Rattle.disk_model.specs.DiskEvent.{Admitted}
-use Rattle.channel_model.specs.EndPuts.{ending, kind_in}
+use Rattle.channel_laws.specs.EndPuts.{ending, kind_in}
 use Rattle.disk_model.specs.Offering.{client_offer}
-use Rattle.channel_model.specs.Seeing.{Seen}
+use Rattle.channel_laws.specs.Seeing.{Seen}
 use Rattle.channel_laws.proofs.Apart.{none_is_some, some_same, true_is_false}
 use Rattle.channel_laws.specs.EndCore.{EndCore, holds}
 use Rattle.channel_laws.specs.EndStep.{EndBegins, EndFails, EndHears, EndSays, EndStays, EndWaits, HearsWhole, Holding, Holds, HoldsOn, HoldsOwed, HoldsOwn, KeepsOwn, LinkFails, MayTake, WholeFails}

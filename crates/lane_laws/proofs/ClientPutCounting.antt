@@ -8,15 +8,15 @@ use Rattle.ldc_packet.specs.declared.packet.Subtype.TheVariants.{Info}
 use Rattle.ldc_queue.specs.Transcript.{Said, Utterance}
 use Rattle.vio_tag.specs.Spelling.{canonical}
 use Rattle.vio_handshake.specs.declared.handshake.Handshake.{Handshake}
-use Rattle.channel_model.specs.Sayings.{half_said, said}
+use Rattle.channel_laws.specs.Sayings.{half_said, said}
 use Rattle.lane_laws.specs.Agreement.{ClientAgrees}
-use Rattle.channel_model.specs.Messages.{range_ended, range_in}
+use Rattle.channel_laws.specs.Messages.{range_ended, range_in}
 use Rattle.lane_laws.specs.WorkLog.{ClientCounts, change_client, length_in, one_in, opened_client}
 use Rattle.disk_model.specs.ClientPutting.{announcement, announced, is_announcing, session_behind}
 use Rattle.disk_model.specs.ClientState.{ClientSession, ClientState, slot_in}
-use Rattle.channel_model.specs.EndPuts.{ComesUp, EndsOwn, Goes, PutKind, handshake_behind}
+use Rattle.channel_laws.specs.EndPuts.{ComesUp, EndsOwn, Goes, PutKind, handshake_behind}
 use Rattle.disk_model.specs.LaneState.{Shape}
-use Rattle.channel_model.specs.Ranges.{wrapped}
+use Rattle.channel_laws.specs.Ranges.{wrapped}
 use Rattle.dring.specs.Slots.{range_length}
 use Rattle.channel_laws.proofs.Apart.{false_is_true, some_same}
 use Rattle.channel_laws.proofs.PutSayings.{SaysWhole, SaysOn}

@@ -13,7 +13,7 @@ use Rattle.vio_handshake.specs.Rules.{handshake_take}
 use Rattle.disk_model.specs.ClientState.{ClientState}
 use Rattle.disk_model.specs.ClientTaking.{ClientTake, ClientTakes, GoesOn, Resets, acknowledged}
 use Rattle.dring.specs.Slots.{range_length}
-use Rattle.channel_model.specs.Sayings.{heard}
+use Rattle.channel_laws.specs.Sayings.{heard}
 use Rattle.lane_laws.proofs.ClientAnswers.{Acks, Answers, GoesBy, HandshakesTo, comes_to, goes_by}
 use Rattle.channel_laws.proofs.Apart.{none_is_some}
 use Rattle.channel_laws.proofs.EndStanding.{heard_leaves}

@@ -12,10 +12,10 @@ use Rattle.vio_tag.specs.Spelling.{canonical}
 use Rattle.vio_handshake.specs.declared.handshake.Phase.{Phase}
 use Rattle.vio_handshake.specs.declared.handshake.Phase.TheVariants.{Open, PeerReadyTaken}
 use Rattle.vio_handshake.specs.Rules.{opens_by_put, handshake_sent}
-use Rattle.channel_model.specs.Sayings.{half_said, said}
+use Rattle.channel_laws.specs.Sayings.{half_said, said}
 use Rattle.channel_laws.proofs.MessagesHeld.{owed_held}
 use Rattle.lane_laws.specs.Agreement.{ClientAgrees}
-use Rattle.channel_model.specs.Messages.{range_in}
+use Rattle.channel_laws.specs.Messages.{range_in}
 use Rattle.lane_laws.specs.WorkLog.{ClientCounts, change_client}
 use Rattle.disk_model.specs.ClientPutting.{announcement, announcing, client_holds, holding, is_announcing, opened_if}
 use Rattle.disk_model.specs.ClientRule.{Announces, ClientRule, Publishes, Puts, Says}
@@ -23,7 +23,7 @@ use Rattle.disk_model.specs.ClientState.{ClientSession, ClientState, first_id, o
 use Rattle.disk_model.specs.ClientStep.{ClientAdmits, ClientCompletes, ClientPublishes}
 use Rattle.disk_model.specs.DiskEvent.{Admitted}
 use Rattle.disk_model.specs.LaneState.{Shape}
-use Rattle.channel_model.specs.Seeing.{Seen}
+use Rattle.channel_laws.specs.Seeing.{Seen}
 use Rattle.lane_laws.proofs.ClientPutCounting.{counts_as, none_left, put_as, same_said, says_agrees}
 use Rattle.channel_laws.proofs.Apart.{false_is_true, none_is_some, some_same}
 use Rattle.channel_laws.proofs.PutSayings.{SaysWhole}
@@ -38,7 +38,7 @@ use Rattle.lane_laws.specs.RuleFacts.{ClientMay}
 use Rattle.channel_laws.specs.HandshakeFits.{MayOwe, OwedFits}
 use Rattle.lane_laws.specs.Sound.{ClientSound}
 use Rattle.lane_laws.specs.ChannelEnds.{client_core}
-use Rattle.channel_model.specs.EndPuts.{EndsHandshake, put_opens}
+use Rattle.channel_laws.specs.EndPuts.{EndsHandshake, put_opens}
 
 -- A MESSAGE OF THE HANDSHAKE is put whole: by the agreement to RDX the session opens
 pub opens_phase : (role : Role) (phase : Phase) → opens_by_put role phase ≡ true → phase ≡ PeerReadyTaken

@@ -10,7 +10,7 @@ use Rattle.disk_model.specs.ClientStep.{completed_slot}
 use Rattle.disk_model.specs.DiskEvent.{DiskEvent, Done, Works}
 use Rattle.disk_model.specs.LaneState.{IsShape, LaneState, Shape, fresh}
 use Rattle.disk_model.specs.LaneStep.{LaneStep}
-use Rattle.channel_model.specs.Seeing.{seen}
+use Rattle.channel_laws.specs.Seeing.{seen}
 use Rattle.lane_laws.proofs.MemorySteps.{got_sound}
 use Rattle.lane_laws.proofs.Ruling.{client_may}
 use Rattle.lane_laws.specs.RuleFacts.{ClientMay}

@@ -13,7 +13,7 @@ use Rattle.disk_model.specs.ClientStep.{completed_slot}
 use Rattle.disk_model.specs.DiskEvent.{Done, Finished, Published as PublishedEvent, Works}
 use Rattle.disk_model.specs.LaneState.{LaneState, NearCounts, pages_of, risen}
 use Rattle.disk_model.specs.LaneStep.{WorkStep, reach}
-use Rattle.channel_model.specs.Seeing.{seen}
+use Rattle.channel_laws.specs.Seeing.{seen}
 use Rattle.disk_model.specs.ServerRule as server_rules
 use Rattle.disk_model.specs.ServerState.{ServerState}
 use Rattle.disk_model.specs.ServerWork.{with_done}

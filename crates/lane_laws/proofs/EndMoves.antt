@@ -3,8 +3,8 @@ use Rattle.std.proofs.Common.{◌≡◌, ℕ, Bool, List, refl, sym, subst, arit
 use Rattle.ldc_link.specs.declared.phase.Role.TheVariants.{Initiator, Responder}
 use Rattle.ldc_queue.specs.declared.end.End.{End}
 use Rattle.ldc_queue.specs.declared.end.End.TheVariants.{A, B}
-use Rattle.channel_model.specs.TranscriptLog.{TranscriptLog}
-use Rattle.channel_model.specs.WireEvent.{Blocked, Giver, Idle, Joined, Reset, Sent, Took}
+use Rattle.channel_laws.specs.TranscriptLog.{TranscriptLog}
+use Rattle.channel_laws.specs.WireEvent.{Blocked, Giver, Idle, Joined, Reset, Sent, Took}
 use Rattle.disk_model.specs.DiskEvent.{Desc, DiskEvent, Done, Finished, Moved, OnWire, Published, Stopped, Stored, Switches, Works}
 use Rattle.lane_laws.specs.DiskLog.{after_transcript}
 use Rattle.disk_model.specs.LaneState.{LaneState}

@@ -13,8 +13,8 @@ use Rattle.vio_tag.specs.declared.cause.Cause.TheVariants as the_cause
 use Rattle.vio_tag.specs.declared.message.Message.{Message}
 use Rattle.vio_tag.specs.Decoding.{Decodes}
 use Rattle.vio_tag.proofs.NoFault.{spelled_no_fault}
-use Rattle.channel_model.specs.ResetSays.{ResetSays}
-use Rattle.channel_model.specs.WireAt.{GapOf}
+use Rattle.channel_laws.specs.ResetSays.{ResetSays}
+use Rattle.channel_laws.specs.WireAt.{GapOf}
 use Rattle.disk_model.specs.ClientRule as client_rule
 use Rattle.disk_model.specs.ClientState.{ClientState}
 use Rattle.disk_model.specs.ClientStep.{ClientFails}

@@ -25,13 +25,13 @@ use Rattle.lane_laws.proofs.EndMoves.{step_a, step_b}
 use Rattle.disk_model.specs.LaneState.{IsShape, LaneState, Shape, fresh}
 use Rattle.disk_model.specs.LaneStep.{LaneStep}
 use Rattle.disk_model.specs.Offering.{client_offer, server_offer}
-use Rattle.channel_model.specs.Sayings.{half_said, heard}
+use Rattle.channel_laws.specs.Sayings.{half_said, heard}
 use Rattle.disk_model.specs.ServerPutting.{server_holds, server_kind}
 use Rattle.disk_model.specs.ServerRule as server_rules
 use Rattle.disk_model.specs.ServerRule.{answer}
 use Rattle.disk_model.specs.ServerState.{ServerSession, ServerState, SlotRange}
 use Rattle.disk_model.specs.ServerStep.{ServerSends, ServerStep}
-use Rattle.channel_model.specs.WireEvent.{Blocked, Idle, Joined, Reset, Sent, Took}
+use Rattle.channel_laws.specs.WireEvent.{Blocked, Idle, Joined, Reset, Sent, Took}
 use Rattle.lane_laws.specs.WorkLog.{ServerCounts}
 use Rattle.lane_laws.proofs.ClientFolds.{Announcing, announces_so}
 use Rattle.lane_laws.proofs.Speaking.{server_blocked_rests}
@@ -114,7 +114,7 @@ both_step s l event t both step =
         server = subst (EndSends (server_core t.server)) (sym (server_blocked l.blocked event))
             (sends_move Responder (server_core s.server) (move_of B (core_event event)) (server_core t.server) l.transcript.server l.blocked.server rests.server.stands both.server
             (step_b s event t step));
-        range = server_keeps (λ (v : ServerState) (side : ServerSide). RangeIs v.session side.turns) s l event t
+        range = server_keeps (λ (v : ServerState) (side : ServerSide). RangeIs v.session side.utterances) s l event t
             (record { now = both.range; acts = range_acts s l both; joined = refl; renewed = refl }) step;
       },
     )

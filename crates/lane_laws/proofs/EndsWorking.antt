@@ -10,8 +10,8 @@ use Rattle.lane_laws.specs.DiskLog.{DiskLog, after, nothing_yet}
 use Rattle.disk_model.specs.LaneState.{IsShape, LaneState, Shape, fresh}
 use Rattle.disk_model.specs.LaneStep.{LaneStep}
 use Rattle.disk_model.specs.ServerRule as server_rules
-use Rattle.channel_model.specs.WireAt.{IsUp}
-use Rattle.channel_model.specs.WireLog.{WireLog}
+use Rattle.channel_laws.specs.WireAt.{IsUp}
+use Rattle.channel_laws.specs.WireLog.{WireLog}
 use Rattle.lane_laws.specs.WorkLaws.{WorksAt}
 use Rattle.lane_laws.proofs.WorkNumbers.{Grounded}
 use Rattle.lane_laws.proofs.WorkRuns.{grounded_lawful}

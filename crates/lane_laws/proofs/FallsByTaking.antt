@@ -6,9 +6,9 @@ use Rattle.ldc_queue.specs.declared.end.ChannelState.TheVariants.{Up}
 use Rattle.ldc_queue.specs.declared.end.End.{End}
 use Rattle.ldc_queue.specs.declared.end.End.TheVariants.{A, B}
 use Rattle.ldc_queue.specs.Transcript.{Heard as Heard_, Utterance}
-use Rattle.channel_model.specs.Seeing.{seen}
-use Rattle.channel_model.specs.WireAt.{IsUp}
-use Rattle.channel_model.specs.WireEvent.{Took}
+use Rattle.channel_laws.specs.Seeing.{seen}
+use Rattle.channel_laws.specs.WireAt.{IsUp}
+use Rattle.channel_laws.specs.WireEvent.{Took}
 use Rattle.disk_model.specs.ClientState.{ClientState}
 use Rattle.disk_model.specs.DiskEvent.{DiskEvent, OnWire}
 use Rattle.disk_model.specs.LaneState.{IsShape, LaneState, Shape, fresh}
@@ -24,7 +24,7 @@ use Rattle.lane_laws.proofs.LaneChannel.{answers_of, asks_of, lane_matches}
 use Rattle.lane_laws.proofs.LaneCores.{lane_cores, lane_fits, lane_steps}
 use Rattle.lane_laws.proofs.LaneViews.{lane_view}
 use Rattle.lane_laws.specs.DiskLog.{DiskLog, after, after_wire, nothing_yet}
-use Rattle.channel_model.specs.WireLog.{WireLog}
+use Rattle.channel_laws.specs.WireLog.{WireLog}
 use Rattle.lane_laws.proofs.LaneCounting.{Knows, run_knows}
 use Rattle.lane_laws.proofs.OfferedRing.{four_cookies}
 use Rattle.lane_laws.proofs.RangeSums.{sum_front}

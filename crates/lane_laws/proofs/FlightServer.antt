@@ -6,7 +6,7 @@ use Rattle.cookie_copy.specs.declared.fault.CopyFault.{CopyFault}
 use Rattle.ldc_queue.specs.Transcript.{Utterance}
 use Rattle.vdisk_msg.specs.Descriptor as slot_says
 use Rattle.vdisk_msg.specs.Pieces.{unit_count}
-use Rattle.channel_model.specs.Seeing.{Seen}
+use Rattle.channel_laws.specs.Seeing.{Seen}
 use Rattle.disk_model.specs.ServerRule.{Fetches}
 use Rattle.disk_model.specs.ServerState.{ServerSession, ServerState, Work}
 use Rattle.disk_model.specs.ServerStep.{ServerFetches, ServerFinishes, ServerMoves, ServerStores}

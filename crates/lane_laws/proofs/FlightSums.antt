@@ -5,8 +5,8 @@ use Rattle.ldc_queue.specs.declared.end.ChannelState.{ChannelState}
 use Rattle.ldc_queue.specs.declared.end.ChannelState.TheVariants.{Down, Resetting, Up}
 use Rattle.ldc_queue.specs.Transcript.{Utterance}
 use Rattle.ldc_queue.specs.Wire.{peer_behind, queue_behind}
-use Rattle.channel_model.specs.Sayings.{heard}
-use Rattle.channel_model.specs.WireLog.{WireLog, lossy_behind}
+use Rattle.channel_laws.specs.Sayings.{heard}
+use Rattle.channel_laws.specs.WireLog.{WireLog, lossy_behind}
 use Rattle.disk_model.specs.ClientState.{ClientState}
 use Rattle.disk_model.specs.ServerState.{ServerState}
 use Rattle.lane_laws.proofs.FlightServer.{FewPieces}

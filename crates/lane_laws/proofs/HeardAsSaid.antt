@@ -3,9 +3,9 @@ use Rattle.std.proofs.Common.{◌≡◌, false, List, map, subst}
 use Rattle.runs.specs.Run.{Run}
 use Rattle.ldc_link.specs.declared.phase.Role.TheVariants.{Initiator, Responder}
 use Rattle.ldc_queue.specs.declared.end.End.TheVariants.{A, B}
-use Rattle.channel_model.specs.Sayings.{heard}
-use Rattle.channel_model.specs.TranscriptLog.{TranscriptLog}
-use Rattle.channel_model.specs.WireAt.{IsUp}
+use Rattle.channel_laws.specs.Sayings.{heard}
+use Rattle.channel_laws.specs.TranscriptLog.{TranscriptLog}
+use Rattle.channel_laws.specs.WireAt.{IsUp}
 use Rattle.disk_model.specs.DiskEvent.{DiskEvent}
 use Rattle.disk_model.specs.LaneState.{IsShape, LaneState, Shape, fresh}
 use Rattle.disk_model.specs.LaneStep.{LaneStep}

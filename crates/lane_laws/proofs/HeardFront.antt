@@ -8,9 +8,9 @@ use Rattle.ldc_queue.specs.declared.end.End.TheVariants.{A, B}
 use Rattle.ldc_queue.specs.OneStream.{IsFront}
 use Rattle.ldc_queue.specs.Transcript.{numbered_heard, numbered_said}
 use Rattle.ldc_queue.specs.Wire.{peer_of}
-use Rattle.channel_model.specs.Sayings.{heard, said}
-use Rattle.channel_model.specs.TranscriptLog.{TranscriptLog, transcript_of}
-use Rattle.channel_model.specs.WireAt.{IsUp}
+use Rattle.channel_laws.specs.Sayings.{heard, said}
+use Rattle.channel_laws.specs.TranscriptLog.{TranscriptLog, transcript_of}
+use Rattle.channel_laws.specs.WireAt.{IsUp}
 use Rattle.disk_model.specs.DiskEvent.{DiskEvent}
 use Rattle.disk_model.specs.LaneState.{IsShape, LaneState, Shape, fresh}
 use Rattle.disk_model.specs.LaneStep.{LaneStep}

@@ -4,7 +4,7 @@ use Rattle.std.proofs.Common.{◌≡◌, false, Some, None, arith}
 use Rattle.ldc_link.specs.Putting.{owes}
 use Rattle.disk_model.specs.ClientRule as client
 use Rattle.disk_model.specs.ClientState.{ClientSession, ClientState}
-use Rattle.channel_model.specs.Seeing.{Seen}
+use Rattle.channel_laws.specs.Seeing.{Seen}
 use Rattle.disk_model.specs.ServerRule as server
 use Rattle.disk_model.specs.ServerState.{ServerSession, ServerState}
 use Rattle.lane_laws.proofs.RuleTests.{ClientIdles, PublishedAll, client_test, server_tested}

@@ -5,7 +5,7 @@ use Rattle.runs.specs.Lawful.{log_of, run_lawful}
 use Rattle.runs.specs.Run.{Run}
 use Rattle.ldc_queue.specs.declared.end.End.{End}
 use Rattle.ldc_queue.specs.declared.end.End.TheVariants.{A, B}
-use Rattle.channel_model.specs.WireEvent.{Idle}
+use Rattle.channel_laws.specs.WireEvent.{Idle}
 use Rattle.lane_laws.specs.Agreement.{IdleAgrees}
 use Rattle.lane_laws.specs.DiskLog.{DiskLog, after, nothing_yet}
 use Rattle.disk_model.specs.ClientState.{ClientState}

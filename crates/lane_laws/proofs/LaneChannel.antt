@@ -8,11 +8,11 @@ use Rattle.ldc_queue.specs.Transcript.{Utterance}
 use Rattle.vio_handshake.specs.declared.session.Offer.{Offer}
 use Rattle.vio_handshake.specs.Offers.{Match}
 use Rattle.lane_laws.proofs.EndMoves.{transcript_same}
-use Rattle.channel_model.proofs.SameSayings.{half_heard_is}
+use Rattle.channel_laws.proofs.SameSayings.{half_heard_is}
 use Rattle.lane_laws.specs.Agreement.{LinkAgrees}
-use Rattle.channel_model.specs.TranscriptLog.{TranscriptLog}
-use Rattle.channel_model.specs.WireAt.{WireHeardAt, WireSaidAt}
-use Rattle.channel_model.specs.WireEvent.{WireEvent}
+use Rattle.channel_laws.specs.TranscriptLog.{TranscriptLog}
+use Rattle.channel_laws.specs.WireAt.{WireHeardAt, WireSaidAt}
+use Rattle.channel_laws.specs.WireEvent.{WireEvent}
 use Rattle.disk_model.specs.DiskEvent.{DiskEvent, OnWire}
 use Rattle.lane_laws.specs.DiskLog.{DiskLog, after, after_transcript, nothing_yet}
 use Rattle.disk_model.specs.LaneState.{IsShape, LaneState, Shape, fresh}
@@ -119,8 +119,8 @@ lane_matches shape sound =
 pub record OnLane (shape : Shape) (role : Role) (s : Sides) : Type 0 where
   pub stand : BothStand role s
   pub meets : Meets (asks_of shape) (answers_of shape) role s
-  pub parts_mine : PartsSaid s.mine.turns
-  pub parts_theirs : PartsSaid s.theirs.turns
+  pub parts_mine : PartsSaid s.mine.utterances
+  pub parts_theirs : PartsSaid s.theirs.utterances
 
 pub lane_meets : (shape : Shape) (events : List DiskEvent) (s : LaneState) → IsShape shape → Run LaneStep (fresh shape) events s → s.wire.forged ≡ false
     → OnLane shape Initiator (sides_of (core_of s) (transcript_in shape events))

@@ -2,8 +2,8 @@
 use Rattle.std.proofs.Common.{◌≡◌, List, [], ◌∷◌, refl, sym, ap, ◌∙◌, subst, arith, map}
 use Rattle.runs.specs.Lawful.{log_of, run_lawful}
 use Rattle.runs.specs.Run.{Run}
-use Rattle.channel_model.specs.TranscriptLog.{TranscriptLog, nothing_said}
-use Rattle.channel_model.specs.WireLog.{WireLog}
+use Rattle.channel_laws.specs.TranscriptLog.{TranscriptLog, nothing_said}
+use Rattle.channel_laws.specs.WireLog.{WireLog}
 use Rattle.disk_model.specs.DiskEvent.{DiskEvent}
 use Rattle.lane_laws.specs.DiskLog.{DiskLog, after, after_transcript, after_wire, nothing_yet}
 use Rattle.disk_model.specs.LaneState.{IsShape, LaneState, Shape, fresh}

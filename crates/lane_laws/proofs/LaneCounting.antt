@@ -6,21 +6,21 @@ use Rattle.runs.specs.Run.{Run}
 use Rattle.ldc_queue.specs.declared.end.End.TheVariants.{A, B}
 use Rattle.ldc_queue.specs.Transcript.{Heard as Heard_, Said, Utterance}
 use Rattle.vdisk_msg.specs.declared.request.Request.{Request}
-use Rattle.channel_model.specs.TranscriptLog.{nothing_said}
-use Rattle.channel_model.specs.Sayings.{half_heard, half_said}
-use Rattle.channel_model.specs.WireEvent.{Blocked, Idle, Joined, Reset, Sent, Took}
+use Rattle.channel_laws.specs.TranscriptLog.{nothing_said}
+use Rattle.channel_laws.specs.Sayings.{half_heard, half_said}
+use Rattle.channel_laws.specs.WireEvent.{Blocked, Idle, Joined, Reset, Sent, Took}
 use Rattle.lane_laws.specs.DiskLog.{DiskLog, after, nothing_yet}
-use Rattle.channel_model.specs.Messages.{opening_sid}
+use Rattle.channel_laws.specs.Messages.{opening_sid}
 use Rattle.lane_laws.specs.WorkLog.{ClientCounts, opened_client, opened_counts}
 use Rattle.disk_model.specs.ClientPutting.{client_kind, client_opens, is_announcing}
 use Rattle.disk_model.specs.ClientRule as client_rules
 use Rattle.disk_model.specs.ClientState.{ClientState, first_id, joined_client}
 use Rattle.disk_model.specs.ClientStep.{ClientSends, ClientStep}
 use Rattle.disk_model.specs.DiskEvent.{Desc, DiskEvent, Done, Finished, Moved, OnWire, Published, Stored, Works}
-use Rattle.channel_model.specs.EndPuts.{ComesUp, EndsOwn, EndsHandshake, Goes, PutKind, put_opens}
+use Rattle.channel_laws.specs.EndPuts.{ComesUp, EndsOwn, EndsHandshake, Goes, PutKind, put_opens}
 use Rattle.disk_model.specs.LaneState.{IsShape, LaneState, Shape, fresh}
 use Rattle.disk_model.specs.LaneStep.{LaneStep}
-use Rattle.channel_model.specs.Seeing.{seen}
+use Rattle.channel_laws.specs.Seeing.{seen}
 use Rattle.disk_model.specs.ServerRule as server_rules
 use Rattle.disk_model.specs.ServerState.{ServerState, joined_server}
 use Rattle.lane_laws.proofs.LaneViews.{ClientSide, ServerSide, at_client, at_server, client_keeps, client_side, reach_of, server_keeps, server_side}
@@ -87,7 +87,7 @@ client_puts s l packet opens t new sid knows sends =
 
 -- THE CLIENT's steps
 abbrev CountsClient : DiskLog → ClientState → ClientSide → Type 0
-CountsClient l c side = ClientCounted l.shape c side.turns side.done side.counts
+CountsClient l c side = ClientCounted l.shape c side.utterances side.done side.counts
 
 client_joins : (s : LaneState) (l : DiskLog) → Knows s l → ClientCounted l.shape (joined_client s.client) [] l.work.done None
 client_joins s l knows = client_begins_counting l.shape s.client l.transcript.client l.work.done l.work.client knows.counted.client
@@ -115,7 +115,7 @@ client_steps s l knows _ t new step = absurd step
 
 -- THE SERVER's steps
 abbrev CountsServer : DiskLog → ServerState → ServerSide → Type 0
-CountsServer l v side = ServerCounted l.shape v side.turns side.counts
+CountsServer l v side = ServerCounted l.shape v side.utterances side.counts
 
 server_joins : (s : LaneState) (l : DiskLog) → Knows s l → ServerCounted l.shape (joined_server s.server) [] None
 server_joins s l knows = server_begins_counting l.shape s.server l.transcript.server l.work.server knows.counted.server

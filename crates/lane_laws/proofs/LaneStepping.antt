@@ -2,7 +2,7 @@
 use Rattle.std.proofs.Common.{ℕ, List, sym, subst, arith}
 use Rattle.runs.specs.Run.{Run, run_keeps}
 use Rattle.ldc_queue.specs.declared.end.End.TheVariants.{A}
-use Rattle.channel_model.specs.WireEvent.{Blocked, Idle, Joined, Reset, Sent, Took}
+use Rattle.channel_laws.specs.WireEvent.{Blocked, Idle, Joined, Reset, Sent, Took}
 use Rattle.disk_model.specs.DiskEvent.{DiskEvent, Done, OnWire, Published, Works}
 use Rattle.disk_model.specs.LaneState.{IsShape, LaneState, Shape, fresh}
 use Rattle.disk_model.specs.LaneStep.{LaneStep}

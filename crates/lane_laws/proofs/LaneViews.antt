@@ -10,8 +10,8 @@ use Rattle.vio_bytes.specs.Place.{put_at}
 use Rattle.vio_tag.specs.declared.cause.Cause.{Cause}
 use Rattle.channel_laws.specs.EndCore.{Begins, EndMove, Renews}
 use Rattle.channel_laws.specs.LaneCore.{reset_move}
-use Rattle.channel_model.specs.Seeing.{Seen, seen}
-use Rattle.channel_model.specs.WireEvent.{Blocked, ByRestart, ByScript, ByStep, ByTick, Declines, Giver, Idle, Injected, Joined, Lost, Poked, Reset, Sent, Took, WireEvent, giver}
+use Rattle.channel_laws.specs.Seeing.{Seen, seen}
+use Rattle.channel_laws.specs.WireEvent.{Blocked, ByRestart, ByScript, ByStep, ByTick, Declines, Giver, Idle, Injected, Joined, Lost, Poked, Reset, Sent, Took, WireEvent, giver}
 use Rattle.cookie_copy.specs.Reach.{Reach}
 use Rattle.disk_model.specs.ClientState.{ClientState, joined_client}
 use Rattle.disk_model.specs.ClientStep.{ClientAdmits, ClientStep}
@@ -265,21 +265,21 @@ lane_view s (Calms event) t step = no_end s (Calms event) t tt tt (calm_same s e
 
 -- AN END'S SIDE OF THE LOG: what it said and heard, whether it was blocked, and the counts of its session. An event beside it leaves its side.
 pub record ClientSide : Type 0 where
-  pub turns : List Utterance
+  pub utterances : List Utterance
   pub blocked : Blockage
   pub done : ℕ
   pub counts : Option ClientCounts
 
 abbrev pub client_side : DiskLog → ClientSide
-client_side l = record { turns = l.transcript.client; blocked = l.blocked.client; done = l.work.done; counts = l.work.client }
+client_side l = record { utterances = l.transcript.client; blocked = l.blocked.client; done = l.work.done; counts = l.work.client }
 
 pub record ServerSide : Type 0 where
-  pub turns : List Utterance
+  pub utterances : List Utterance
   pub blocked : Blockage
   pub counts : Option ServerCounts
 
 abbrev pub server_side : DiskLog → ServerSide
-server_side l = record { turns = l.transcript.server; blocked = l.blocked.server; counts = l.work.server }
+server_side l = record { utterances = l.transcript.server; blocked = l.blocked.server; counts = l.work.server }
 
 pub client_side_stays : (l : DiskLog) (event : DiskEvent) → Beside A event → client_side (after l event) ≡ client_side l
 client_side_stays l event beside = grind arith
@@ -296,7 +296,7 @@ pub record ClientKeeps (P : ClientState → ClientSide → Type 0) (s : LaneStat
   pub now : P s.client (client_side l)
   pub acts : (event : DiskEvent) (t : ClientState) (new : List ℕ) → ClientStep s.client (at_client s) s.memory event t new → P t (client_side (after l event))
   pub asked : (request : Admitted) (t : ClientState) → ClientAdmits s.client request t → P t (client_side l)
-  pub joined : P (joined_client s.client) (record { turns = []; blocked = Clear; done = l.work.done; counts = None })
+  pub joined : P (joined_client s.client) (record { utterances = []; blocked = Clear; done = l.work.done; counts = None })
 
 pub client_keeps : (P : ClientState → ClientSide → Type 0) (s : LaneState) (l : DiskLog) (event : DiskEvent) (t : LaneState) → ClientKeeps P s l → LaneStep s event t
     → P t.client (client_side (after l event))
@@ -311,8 +311,8 @@ client_keeps P s l event t keeps step = by event (lane_view s event t step).clie
 pub record ServerKeeps (P : ServerState → ServerSide → Type 0) (s : LaneState) (l : DiskLog) : Type 0 where
   pub now : P s.server (server_side l)
   pub acts : (event : DiskEvent) (gave : List ℕ) (t : ServerState) (new : List ℕ) → ServerStep s.server (at_server s) (reach_of s) gave event t new → P t (server_side (after l event))
-  pub joined : P (joined_server s.server) (record { turns = []; blocked = Clear; counts = None })
-  pub renewed : P (restarted_server s.server) (record { turns = []; blocked = Clear; counts = None })
+  pub joined : P (joined_server s.server) (record { utterances = []; blocked = Clear; counts = None })
+  pub renewed : P (restarted_server s.server) (record { utterances = []; blocked = Clear; counts = None })
 
 pub server_keeps : (P : ServerState → ServerSide → Type 0) (s : LaneState) (l : DiskLog) (event : DiskEvent) (t : LaneState) → ServerKeeps P s l → LaneStep s event t
     → P t.server (server_side (after l event))

@@ -7,8 +7,8 @@ use Rattle.disk_model.specs.ClientRule as client
 use Rattle.disk_model.specs.ClientState.{ClientSession, ClientState, first_id, opened_session}
 use Rattle.disk_model.specs.ClientStep.{ClientSends}
 use Rattle.disk_model.specs.ClientTaking.{ClientTakes, GoesOn}
-use Rattle.channel_model.specs.EndPuts.{EndsHandshake, PutKind, put_opens}
-use Rattle.channel_model.specs.Seeing.{Seen}
+use Rattle.channel_laws.specs.EndPuts.{EndsHandshake, PutKind, put_opens}
+use Rattle.channel_laws.specs.Seeing.{Seen}
 use Rattle.disk_model.specs.ServerPutting.{server_holds}
 use Rattle.disk_model.specs.ServerRule as server
 use Rattle.disk_model.specs.ServerState.{ServerState}

@@ -6,8 +6,8 @@ use Rattle.runs.specs.Run.{Run}
 use Rattle.ldc_queue.specs.declared.end.ChannelState.TheVariants.{Up}
 use Rattle.ldc_queue.specs.declared.end.End.TheVariants.{A, B}
 use Rattle.ldc_queue.specs.OneStream.{IsFront}
-use Rattle.channel_model.specs.Sayings.{heard, said}
-use Rattle.channel_model.specs.TranscriptLog.{TranscriptLog}
+use Rattle.channel_laws.specs.Sayings.{heard, said}
+use Rattle.channel_laws.specs.TranscriptLog.{TranscriptLog}
 use Rattle.lane_laws.specs.Agreement.{ServerCountsAgree, WorkAgrees}
 use Rattle.lane_laws.specs.DiskLog.{DiskLog, after, nothing_yet}
 use Rattle.lane_laws.specs.WorkLog.{ServerCounts}
@@ -15,7 +15,7 @@ use Rattle.disk_model.specs.ClientState.{ClientSession}
 use Rattle.disk_model.specs.DiskEvent.{DiskEvent}
 use Rattle.disk_model.specs.LaneState.{IsShape, LaneState, Shape, fresh}
 use Rattle.disk_model.specs.LaneStep.{LaneStep}
-use Rattle.channel_model.specs.Ranges.{wrapped}
+use Rattle.channel_laws.specs.Ranges.{wrapped}
 use Rattle.disk_model.specs.ServerState.{ServerSession, SlotRange, Work}
 use Rattle.lane_laws.proofs.Agreeing.{asked_within, client_some, front_sum, one_ring}
 use Rattle.lane_laws.proofs.LaneCores.{transcript_is}

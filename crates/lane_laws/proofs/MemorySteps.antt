@@ -13,7 +13,7 @@ use Rattle.vio_bytes.proofs.Ranges.{length-range_at}
 use Rattle.vio_bytes.proofs.Putting.{length-put_at}
 use Rattle.vio_bytes.specs.Place.{put_at}
 use Rattle.vio_tag.specs.declared.cause.Cause.{Cause}
-use Rattle.channel_model.specs.WireEvent.{Blocked, Idle, Joined, Reset, Sent, Took}
+use Rattle.channel_laws.specs.WireEvent.{Blocked, Idle, Joined, Reset, Sent, Took}
 use Rattle.channel_laws.proofs.Apart.{some_same}
 use Rattle.lane_laws.specs.RequestLaws.{carried_count}
 use Rattle.disk_model.specs.ClientPutting.{client_opens}
@@ -23,7 +23,7 @@ use Rattle.disk_model.specs.ClientStep.{ClientAdmits, ClientCompletes, ClientPub
 use Rattle.disk_model.specs.DiskEvent.{Admitted, Desc, DiskEvent, Finished, Moved, OnWire, Stored, Works}
 use Rattle.disk_model.specs.LaneState.{LaneState}
 use Rattle.disk_model.specs.LaneStep.{LaneStep}
-use Rattle.channel_model.specs.Seeing.{seen}
+use Rattle.channel_laws.specs.Seeing.{seen}
 use Rattle.disk_model.specs.ServerRule as server_rules
 use Rattle.disk_model.specs.ServerState.{Ends, Gathers, Gives, Progress, ServerSession, ServerState, Work}
 use Rattle.disk_model.specs.ServerStep.{ServerStep, ServerFails, WorkFails}

@@ -8,9 +8,9 @@ use Rattle.vio_tag.specs.declared.message.MsgBody.TheVariants.{DringData}
 use Rattle.vio_tag.specs.Fault.{first_fault}
 use Rattle.vio_tag.specs.Spelling.{SpellsBody, envelope_at, envelope_code}
 use Rattle.disk_model.specs.ClientState.{ClientState}
-use Rattle.channel_model.specs.Ranges.{is_other}
+use Rattle.channel_laws.specs.Ranges.{is_other}
 use Rattle.disk_model.specs.ServerState.{ServerState, SlotRange}
-use Rattle.channel_model.specs.ResetSays.{IsOther, MessageSays}
+use Rattle.channel_laws.specs.ResetSays.{IsOther, MessageSays}
 use Rattle.channel_laws.proofs.HandshakeResets.{Spelled}
 use Rattle.lane_laws.proofs.ClientAnswers as client
 use Rattle.lane_laws.proofs.ServerAnswers as server

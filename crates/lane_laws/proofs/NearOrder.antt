@@ -7,7 +7,7 @@ use Rattle.lane_laws.specs.DiskLog.{DiskLog, after, nothing_yet}
 use Rattle.disk_model.specs.LaneState.{IsShape, LaneState, Shape, fresh}
 use Rattle.disk_model.specs.LaneStep.{LaneStep}
 use Rattle.lane_laws.specs.NearLaws.{NearAt, NearInOrder}
-use Rattle.channel_model.specs.WireLog.{WireLog}
+use Rattle.channel_laws.specs.WireLog.{WireLog}
 use Rattle.lane_laws.proofs.AlongRuns.{reached_lawful}
 use Rattle.lane_laws.proofs.LaneRuns.{before_of, run_contents}
 use Rattle.lane_laws.proofs.LiveCounts.{counts_while}

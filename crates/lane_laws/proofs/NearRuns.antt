@@ -13,7 +13,7 @@ use Rattle.disk_model.specs.ClientStep.{given_bytes}
 use Rattle.disk_model.specs.DiskEvent.{DiskEvent, Misplaced, Stored, Works}
 use Rattle.disk_model.specs.LaneState.{IsShape, LaneState, Shape, fresh}
 use Rattle.disk_model.specs.LaneStep.{LaneStep, ServerWorks}
-use Rattle.channel_model.specs.WireLog.{WireLog}
+use Rattle.channel_laws.specs.WireLog.{WireLog}
 use Rattle.lane_laws.proofs.CarriedRuns.{all_step}
 use Rattle.lane_laws.proofs.RingRuns.{before as clean_before}
 use Rattle.lane_laws.proofs.SlotsStepping.{StepFacts}

@@ -7,8 +7,8 @@ use Rattle.disk_model.specs.DiskEvent.{Accepted, Asks, Desc, DiskEvent, Finished
 use Rattle.lane_laws.specs.DiskLog.{DiskLog, after, nothing_yet}
 use Rattle.disk_model.specs.LaneState.{Shape}
 use Rattle.lane_laws.specs.May.{IsLawful, May}
-use Rattle.channel_model.specs.WireAt.{IsUp}
-use Rattle.channel_model.specs.WireEvent.{Injected, Joined, Lost, Reset, Sent, Took}
+use Rattle.channel_laws.specs.WireAt.{IsUp}
+use Rattle.channel_laws.specs.WireEvent.{Injected, Joined, Lost, Reset, Sent, Took}
 use Rattle.lane_laws.specs.WorkLog.{ClientCounts, ServerCounts, WorkLog, change_client, change_server}
 use Rattle.lane_laws.proofs.SlotsStepping.{behind_up, upset_not}
 use Rattle.lane_laws.specs.NewSessions.{EndsSessions, OpensAmong, OpensAt, WorkOf}

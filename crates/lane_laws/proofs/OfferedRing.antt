@@ -8,7 +8,7 @@ use Rattle.vdisk_msg.specs.Requested.{ring_pages}
 use Rattle.vio_tag.proofs.Widths.{registration_has_widths}
 use Rattle.vio_tag.specs.Form.{AreCookies, BodyHasWidths}
 use Rattle.vio_handshake.specs.Messages.{own_ring}
-use Rattle.channel_model.specs.OwnMemory.{filled, page_cookies}
+use Rattle.channel_laws.specs.OwnMemory.{filled, page_cookies}
 use Rattle.disk_model.specs.Offering.{client_offer, own_cookies}
 
 -- FOURTEEN COOKIES, the first of them these

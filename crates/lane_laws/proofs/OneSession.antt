@@ -2,7 +2,7 @@
 use Rattle.std.proofs.Common.{◌≡◌, false, true, List, map, sym, ◌∙◌}
 use Rattle.std.specs.Prelude.{is_some}
 use Rattle.ldc_queue.specs.declared.end.End.TheVariants.{B}
-use Rattle.channel_model.specs.WireAt.{IsUp}
+use Rattle.channel_laws.specs.WireAt.{IsUp}
 use Rattle.runs.specs.Run.{Run}
 use Rattle.disk_model.specs.DiskEvent.{DiskEvent}
 use Rattle.disk_model.specs.LaneState.{IsShape, LaneState, Shape, fresh}

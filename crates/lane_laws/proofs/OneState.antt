@@ -9,9 +9,9 @@ use Rattle.channel_laws.specs.Blockage.{Blockage}
 use Rattle.lane_laws.specs.DiskLog.{DiskLog}
 use Rattle.lane_laws.specs.EndLog.{server_left}
 use Rattle.disk_model.specs.LaneState.{LaneState}
-use Rattle.channel_model.specs.WireLog.{WireLog}
+use Rattle.channel_laws.specs.WireLog.{WireLog}
 use Rattle.lane_laws.specs.NearLog.{NearLog}
-use Rattle.channel_model.specs.Sayings.{half_said}
+use Rattle.channel_laws.specs.Sayings.{half_said}
 use Rattle.disk_model.specs.ServerState.{ServerSession, ServerState, Work}
 use Rattle.lane_laws.specs.WorkLog.{ServerCounts}
 use Rattle.lane_laws.specs.SameEnds.{SameClient, SameLane, SameServer, SameWork}

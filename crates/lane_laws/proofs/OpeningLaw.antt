@@ -6,9 +6,9 @@ use Rattle.ldc_link.specs.declared.phase.Role.TheVariants.{Initiator, Responder}
 use Rattle.ldc_queue.specs.declared.end.End.{End}
 use Rattle.ldc_queue.specs.declared.end.End.TheVariants.{A, B}
 use Rattle.ldc_queue.specs.Transcript.{Heard, Said}
-use Rattle.channel_model.specs.HandshakeOrder.{HandshakeOrder}
-use Rattle.channel_model.specs.TranscriptLog.{TranscriptLog, hears, says}
-use Rattle.channel_model.specs.WireEvent.{Sent, Took}
+use Rattle.channel_laws.specs.HandshakeOrder.{HandshakeOrder}
+use Rattle.channel_laws.specs.TranscriptLog.{TranscriptLog, hears, says}
+use Rattle.channel_laws.specs.WireEvent.{Sent, Took}
 use Rattle.lane_laws.specs.DiskLog.{after, nothing_yet}
 use Rattle.lane_laws.specs.WorkLaws.{OpeningsAt, OpensRightly}
 use Rattle.disk_model.specs.DiskEvent.{DiskEvent, OnWire}

@@ -11,7 +11,7 @@ use Rattle.ldc_queue.specs.Wire.{waiting_for}
 use Rattle.vdisk_msg.specs.declared.request.Request.{Request}
 use Rattle.vio_handshake.specs.declared.handshake.Handshake.{Handshake}
 use Rattle.vio_tag.specs.declared.cause.Cause.{Cause}
-use Rattle.channel_model.specs.WireEvent.{Blocked, ByRestart, ByScript, ByStep, ByTick, Giver, Idle, Reset, Sent, Took, giver}
+use Rattle.channel_laws.specs.WireEvent.{Blocked, ByRestart, ByScript, ByStep, ByTick, Giver, Idle, Reset, Sent, Took, giver}
 use Rattle.disk_model.specs.ClientPutting.{client_holds}
 use Rattle.disk_model.specs.ClientRule as client
 use Rattle.disk_model.specs.ClientState.{ClientSession, ClientState, joined_client}

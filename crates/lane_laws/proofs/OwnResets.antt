@@ -5,9 +5,9 @@ use Rattle.runs.specs.Run.{Run}
 use Rattle.ldc_queue.specs.declared.end.End.{End}
 use Rattle.ldc_queue.specs.declared.end.End.TheVariants.{A, B}
 use Rattle.vio_tag.specs.declared.cause.Cause.{Cause}
-use Rattle.channel_model.specs.WireAt.{IsOwnReset, UnforgedReset}
-use Rattle.channel_model.specs.WireEvent.{ByStep, Giver, Reset, giver}
-use Rattle.channel_model.specs.WireLog.{WireLog}
+use Rattle.channel_laws.specs.WireAt.{IsOwnReset, UnforgedReset}
+use Rattle.channel_laws.specs.WireEvent.{ByStep, Giver, Reset, giver}
+use Rattle.channel_laws.specs.WireLog.{WireLog}
 use Rattle.lane_laws.specs.DiskLog.{after, nothing_yet}
 use Rattle.disk_model.specs.ClientRule as client_rules
 use Rattle.disk_model.specs.ClientStep.{ClientFails}
@@ -15,7 +15,7 @@ use Rattle.disk_model.specs.ClientTaking as client
 use Rattle.disk_model.specs.DiskEvent.{DiskEvent, OnWire}
 use Rattle.disk_model.specs.LaneState.{IsShape, LaneState, Shape, fresh}
 use Rattle.disk_model.specs.LaneStep.{EndOnWire, LaneStep, ResetBy, reach}
-use Rattle.channel_model.specs.Seeing.{seen}
+use Rattle.channel_laws.specs.Seeing.{seen}
 use Rattle.disk_model.specs.ServerRule as server_rules
 use Rattle.disk_model.specs.ServerState.{Ends, Progress, ServerSession, Work}
 use Rattle.disk_model.specs.ServerStep.{ServerFails, WorkFails}

@@ -8,16 +8,16 @@ use Rattle.ldc_link.specs.Taking.{Heard, LinkTake, Unheard}
 use Rattle.ldc_queue.specs.declared.end.ChannelState.TheVariants.{Up}
 use Rattle.ldc_queue.specs.declared.end.End.TheVariants.{A, B}
 use Rattle.vio_tag.specs.declared.cause.Cause.{Cause}
-use Rattle.channel_model.specs.EndPuts.{handshake_risen}
-use Rattle.channel_model.specs.TranscriptLog.{TranscriptLog}
-use Rattle.channel_model.specs.WireAt.{IsOwnReset}
+use Rattle.channel_laws.specs.EndPuts.{handshake_risen}
+use Rattle.channel_laws.specs.TranscriptLog.{TranscriptLog}
+use Rattle.channel_laws.specs.WireAt.{IsOwnReset}
 use Rattle.disk_model.specs.ClientRule as client_rules
 use Rattle.disk_model.specs.ClientState.{ClientSession}
 use Rattle.disk_model.specs.ClientTaking as client
 use Rattle.disk_model.specs.DiskEvent.{DiskEvent}
 use Rattle.disk_model.specs.LaneState.{IsShape, LaneState, Shape, fresh}
 use Rattle.disk_model.specs.LaneStep.{LaneStep}
-use Rattle.channel_model.specs.Seeing.{seen}
+use Rattle.channel_laws.specs.Seeing.{seen}
 use Rattle.disk_model.specs.ServerRule as server_rules
 use Rattle.disk_model.specs.ServerState.{ServerSession}
 use Rattle.disk_model.specs.ServerTaking as server

@@ -15,7 +15,7 @@ use Rattle.lane_laws.specs.DiskLog.{DiskLog}
 use Rattle.lane_laws.specs.WorkLaws.{FinishesPiece, InServer, MovesPiece, Owes, PiecesAt, StoresPiece, access_of, block_in, count_in, desc_in, unit_fault}
 use Rattle.lane_laws.specs.WorkLog.{ServerCounts}
 use Rattle.disk_model.specs.DiskEvent.{Desc, DiskEvent, Finished, Moved, Stored, Works}
-use Rattle.channel_model.specs.OwnMemory.{own_table}
+use Rattle.channel_laws.specs.OwnMemory.{own_table}
 use Rattle.disk_model.specs.LaneState.{LaneState, pages_of}
 use Rattle.disk_model.specs.LaneStep.{LaneStep, reach}
 use Rattle.disk_model.specs.ServerState.{Flushes, Gathers, Gives, Progress, Reads, ServerSession, Work, Writes}

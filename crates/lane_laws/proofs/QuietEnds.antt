@@ -3,8 +3,8 @@ use Rattle.std.proofs.Common.{◌≡◌, true, false, Option, Some, None, List, 
 use Rattle.std.specs.Prelude.{is_some}
 use Rattle.runs.specs.Lawful.{log_of}
 use Rattle.runs.specs.Run.{Run}
-use Rattle.channel_model.specs.Sayings.{heard, said}
-use Rattle.channel_model.specs.TranscriptLog.{TranscriptLog}
+use Rattle.channel_laws.specs.Sayings.{heard, said}
+use Rattle.channel_laws.specs.TranscriptLog.{TranscriptLog}
 use Rattle.lane_laws.specs.DiskLog.{DiskLog, after, nothing_yet}
 use Rattle.lane_laws.specs.QuietLaws.{ClientIsIdle, IsAtRest, ServerIsIdle}
 use Rattle.lane_laws.specs.WorkLaws.{IfClient, IfServer}

@@ -1,7 +1,7 @@
 -- What an event of the wire leaves of a lane, but for the packet by which a client's session opens.
 use Rattle.std.proofs.Common.{◌≡◌, ℕ, true, false, Option, None, List, sym, ap, ◌∙◌, arith}
 use Rattle.ldc_queue.specs.declared.end.End.TheVariants.{A, B}
-use Rattle.channel_model.specs.WireEvent.{Blocked, Idle, Joined, Reset, Sent, Took, WireEvent}
+use Rattle.channel_laws.specs.WireEvent.{Blocked, Idle, Joined, Reset, Sent, Took, WireEvent}
 use Rattle.lane_laws.specs.DiskLog.{DiskLog}
 use Rattle.disk_model.specs.ClientRule as client
 use Rattle.disk_model.specs.ClientState.{ClientState, joined_client}

@@ -3,7 +3,7 @@ use Rattle.std.proofs.Common.{◌≡◌, ℕ, ◌+◌, ◌-◌, ◌*◌, ◌/◌
 use Rattle.std.proofs.lemmas.Bool.{cases_lt}
 use Rattle.std.proofs.lemmas.Nat.{mod_below}
 use Rattle.std.proofs.Math.Nat.{add-mod-mod, add-mul-mod_self_right, mod-add-div', mod-mod}
-use Rattle.dring.proofs.Laps.{one_turn}
+use Rattle.dring.proofs.Laps.{one_lap}
 use Rattle.dring.specs.Slots.{range_length}
 
 -- what leads from the slot of one number to that of another leads from the one to the other
@@ -21,6 +21,6 @@ range_turns n a p some most =
     let less : x < n = mod_below ((p - 1) % n + n - a % n % n) n (omega (arith, some, most)) in
     let same : (a + x) % n ≡ (p - 1) % n = leads n a (p - 1) (omega (arith, some, most)) in
     elim (cases_lt (p - 1) (a + x)) [
-      | inl past ↦ let equal : p - 1 ≡ a + x = one_turn n (p - 1) (a + x) (omega (arith, past)) (omega (arith, less, some)) (sym same) in omega (arith, equal, some)
-      | inr before ↦ let equal : a + x ≡ p - 1 = one_turn n (a + x) (p - 1) (omega (arith, before)) (omega (arith, most, some)) same in omega (arith, equal, some)
+      | inl past ↦ let equal : p - 1 ≡ a + x = one_lap n (p - 1) (a + x) (omega (arith, past)) (omega (arith, less, some)) (sym same) in omega (arith, equal, some)
+      | inr before ↦ let equal : a + x ≡ p - 1 = one_lap n (a + x) (p - 1) (omega (arith, before)) (omega (arith, most, some)) same in omega (arith, equal, some)
     ]

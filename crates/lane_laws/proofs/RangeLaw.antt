@@ -15,21 +15,21 @@ use Rattle.vio_bytes.specs.Place.{number_at}
 use Rattle.vio_tag.specs.declared.message.Message.{Message}
 use Rattle.vio_tag.specs.declared.message.MsgBody.TheVariants.{DringData}
 use Rattle.vio_tag.specs.Spelling.{SpellsBody, canonical, envelope_code, subtype_at}
-use Rattle.channel_model.specs.Sayings.{half_heard, half_said, said}
-use Rattle.channel_model.specs.WireEvent.{Sent, Took}
+use Rattle.channel_laws.specs.Sayings.{half_heard, half_said, said}
+use Rattle.channel_laws.specs.WireEvent.{Sent, Took}
 use Rattle.lane_laws.proofs.ServerSpeaking.{server_holds_link}
 use Rattle.lane_laws.specs.DiskLog.{DiskLog}
 use Rattle.channel_laws.specs.Blockage.{Blockage, Clear}
 use Rattle.lane_laws.specs.EndLog.{ident_of, range_in_work, state_of}
-use Rattle.channel_model.specs.Messages.{end_of, ended_by, range_ended, range_in, seq_of, sid_of, start_of}
+use Rattle.channel_laws.specs.Messages.{end_of, ended_by, range_ended, range_in, seq_of, sid_of, start_of}
 use Rattle.lane_laws.specs.WorkLaws.{Acknowledges, AcknowledgesRange, Announces, AsksFor, HearsNoOther, IfRange, NamesOwn, NamesRing, OfClientRange, OfServerRange, RangesAt, client_handshake, server_handshake}
 use Rattle.lane_laws.specs.WorkLog.{ClientCounts, ServerCounts}
 use Rattle.disk_model.specs.ClientPutting.{client_holds, client_kind, is_announcing}
 use Rattle.disk_model.specs.ClientRule as client_rules
 use Rattle.disk_model.specs.ClientState.{ClientSession, ClientState, slot_in}
 use Rattle.disk_model.specs.ClientStep.{ClientSends}
-use Rattle.channel_model.specs.EndPuts.{ComesUp, EndsOwn, EndsHandshake, Goes, PutKind}
-use Rattle.channel_model.specs.Seeing.{Seen, seen}
+use Rattle.channel_laws.specs.EndPuts.{ComesUp, EndsOwn, EndsHandshake, Goes, PutKind}
+use Rattle.channel_laws.specs.Seeing.{Seen, seen}
 use Rattle.disk_model.specs.ServerPutting.{server_holds, server_kind}
 use Rattle.disk_model.specs.ServerRule as server_rules
 use Rattle.vio_handshake.specs.declared.handshake.Handshake.{Handshake}
@@ -38,7 +38,7 @@ use Rattle.vio_handshake.specs.Rules.{sid_fault}
 use Rattle.disk_model.specs.DiskEvent.{DiskEvent, OnWire}
 use Rattle.disk_model.specs.LaneState.{IsShape, LaneState}
 use Rattle.disk_model.specs.LaneStep.{EndOnWire, LaneStep}
-use Rattle.channel_model.specs.Ranges.{wrapped}
+use Rattle.channel_laws.specs.Ranges.{wrapped}
 use Rattle.dring.specs.Slots.{range_length}
 use Rattle.disk_model.specs.ServerState.{ServerState, SlotRange}
 use Rattle.disk_model.specs.ServerStep.{ServerSends}

@@ -11,7 +11,7 @@ use Rattle.vio_tag.specs.Form.{HasForm, IsWellFormed}
 use Rattle.vio_tag.specs.Spelling.{SpellsMessage, canonical, envelope_at, envelope_code, subtype_at}
 use Rattle.vio_handshake.specs.declared.handshake.Phase.{Phase}
 use Rattle.vio_bytes.specs.Place.{big_bytes, number_at}
-use Rattle.channel_model.specs.Messages.{end_of, is_range, range_if, range_in, seq_of, sid_of, start_of}
+use Rattle.channel_laws.specs.Messages.{end_of, is_range, range_if, range_in, seq_of, sid_of, start_of}
 use Rattle.lane_laws.specs.EndLog.{ident_of, state_of}
 use Rattle.lane_laws.specs.WorkLog.{length_in, one_in}
 use Rattle.dring.specs.Slots.{range_length}

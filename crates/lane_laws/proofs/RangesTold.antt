@@ -20,13 +20,13 @@ use Rattle.vio_tag.specs.declared.message.Message.{Message}
 use Rattle.vio_tag.specs.declared.message.MsgBody.TheVariants.{DringData, Rdx}
 use Rattle.vio_tag.specs.Spelling.{canonical, envelope_at, envelope_code, sid_at}
 use Rattle.vio_tag.proofs.Canonical.{canonical_spells}
-use Rattle.channel_model.specs.EndPuts.{ComesUp, EndsOwn, EndsHandshake, Goes, PutKind}
-use Rattle.channel_model.specs.Messages.{range_in}
-use Rattle.channel_model.specs.Ranges.{wrapped}
-use Rattle.channel_model.specs.Sayings.{half_said, heard, said}
-use Rattle.channel_model.specs.Seeing.{seen}
-use Rattle.channel_model.specs.WireEvent.{Sent, WireEvent}
-use Rattle.channel_model.specs.WireLog.{WireLog}
+use Rattle.channel_laws.specs.EndPuts.{ComesUp, EndsOwn, EndsHandshake, Goes, PutKind}
+use Rattle.channel_laws.specs.Messages.{range_in}
+use Rattle.channel_laws.specs.Ranges.{wrapped}
+use Rattle.channel_laws.specs.Sayings.{half_said, heard, said}
+use Rattle.channel_laws.specs.Seeing.{seen}
+use Rattle.channel_laws.specs.WireEvent.{Sent, WireEvent}
+use Rattle.channel_laws.specs.WireLog.{WireLog}
 use Rattle.disk_model.specs.ClientPutting.{client_kind, is_announcing}
 use Rattle.disk_model.specs.ClientState.{ClientState}
 use Rattle.disk_model.specs.DiskEvent.{DiskEvent, OnWire, Stopped, Switches}
@@ -348,9 +348,9 @@ same_sids : (m : Message) (bytes : List ℕ) (d : Deal) → bytes ≡ canonical 
 same_sids m bytes d is small there own = grind (arith, sid_reads)
 
 pub next_data : (shape : Shape) (role : Role) (s : Sides) (bytes : List ℕ) → (on : OnLane shape role s) → s.mine.state ≡ Up → s.mine.core.is_open ≡ true → s.theirs.state ≡ Up
-    → IsFront (heard s.mine.turns ++ bytes ∷ []) (said s.theirs.turns) → EachSaid (other role) shape.slots 0 0 (said s.theirs.turns)
-    → IsData (other role) shape.slots on.meets.handshakes.sid (range_count (code_of (other role)) (heard s.mine.turns)) (range_sum shape.slots (code_of (other role)) (heard s.mine.turns)) bytes
-next_data shape role s bytes on up opened their_up front each = by_kind (each_in (other role) shape.slots 0 0 (heard s.mine.turns) front.0 (said s.theirs.turns) bytes each front.1)
+    → IsFront (heard s.mine.utterances ++ bytes ∷ []) (said s.theirs.utterances) → EachSaid (other role) shape.slots 0 0 (said s.theirs.utterances)
+    → IsData (other role) shape.slots on.meets.handshakes.sid (range_count (code_of (other role)) (heard s.mine.utterances)) (range_sum shape.slots (code_of (other role)) (heard s.mine.utterances)) bytes
+next_data shape role s bytes on up opened their_up front each = by_kind (each_in (other role) shape.slots 0 0 (heard s.mine.utterances) front.0 (said s.theirs.utterances) bytes each front.1)
   where
     d : Deal
     d = deal (asks_of shape) (answers_of shape) on.meets.handshakes.sid
@@ -361,16 +361,16 @@ next_data shape role s bytes on up opened their_up front each = by_kind (each_in
     own : IsOwn d bytes
     own = next_own (asks_of shape) (answers_of shape) role s bytes on.stand on.meets.handshakes up opened their_up front
 
-    by_kind : IsEither (other role) shape.slots (0 + range_count k (heard s.mine.turns)) (0 + range_sum shape.slots k (heard s.mine.turns)) bytes
-        → IsData (other role) shape.slots on.meets.handshakes.sid (range_count k (heard s.mine.turns)) (range_sum shape.slots k (heard s.mine.turns)) bytes
+    by_kind : IsEither (other role) shape.slots (0 + range_count k (heard s.mine.utterances)) (0 + range_sum shape.slots k (heard s.mine.utterances)) bytes
+        → IsData (other role) shape.slots on.meets.handshakes.sid (range_count k (heard s.mine.utterances)) (range_sum shape.slots k (heard s.mine.utterances)) bytes
     by_kind (inl data_is) =
         let is = data_is.2 in
         let sid : data_is.0 ≡ d.sid =
-        same_sids (record { subtype = subtype_of (other role); sid = data_is.0; body = DringData is.seq data_is.0 ((0 + range_sum shape.slots k (heard s.mine.turns)) % shape.slots) is.end is.state }) bytes d
+        same_sids (record { subtype = subtype_of (other role); sid = data_is.0; body = DringData is.seq data_is.0 ((0 + range_sum shape.slots k (heard s.mine.utterances)) % shape.slots) is.end is.state }) bytes d
         is.bytes_are data_is.1 on.meets.handshakes.small own in
-        let count : 0 + range_count k (heard s.mine.turns) ≡ range_count k (heard s.mine.turns) = omega arith in
-        let sum : 0 + range_sum shape.slots k (heard s.mine.turns) ≡ range_sum shape.slots k (heard s.mine.turns) = omega arith in
-        subst (λ (n : ℕ). IsData (other role) shape.slots n (range_count k (heard s.mine.turns)) (range_sum shape.slots k (heard s.mine.turns)) bytes) sid
-        (subst (λ (n : ℕ). IsData (other role) shape.slots data_is.0 n (range_sum shape.slots k (heard s.mine.turns)) bytes) count
-        (subst (λ (n : ℕ). IsData (other role) shape.slots data_is.0 (0 + range_count k (heard s.mine.turns)) n bytes) sum is))
+        let count : 0 + range_count k (heard s.mine.utterances) ≡ range_count k (heard s.mine.utterances) = omega arith in
+        let sum : 0 + range_sum shape.slots k (heard s.mine.utterances) ≡ range_sum shape.slots k (heard s.mine.utterances) = omega arith in
+        subst (λ (n : ℕ). IsData (other role) shape.slots n (range_count k (heard s.mine.utterances)) (range_sum shape.slots k (heard s.mine.utterances)) bytes) sid
+        (subst (λ (n : ℕ). IsData (other role) shape.slots data_is.0 n (range_sum shape.slots k (heard s.mine.utterances)) bytes) count
+        (subst (λ (n : ℕ). IsData (other role) shape.slots data_is.0 (0 + range_count k (heard s.mine.utterances)) n bytes) sum is))
     by_kind (inr apart) = absurd (omega (arith, apart, own_envelope d bytes own))

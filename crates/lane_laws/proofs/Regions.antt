@@ -13,7 +13,7 @@ use Rattle.lane_laws.specs.DiskLog.{DiskLog}
 use Rattle.disk_model.specs.DiskEvent.{Stored as StoredUnit}
 use Rattle.disk_model.specs.LaneState.{LaneState, Shape}
 use Rattle.disk_model.specs.LaneStep.{ServerWorks}
-use Rattle.channel_model.specs.Seeing.{seen}
+use Rattle.channel_laws.specs.Seeing.{seen}
 use Rattle.disk_model.specs.Served as served
 use Rattle.disk_model.specs.ServerRule as server_rules
 use Rattle.disk_model.specs.ServerState.{Progress, Reads, ServerState, Work, Writes}

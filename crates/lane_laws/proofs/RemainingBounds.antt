@@ -6,12 +6,12 @@ use Rattle.ldc_queue.specs.declared.end.End.TheVariants.{A, B}
 use Rattle.ldc_queue.specs.Transcript.{Utterance}
 use Rattle.ldc_queue.specs.Wire.{Wire}
 use Rattle.ldc_link.specs.declared.phase.Role.TheVariants.{Initiator, Responder}
-use Rattle.channel_model.specs.TranscriptLog.{TranscriptLog}
+use Rattle.channel_laws.specs.TranscriptLog.{TranscriptLog}
 use Rattle.channel_laws.specs.Standing.{EndStands}
 use Rattle.vio_tag.specs.declared.cause.Cause.{Cause}
-use Rattle.channel_model.specs.WireAt.{IsUp}
-use Rattle.channel_model.specs.WireEvent.{ByRestart, ByScript, ByStep, ByTick, Giver, Reset, giver}
-use Rattle.channel_model.specs.WireLog.{lossy_behind, wire_moved}
+use Rattle.channel_laws.specs.WireAt.{IsUp}
+use Rattle.channel_laws.specs.WireEvent.{ByRestart, ByScript, ByStep, ByTick, Giver, Reset, giver}
+use Rattle.channel_laws.specs.WireLog.{lossy_behind, wire_moved}
 use Rattle.disk_model.specs.ClientState.{ClientState, joined_client}
 use Rattle.disk_model.specs.DiskEvent.{OnWire}
 use Rattle.disk_model.specs.LaneState.{LaneState, Shape, fresh, near_disturbed}

@@ -12,8 +12,8 @@ use Rattle.disk_model.specs.ClientPutting.{announced, client_holds, client_kind,
 use Rattle.disk_model.specs.ClientRule.{Announces, ClientRule, Completes, Publishes, client_rule}
 use Rattle.disk_model.specs.ClientState.{ClientSession, ClientState}
 use Rattle.disk_model.specs.ClientStep.{ClientCompletes, ClientPublishes, ClientSends}
-use Rattle.channel_model.specs.EndPuts.{ComesUp, EndsOwn, EndsHandshake, Goes, PutKind, kind_in}
-use Rattle.channel_model.specs.Seeing.{Seen}
+use Rattle.channel_laws.specs.EndPuts.{ComesUp, EndsOwn, EndsHandshake, Goes, PutKind, kind_in}
+use Rattle.channel_laws.specs.Seeing.{Seen}
 use Rattle.channel_laws.proofs.EndStanding.{held_stands}
 use Rattle.channel_laws.proofs.PacketsLeft.{opening_shut, says_packets, stays_packets, waits_packets}
 use Rattle.channel_laws.specs.EndCore.{EndCore}

@@ -6,8 +6,8 @@ use Rattle.ldc_queue.specs.declared.end.ChannelState.TheVariants.{Up}
 use Rattle.ldc_queue.specs.declared.end.End.TheVariants.{A, B}
 use Rattle.ldc_queue.specs.Transcript.{Utterance}
 use Rattle.ldc_queue.specs.Wire.{Wire, configured, peer_behind, put_for, queue_behind}
-use Rattle.channel_model.specs.WireEvent.{Joined, Sent, WireEvent}
-use Rattle.channel_model.specs.WireLog.{lossy_behind, wire_moved}
+use Rattle.channel_laws.specs.WireEvent.{Joined, Sent, WireEvent}
+use Rattle.channel_laws.specs.WireLog.{lossy_behind, wire_moved}
 use Rattle.disk_model.specs.ClientRule as client_rules
 use Rattle.disk_model.specs.ClientState.{ClientState, joined_client}
 use Rattle.disk_model.specs.DiskEvent.{Desc, DiskEvent, Done, Finished, Misplaced, Moved, OnWire, Published, Stored, Worked}

@@ -3,8 +3,8 @@ use Rattle.std.proofs.Common.{◌≡◌, ℕ, ◌+◌, ◌*◌, ◌≤◌, Bool,
 use Rattle.ldc_link.specs.declared.phase.Role.TheVariants.{Responder}
 use Rattle.ldc_queue.specs.declared.end.ChannelState.TheVariants.{Up}
 use Rattle.ldc_queue.specs.Transcript.{Utterance}
-use Rattle.channel_model.specs.EndPuts.{EndsOwn, PutKind}
-use Rattle.channel_model.specs.Seeing.{Seen}
+use Rattle.channel_laws.specs.EndPuts.{EndsOwn, PutKind}
+use Rattle.channel_laws.specs.Seeing.{Seen}
 use Rattle.disk_model.specs.ServerPutting.{server_holds, server_kind, session_behind}
 use Rattle.disk_model.specs.ServerRule.{ServerRule, server_rule}
 use Rattle.disk_model.specs.ServerState.{ServerSession, ServerState, Work}

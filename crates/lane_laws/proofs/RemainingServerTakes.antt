@@ -2,7 +2,7 @@
 use Rattle.std.proofs.Common.{◌≡◌, ℕ, ◌^◌, ◌+◌, ◌-◌, ◌*◌, ◌%◌, ◌≤◌, ◌<◌, Bool, true, false, Option, Some, None, List, refl, sym, ap, ◌∙◌, arith, inl, inr}
 use Rattle.std.specs.Prelude.{◌&&◌, is_none}
 use Rattle.ldc_queue.specs.Transcript.{Utterance}
-use Rattle.channel_model.specs.Ranges.{wrapped}
+use Rattle.channel_laws.specs.Ranges.{wrapped}
 use Rattle.dring.specs.Slots.{range_length}
 use Rattle.disk_model.specs.ServerState.{ServerSession, ServerState, SlotRange, Work, opened_server}
 use Rattle.channel_laws.specs.EndCore.{holds}

@@ -5,8 +5,8 @@ use Rattle.std.specs.Prelude.{slice_get}
 use Rattle.ldc_queue.specs.declared.end.ChannelState.TheVariants.{Up}
 use Rattle.ldc_queue.specs.declared.end.End.TheVariants.{A, B}
 use Rattle.ldc_queue.specs.Wire.{Wire, taken_for}
-use Rattle.channel_model.specs.WireEvent.{Took}
-use Rattle.channel_model.specs.WireLog.{wire_moved}
+use Rattle.channel_laws.specs.WireEvent.{Took}
+use Rattle.channel_laws.specs.WireLog.{wire_moved}
 use Rattle.disk_model.specs.ClientRule as client_rules
 use Rattle.disk_model.specs.ClientState.{ClientState}
 use Rattle.disk_model.specs.DiskEvent.{OnWire}

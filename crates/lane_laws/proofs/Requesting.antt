@@ -10,8 +10,8 @@ use Rattle.disk_model.specs.ClientRule.{ClientRule, Completes, client_rule}
 use Rattle.disk_model.specs.ClientState.{ClientState, first_id, joined_client}
 use Rattle.disk_model.specs.ClientStep.{ClientCompletes, ClientPublishes, ClientSends}
 use Rattle.disk_model.specs.ClientTaking.{ClientTakes, GoesOn}
-use Rattle.channel_model.specs.EndPuts.{PutKind}
-use Rattle.channel_model.specs.Seeing.{Seen}
+use Rattle.channel_laws.specs.EndPuts.{PutKind}
+use Rattle.channel_laws.specs.Seeing.{Seen}
 use Rattle.lane_laws.proofs.ClientHearing.{took_by}
 use Rattle.lane_laws.proofs.Ruling.{client_may}
 use Rattle.lane_laws.specs.RuleFacts.{ClientMay}

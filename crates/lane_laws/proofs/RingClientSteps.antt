@@ -19,7 +19,7 @@ use Rattle.disk_model.specs.ClientStep.{published_memory}
 use Rattle.disk_model.specs.DiskEvent.{Done, Published, Works}
 use Rattle.disk_model.specs.LaneState.{LaneState}
 use Rattle.disk_model.specs.LaneStep.{WorkStep}
-use Rattle.channel_model.specs.Seeing.{seen}
+use Rattle.channel_laws.specs.Seeing.{seen}
 use Rattle.lane_laws.proofs.MemorySteps.{got_sound}
 use Rattle.lane_laws.proofs.RingClient.{frees_slot, publishes_slot}
 use Rattle.lane_laws.proofs.RingSessions.{OfClient, of_client, sizes_of}

@@ -16,7 +16,7 @@ use Rattle.cookie_copy.specs.Faults.{first_copy_fault, held, is_aligned_cookie, 
 use Rattle.cookie_copy.specs.Following.{FollowOn}
 use Rattle.cookie_copy.specs.Moved.{spots}
 use Rattle.vdisk_msg.specs.Requested.{buffer_cookies, cookie_count, ring_pages}
-use Rattle.channel_model.specs.OwnMemory.{page_cookies}
+use Rattle.channel_laws.specs.OwnMemory.{page_cookies}
 use Rattle.disk_model.specs.Offering.{own_cookies}
 
 -- a multiple of 8

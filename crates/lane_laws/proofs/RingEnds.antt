@@ -15,7 +15,7 @@ use Rattle.lane_laws.specs.WorkLog.{ClientCounts, ServerCounts, change_server}
 use Rattle.disk_model.specs.DiskEvent.{Finished, Moved, Works}
 use Rattle.disk_model.specs.LaneState.{LaneState, pages_of}
 use Rattle.disk_model.specs.LaneStep.{WorkStep, reach}
-use Rattle.channel_model.specs.Seeing.{seen}
+use Rattle.channel_laws.specs.Seeing.{seen}
 use Rattle.disk_model.specs.ServerRule as server_rules
 use Rattle.disk_model.specs.ServerState.{Ends, Gathers, Gives, Progress, ServerSession, Work}
 use Rattle.cookie_copy.specs.Reach.{Reach}

@@ -3,7 +3,7 @@ use Rattle.std.proofs.Common.{◌≡◌, ◌≢◌, ℕ, ◌+◌, ◌-◌, ◌%�
 use Rattle.std.specs.Prelude.{slice_get, slice_index, zero, suc, replicate}
 use Rattle.std.proofs.lemmas.List.{length-set}
 use Rattle.std.proofs.lemmas.Option.{slice_get_within}
-use Rattle.dring.proofs.Laps.{one_turn}
+use Rattle.dring.proofs.Laps.{one_lap}
 use Rattle.dring.specs.Slots.{OneSlot, free_state, slot_bytes}
 use Rattle.vdisk_msg.specs.declared.request.Request.{Request}
 use Rattle.lane_laws.specs.RingLog.{Free, SlotLog}
@@ -99,7 +99,7 @@ free_ids slots done (Some c) = λ slot is got. subst (SlotStands slots done c sl
 -- THE NUMBERS
 id_below : (slots done : ℕ) (c : ClientCounts) (slot id j : ℕ) → IdStands slots done c slot id → done ≤ c.base + j → j < c.published → c.base + c.published ≤ done + slots
     → slot ≡ j % slots → id - c.base ≡ j
-id_below slots done c slot id j stands since below turn is = grind (arith, one_turn)
+id_below slots done c slot id j stands since below turn is = grind (arith, one_lap)
 
 -- the id in the slot of a number is that number's
 pub id_is : (slots done : ℕ) (c : ClientCounts) (slot id j : ℕ) → IdStands slots done c slot id → done ≤ c.base + j → j < c.published → c.base + c.published ≤ done + slots

@@ -12,7 +12,7 @@ use Rattle.vdisk_msg.specs.declared.request.Request.{Request}
 use Rattle.vdisk_msg.specs.Pieces.{pieces}
 use Rattle.vdisk_msg.specs.Requested.{descriptor_of}
 use Rattle.vio_bytes.specs.Place.{put_at}
-use Rattle.channel_model.specs.WireLog.{WireLog}
+use Rattle.channel_laws.specs.WireLog.{WireLog}
 use Rattle.channel_laws.proofs.Apart.{some_same}
 use Rattle.lane_laws.specs.DiskLog.{DiskLog, after}
 use Rattle.lane_laws.specs.RingLog.{Accepted, SlotLog, fetched_at, id_at}
@@ -22,7 +22,7 @@ use Rattle.disk_model.specs.DiskEvent.{Desc, Works}
 use Rattle.disk_model.specs.LaneState.{LaneState, pages_of}
 use Rattle.disk_model.specs.LaneStep.{WorkStep, reach}
 use Rattle.disk_model.specs.Offering.{own_cookies}
-use Rattle.channel_model.specs.Seeing.{seen}
+use Rattle.channel_laws.specs.Seeing.{seen}
 use Rattle.disk_model.specs.ServerRule as server_rules
 use Rattle.disk_model.specs.ServerState.{ServerSession}
 use Rattle.disk_model.specs.ServerWork.{header_of, slot_fetched, with_word}

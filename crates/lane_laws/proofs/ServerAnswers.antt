@@ -16,8 +16,8 @@ use Rattle.vio_tag.specs.Decoding.{Decodes}
 use Rattle.vio_handshake.specs.declared.handshake.Handshake.{Handshake}
 use Rattle.vio_handshake.specs.Rules.{Faults, Goes, GoesOpen, HandshakeTake, handshake_take, sid_fault}
 use Rattle.channel_laws.specs.EndStep.{IsOfSession, IsOwn}
-use Rattle.channel_model.specs.EndPuts.{handshake_risen}
-use Rattle.channel_model.specs.Ranges.{is_other}
+use Rattle.channel_laws.specs.EndPuts.{handshake_risen}
+use Rattle.channel_laws.specs.Ranges.{is_other}
 use Rattle.disk_model.specs.ServerState.{ServerSession, ServerState, SlotRange, opened_server}
 use Rattle.disk_model.specs.ServerTaking.{GoesOn, HearsLink, HearsWhole, Resets, ServerTake, ServerTakes, asked, by_handshake, hears_message, in_session, place_of, reads, takes_info}
 use Rattle.lane_laws.proofs.ClientAnswers.{HandshakesTo, is_the}

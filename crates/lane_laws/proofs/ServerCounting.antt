@@ -7,13 +7,13 @@ use Rattle.ldc_queue.specs.Transcript.{Heard as Heard_, Utterance}
 use Rattle.vio_handshake.specs.declared.handshake.Handshake.{Handshake}
 use Rattle.vio_handshake.specs.declared.handshake.Phase.{Phase}
 use Rattle.vio_handshake.specs.declared.handshake.Phase.TheVariants.{Open}
-use Rattle.channel_model.specs.Sayings.{half_heard, half_said, heard}
+use Rattle.channel_laws.specs.Sayings.{half_heard, half_said, heard}
 use Rattle.lane_laws.specs.Agreement.{ServerAgrees, WorkAgrees}
-use Rattle.channel_model.specs.Messages.{range_ended}
+use Rattle.channel_laws.specs.Messages.{range_ended}
 use Rattle.lane_laws.specs.WorkLog.{ServerCounts, change_server, length_in, opened_counts}
-use Rattle.channel_model.specs.EndPuts.{handshake_risen}
+use Rattle.channel_laws.specs.EndPuts.{handshake_risen}
 use Rattle.disk_model.specs.LaneState.{Shape}
-use Rattle.channel_model.specs.Ranges.{wrapped}
+use Rattle.channel_laws.specs.Ranges.{wrapped}
 use Rattle.disk_model.specs.ServerState.{ServerSession, ServerState, Work, joined_server, restarted_server}
 use Rattle.channel_laws.proofs.Apart.{true_is_false}
 use Rattle.channel_laws.specs.Grounds.{has_named}

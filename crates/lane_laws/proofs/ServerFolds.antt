@@ -9,10 +9,10 @@ use Rattle.vio_tag.specs.declared.message.MsgBody.TheVariants.{DringData}
 use Rattle.vio_tag.specs.Spelling.{SpellsBody, envelope_code}
 use Rattle.lane_laws.proofs.Speaking.{server_holds_owed}
 use Rattle.lane_laws.specs.EndLog.{answered_by, asked_by, range_in_work, range_of}
-use Rattle.channel_model.specs.EndPuts.{ComesUp, EndsOwn, EndsHandshake, Goes, PutKind}
-use Rattle.channel_model.specs.Messages.{ended_by, is_range, range_if, range_in}
-use Rattle.channel_model.specs.Sayings.{half_heard, half_said}
-use Rattle.channel_model.specs.Seeing.{Seen}
+use Rattle.channel_laws.specs.EndPuts.{ComesUp, EndsOwn, EndsHandshake, Goes, PutKind}
+use Rattle.channel_laws.specs.Messages.{ended_by, is_range, range_if, range_in}
+use Rattle.channel_laws.specs.Sayings.{half_heard, half_said}
+use Rattle.channel_laws.specs.Seeing.{Seen}
 use Rattle.disk_model.specs.ServerPutting.{answered}
 use Rattle.disk_model.specs.ServerRule.{Fetches}
 use Rattle.disk_model.specs.ServerState.{ServerSession, ServerState, SlotRange}

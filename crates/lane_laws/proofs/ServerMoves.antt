@@ -20,10 +20,10 @@ use Rattle.vio_tag.specs.Decoding.{Decodes}
 use Rattle.vio_tag.specs.Spelling.{canonical}
 use Rattle.vio_handshake.specs.declared.handshake.Handshake.{Handshake}
 use Rattle.vio_handshake.specs.Rules.{HandshakeTake, handshake_take}
-use Rattle.channel_model.specs.EndPuts.{PutKind, ending, kind_in, put_opens, handshake_behind, handshake_risen}
+use Rattle.channel_laws.specs.EndPuts.{PutKind, ending, kind_in, put_opens, handshake_behind, handshake_risen}
 use Rattle.disk_model.specs.Offering.{server_offer}
-use Rattle.channel_model.specs.Ranges.{wrapped}
-use Rattle.channel_model.specs.Seeing.{Seen}
+use Rattle.channel_laws.specs.Ranges.{wrapped}
+use Rattle.channel_laws.specs.Seeing.{Seen}
 use Rattle.disk_model.specs.ServerPutting.{server_holds, server_kind, server_put, session_behind}
 use Rattle.disk_model.specs.ServerRule.{Fetches, Puts, Says, ServerRule, Serves, Takes, answer, server_rule}
 use Rattle.disk_model.specs.ServerState.{ServerSession, ServerState, SlotRange, Work, joined_server, restarted_server}

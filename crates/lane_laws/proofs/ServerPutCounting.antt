@@ -8,12 +8,12 @@ use Rattle.ldc_packet.specs.declared.packet.Subtype.TheVariants.{Ack}
 use Rattle.ldc_queue.specs.Transcript.{Said, Utterance}
 use Rattle.vio_tag.specs.declared.message.Message.{Message}
 use Rattle.vio_tag.specs.Spelling.{canonical}
-use Rattle.channel_model.specs.Sayings.{half_said, heard, said}
+use Rattle.channel_laws.specs.Sayings.{half_said, heard, said}
 use Rattle.lane_laws.proofs.Speaking.{server_holds_owed}
 use Rattle.lane_laws.specs.Agreement.{ServerAgrees, ServerCountsAgree, WorkAgrees}
-use Rattle.channel_model.specs.Messages.{range_ended, range_in}
+use Rattle.channel_laws.specs.Messages.{range_ended, range_in}
 use Rattle.lane_laws.specs.WorkLog.{ServerCounts, change_server, length_in, one_in}
-use Rattle.channel_model.specs.EndPuts.{ComesUp, EndsOwn, EndsHandshake, Goes, PutKind, handshake_behind}
+use Rattle.channel_laws.specs.EndPuts.{ComesUp, EndsOwn, EndsHandshake, Goes, PutKind, handshake_behind}
 use Rattle.disk_model.specs.LaneState.{Shape}
 use Rattle.dring.specs.Slots.{range_length}
 use Rattle.disk_model.specs.ServerPutting.{answered, server_holds, session_behind}

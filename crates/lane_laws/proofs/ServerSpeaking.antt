@@ -1,7 +1,7 @@
 -- A server that gets a message to put is up, and owes one answer to a range at most.
 use Rattle.std.proofs.Common.{◌≡◌, ◌≤◌, Option, Some, None, arith}
 use Rattle.ldc_queue.specs.declared.end.ChannelState.TheVariants.{Up}
-use Rattle.channel_model.specs.Seeing.{Seen}
+use Rattle.channel_laws.specs.Seeing.{Seen}
 use Rattle.disk_model.specs.ServerPutting.{server_holds}
 use Rattle.disk_model.specs.ServerRule.{ServerRule}
 use Rattle.disk_model.specs.ServerState.{ServerSession, ServerState, SlotRange}

@@ -8,10 +8,10 @@ use Rattle.ldc_queue.specs.Transcript.{Heard as Heard_, Utterance}
 use Rattle.vio_tag.specs.declared.message.Message.{Message}
 use Rattle.vio_handshake.specs.declared.handshake.Handshake.{Handshake}
 use Rattle.vio_handshake.specs.State.{handshake_up}
-use Rattle.channel_model.specs.EndPuts.{handshake_risen}
+use Rattle.channel_laws.specs.EndPuts.{handshake_risen}
 use Rattle.disk_model.specs.ServerState.{ServerState}
 use Rattle.disk_model.specs.ServerTaking.{GoesOn, Resets, ServerTake, ServerTakes, asked}
-use Rattle.channel_model.specs.Sayings.{heard}
+use Rattle.channel_laws.specs.Sayings.{heard}
 use Rattle.lane_laws.proofs.ClientTaken.{HearsMessage, took_to, was_up}
 use Rattle.lane_laws.proofs.ServerAnswers.{Answers, Asks, GoesBy, comes_to, goes_by, opened_or}
 use Rattle.channel_laws.proofs.EndStanding.{heard_leaves}

@@ -13,7 +13,7 @@ use Rattle.vdisk_msg.specs.Pieces.{Finishes, Piece, Stores, checked_pieces, piec
 use Rattle.lane_laws.specs.Agreement.{owed_of}
 use Rattle.lane_laws.specs.WorkLog.{ServerCounts, change_server, moved_rest, rest_of, stored_rest}
 use Rattle.disk_model.specs.LaneState.{Shape}
-use Rattle.channel_model.specs.Seeing.{Seen}
+use Rattle.channel_laws.specs.Seeing.{Seen}
 use Rattle.disk_model.specs.ServerState.{Ends, Flushes, Gathers, Gives, Progress, Reads, ServerState, Work, Writes}
 use Rattle.disk_model.specs.ServerStep.{ServerMoves, ServerStores}
 use Rattle.disk_model.specs.ServerWork as server_work

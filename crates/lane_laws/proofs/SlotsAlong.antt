@@ -7,8 +7,8 @@ use Rattle.runs.specs.Run.{Run, run_push}
 use Rattle.dring.specs.Slots.{slot_bytes}
 use Rattle.ldc_queue.specs.declared.end.ChannelState.TheVariants.{Up}
 use Rattle.ldc_queue.specs.declared.end.End.TheVariants.{B}
-use Rattle.channel_model.specs.WireEvent.{Sent, Took}
-use Rattle.channel_model.specs.WireLog.{WireLog}
+use Rattle.channel_laws.specs.WireEvent.{Sent, Took}
+use Rattle.channel_laws.specs.WireLog.{WireLog}
 use Rattle.lane_laws.specs.Agreement.{ClientAgrees, ServerAgrees}
 use Rattle.disk_model.specs.ClientState.{ClientSession}
 use Rattle.lane_laws.specs.DiskLog.{DiskLog, after, nothing_yet}

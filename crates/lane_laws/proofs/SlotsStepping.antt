@@ -4,10 +4,10 @@ use Rattle.ldc_queue.specs.declared.end.ChannelState.{ChannelState}
 use Rattle.ldc_queue.specs.declared.end.ChannelState.TheVariants.{Up}
 use Rattle.ldc_queue.specs.declared.end.End.TheVariants.{A, B}
 use Rattle.ldc_queue.specs.Wire.{closed, Wire, configured, peer_behind, upset}
-use Rattle.channel_model.specs.WireEvent.{Injected, Joined, Lost, Reset, Sent, Took, WireEvent}
+use Rattle.channel_laws.specs.WireEvent.{Injected, Joined, Lost, Reset, Sent, Took, WireEvent}
 use Rattle.lane_laws.specs.Agreement.{ServerAgrees, WorkAgrees}
 use Rattle.lane_laws.specs.DiskLog.{DiskLog, after}
-use Rattle.channel_model.specs.Messages.{range_ended}
+use Rattle.channel_laws.specs.Messages.{range_ended}
 use Rattle.lane_laws.specs.RingLog.{Accepted as IsAccepted, Done as IsDone, SlotLog, fetched_at, finished_at, freed_at, id_at, published_at}
 use Rattle.lane_laws.specs.WorkLaws.{IfServer}
 use Rattle.lane_laws.specs.WorkLog.{ClientCounts, ServerCounts, WorkLog, change_client, change_server, length_in, one_in}
@@ -15,8 +15,8 @@ use Rattle.disk_model.specs.ClientRule as client_rules
 use Rattle.disk_model.specs.DiskEvent.{Accepted, Asks, Desc, DiskEvent, Done, Finished, Misplaced, Moved, OnWire, Published, Stopped, Stored, Switches, Worked, Works}
 use Rattle.disk_model.specs.LaneState.{LaneState}
 use Rattle.disk_model.specs.LaneStep.{LaneStep, WorkStep}
-use Rattle.channel_model.specs.Sayings.{half_heard, half_said}
-use Rattle.channel_model.specs.Seeing.{seen}
+use Rattle.channel_laws.specs.Sayings.{half_heard, half_said}
+use Rattle.channel_laws.specs.Seeing.{seen}
 use Rattle.disk_model.specs.ServerRule as server_rules
 use Rattle.disk_model.specs.ServerState.{ServerSession, Work}
 use Rattle.lane_laws.proofs.RingClientSteps.{completes_slot, publishing}

@@ -3,13 +3,13 @@ use Rattle.std.proofs.Common.{◌≡◌, ℕ, Bool, None, ◌-◌, List, [], ◌
 use Rattle.runs.specs.Lawful.{Lawful, run_lawful}
 use Rattle.runs.specs.Run.{Run}
 use Rattle.ldc_queue.specs.declared.end.End.TheVariants.{A}
-use Rattle.channel_model.specs.WireLog.{WireLog}
+use Rattle.channel_laws.specs.WireLog.{WireLog}
 use Rattle.lane_laws.specs.DiskLog.{DiskLog, after, after_wire, nothing_yet}
 use Rattle.lane_laws.specs.RequestLaws.{AdmissionAt, Admits, OnceAt, ServerRunsAt}
 use Rattle.lane_laws.specs.WorkLog.{WorkLog}
 use Rattle.disk_model.specs.ClientState.{ClientState}
 use Rattle.disk_model.specs.ClientStep.{ClientAdmits, ClientStep}
-use Rattle.channel_model.specs.WireEvent.{Reset}
+use Rattle.channel_laws.specs.WireEvent.{Reset}
 use Rattle.disk_model.specs.DiskEvent.{Accepted, Admitted, Asks, DiskEvent, Done, Full, OnWire, Published, Refused, Works}
 use Rattle.disk_model.specs.LaneState.{IsShape, LaneState, Shape, fresh}
 use Rattle.disk_model.specs.LaneStep.{LaneStep}
@@ -135,4 +135,4 @@ pub once_lawful : (shape : Shape) (events : List DiskEvent) (s : LaneState) → 
 once_lawful shape events s sound run = lawful_by MayOfRequests OnceAt (λ l e may. may.once) (nothing_yet shape) events (requests_lawful shape events s sound run)
 
 pub turns_lawful : (shape : Shape) (events : List DiskEvent) (s : LaneState) → IsShape shape → Run LaneStep (fresh shape) events s → Lawful ServerRunsAt after (nothing_yet shape) events
-turns_lawful shape events s sound run = lawful_by MayOfRequests ServerRunsAt (λ l e may. may.turns) (nothing_yet shape) events (requests_lawful shape events s sound run)
+turns_lawful shape events s sound run = lawful_by MayOfRequests ServerRunsAt (λ l e may. may.utterances) (nothing_yet shape) events (requests_lawful shape events s sound run)

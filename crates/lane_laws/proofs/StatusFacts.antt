@@ -12,23 +12,23 @@ use Rattle.ldc_queue.specs.OneStream.{IsFront}
 use Rattle.ldc_queue.specs.Transcript.{Heard as Heard_, Said, Utterance}
 use Rattle.vio_handshake.proofs.Places.{AllSaid, Deal, Place}
 use Rattle.vio_handshake.specs.declared.handshake.Phase.TheVariants.{Open}
-use Rattle.channel_model.specs.Sayings.{half_heard, half_said, heard, said}
-use Rattle.channel_model.specs.TranscriptLog.{TranscriptLog}
-use Rattle.channel_model.specs.WireEvent.{Sent, Took}
-use Rattle.channel_model.specs.WireLog.{WireLog}
+use Rattle.channel_laws.specs.Sayings.{half_heard, half_said, heard, said}
+use Rattle.channel_laws.specs.TranscriptLog.{TranscriptLog}
+use Rattle.channel_laws.specs.WireEvent.{Sent, Took}
+use Rattle.channel_laws.specs.WireLog.{WireLog}
 use Rattle.lane_laws.specs.Agreement.{ClientAgrees}
 use Rattle.lane_laws.specs.DiskLog.{DiskLog, after, nothing_yet}
 use Rattle.lane_laws.specs.RingLog.{Done}
 use Rattle.lane_laws.specs.WorkLaws.{IfServer}
-use Rattle.channel_model.specs.Messages.{opening_sid}
+use Rattle.channel_laws.specs.Messages.{opening_sid}
 use Rattle.lane_laws.specs.WorkLog.{ClientCounts, ServerCounts}
 use Rattle.disk_model.specs.ClientPutting.{client_kind}
 use Rattle.disk_model.specs.ClientState.{ClientSession, ClientState}
 use Rattle.disk_model.specs.DiskEvent.{DiskEvent, OnWire}
-use Rattle.channel_model.specs.EndPuts.{PutKind, put_opens}
+use Rattle.channel_laws.specs.EndPuts.{PutKind, put_opens}
 use Rattle.disk_model.specs.LaneState.{IsShape, LaneState, Shape, fresh}
 use Rattle.disk_model.specs.LaneStep.{LaneStep}
-use Rattle.channel_model.specs.Seeing.{seen}
+use Rattle.channel_laws.specs.Seeing.{seen}
 use Rattle.disk_model.specs.ServerState.{ServerState}
 use Rattle.channel_laws.proofs.Apart.{true_is_false}
 use Rattle.channel_laws.proofs.EndStanding.{open_up}

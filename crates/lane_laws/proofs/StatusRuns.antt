@@ -6,17 +6,17 @@ use Rattle.runs.specs.Lawful.{Lawful, log_append, log_of, run_lawful}
 use Rattle.runs.specs.Run.{Run, run_push}
 use Rattle.ldc_queue.specs.declared.end.End.TheVariants.{A, B}
 use Rattle.ldc_queue.specs.Transcript.{Said}
-use Rattle.channel_model.specs.Sayings.{half_heard, said}
-use Rattle.channel_model.specs.WireEvent.{Injected, Joined, Lost, Reset, Sent, Took}
+use Rattle.channel_laws.specs.Sayings.{half_heard, said}
+use Rattle.channel_laws.specs.WireEvent.{Injected, Joined, Lost, Reset, Sent, Took}
 use Rattle.lane_laws.specs.DiskLog.{DiskLog, after, nothing_yet}
 use Rattle.lane_laws.specs.RingLog.{Done as IsDone, Free, SlotLog, finished_at, id_at}
 use Rattle.lane_laws.specs.WorkLaws.{IfClient, Unforged, WorkUnforgedAt}
-use Rattle.channel_model.specs.Messages.{opening_sid}
+use Rattle.channel_laws.specs.Messages.{opening_sid}
 use Rattle.lane_laws.specs.WorkLog.{ClientCounts, Opened, ServerCounts, change_server}
 use Rattle.disk_model.specs.DiskEvent.{Accepted, Asks, Desc, DiskEvent, Done, Finished, Misplaced, Moved, OnWire, Published, Stopped, Stored, Switches, Worked, Works}
 use Rattle.disk_model.specs.LaneState.{IsShape, LaneState, Shape, fresh}
 use Rattle.disk_model.specs.LaneStep.{LaneStep, WorkStep}
-use Rattle.channel_model.specs.Seeing.{seen}
+use Rattle.channel_laws.specs.Seeing.{seen}
 use Rattle.disk_model.specs.ServerRule as server_rules
 use Rattle.lane_laws.proofs.RingAlong.{run_fetches, run_status}
 use Rattle.lane_laws.proofs.RingRuns.{before}

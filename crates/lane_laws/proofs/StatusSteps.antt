@@ -5,8 +5,8 @@ use Rattle.std.proofs.lemmas.Bool.{eq-eqb}
 use Rattle.ldc_queue.specs.Fragments.{Fragment, fragment_at, is_part}
 use Rattle.ldc_queue.specs.OneStream.{IsFront}
 use Rattle.ldc_queue.specs.Transcript.{Heard as Heard_, Said, Utterance}
-use Rattle.channel_model.specs.Sayings.{half_heard, half_said, heard, said, whole_by, whole_past}
-use Rattle.channel_model.specs.Messages.{whole_with, opening_sid, sid_in}
+use Rattle.channel_laws.specs.Sayings.{half_heard, half_said, heard, said, whole_by, whole_past}
+use Rattle.channel_laws.specs.Messages.{whole_with, opening_sid, sid_in}
 use Rattle.channel_laws.proofs.Apart.{some_same}
 use Rattle.lane_laws.specs.RingLog.{Done, Free, Ready, SlotLog, fetched_at, freed_at, published_at}
 use Rattle.lane_laws.specs.WorkLaws.{IfClient, last_of}

@@ -19,7 +19,7 @@ use Rattle.lane_laws.specs.WorkLog.{ClientCounts}
 use Rattle.disk_model.specs.DiskEvent.{Desc, Stored as StoredUnit, Works}
 use Rattle.disk_model.specs.LaneState.{LaneState, NearCounts, pages_of, risen}
 use Rattle.disk_model.specs.LaneStep.{ServerWorks, WorkStep, reach, stored_blocks}
-use Rattle.channel_model.specs.Seeing.{seen}
+use Rattle.channel_laws.specs.Seeing.{seen}
 use Rattle.disk_model.specs.ServerRule as server_rules
 use Rattle.disk_model.specs.ServerState.{Ends, Flushes, Gives, Progress, Reads, ServerState, Work, Writes}
 use Rattle.disk_model.specs.ServerWork.{StoresIn, first_progress, gathers_next, header_of, unit_length, with_word}

@@ -14,12 +14,12 @@ use Rattle.vdisk_msg.specs.declared.desc.DescFault.{DescFault}
 use Rattle.vdisk_msg.specs.declared.desc.DiskDesc.{DiskDesc}
 use Rattle.vdisk_msg.specs.Descriptor as slot_says
 use Rattle.vdisk_msg.specs.Pieces.{unit_count}
-use Rattle.channel_model.specs.WireLog.{WireLog}
+use Rattle.channel_laws.specs.WireLog.{WireLog}
 use Rattle.lane_laws.specs.DiskLog.{DiskLog}
 use Rattle.disk_model.specs.DiskEvent.{Desc, Done, Finished, Misplaced, Moved, Published, Stored, Worked}
 use Rattle.disk_model.specs.LaneState.{LaneState, risen}
 use Rattle.disk_model.specs.LaneStep.{WorkStep, reach, stored_blocks}
-use Rattle.channel_model.specs.Seeing.{seen}
+use Rattle.channel_laws.specs.Seeing.{seen}
 use Rattle.disk_model.specs.ServerRule as server_rules
 use Rattle.disk_model.specs.ServerState.{Ends, Flushes, Gathers, Gives, Progress, Reads, ServerState, Work, Writes}
 use Rattle.cookie_copy.specs.Reach.{Reach}

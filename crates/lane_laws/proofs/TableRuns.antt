@@ -9,9 +9,9 @@ use Rattle.ldc_queue.specs.declared.end.End.{End}
 use Rattle.ldc_queue.specs.declared.end.End.TheVariants.{A, B}
 use Rattle.ldc_queue.specs.Wire.{waiting_for}
 use Rattle.vio_tag.specs.declared.cause.Cause.{Cause}
-use Rattle.channel_model.specs.WireAt.{IsUp, MayCarry, MayReset, WireAnswersAt, WireTableAt}
-use Rattle.channel_model.specs.WireEvent.{Blocked, Declines, Giver, Idle, Joined, Reset, Sent, Took, WireEvent}
-use Rattle.channel_model.specs.WireLog.{WireLog}
+use Rattle.channel_laws.specs.WireAt.{IsUp, MayCarry, MayReset, WireAnswersAt, WireTableAt}
+use Rattle.channel_laws.specs.WireEvent.{Blocked, Declines, Giver, Idle, Joined, Reset, Sent, Took, WireEvent}
+use Rattle.channel_laws.specs.WireLog.{WireLog}
 use Rattle.lane_laws.specs.DiskLog.{DiskLog, after, after_wire, nothing_yet}
 use Rattle.disk_model.specs.ClientRule as client_rules
 use Rattle.disk_model.specs.ClientStep.{ClientFails, ClientStep}

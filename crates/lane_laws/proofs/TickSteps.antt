@@ -5,8 +5,8 @@ use Rattle.ldc_queue.specs.declared.end.ChannelState.{ChannelState}
 use Rattle.ldc_queue.specs.declared.end.End.{End}
 use Rattle.ldc_queue.specs.declared.end.End.TheVariants.{A, B}
 use Rattle.vio_tag.specs.declared.cause.Cause.{Cause}
-use Rattle.channel_model.specs.WireEvent.{ByTick, Giver, Reset, giver}
-use Rattle.channel_model.specs.WireLog.{lossy_behind}
+use Rattle.channel_laws.specs.WireEvent.{ByTick, Giver, Reset, giver}
+use Rattle.channel_laws.specs.WireLog.{lossy_behind}
 use Rattle.disk_model.specs.ClientState.{is_finished}
 use Rattle.disk_model.specs.DiskEvent.{DiskEvent, OnWire}
 use Rattle.disk_model.specs.LaneState.{IsShape, LaneState, Shape, fresh}

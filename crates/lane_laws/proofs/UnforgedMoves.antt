@@ -16,7 +16,7 @@ use Rattle.lane_laws.specs.DiskLog.{after, nothing_yet}
 use Rattle.disk_model.specs.DiskEvent.{DiskEvent, Moved, Works}
 use Rattle.disk_model.specs.LaneState.{IsShape, LaneState, Shape, fresh, pages_of}
 use Rattle.disk_model.specs.LaneStep.{LaneStep, reach}
-use Rattle.channel_model.specs.Seeing.{seen}
+use Rattle.channel_laws.specs.Seeing.{seen}
 use Rattle.disk_model.specs.ServerRule as server_rules
 use Rattle.disk_model.specs.ServerState.{Gathers, Gives, Progress, Work}
 use Rattle.cookie_copy.specs.Reach.{Reach}

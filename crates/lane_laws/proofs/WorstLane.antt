@@ -7,8 +7,8 @@ use Rattle.ldc_packet.specs.declared.packet.Body.TheVariants.{Vers}
 use Rattle.ldc_packet.specs.declared.packet.Subtype.TheVariants.{Info}
 use Rattle.ldc_packet.specs.Spelling.{canonical}
 use Rattle.ldc_queue.specs.declared.end.End.TheVariants.{A, B}
-use Rattle.channel_model.specs.WireEvent.{Joined, Lost, Sent}
-use Rattle.channel_model.specs.WireLog.{wire_moved}
+use Rattle.channel_laws.specs.WireEvent.{Joined, Lost, Sent}
+use Rattle.channel_laws.specs.WireLog.{wire_moved}
 use Rattle.disk_model.specs.ClientPutting.{client_put}
 use Rattle.disk_model.specs.ClientState.{joined_client}
 use Rattle.disk_model.specs.DiskEvent.{DiskEvent, OnWire}

@@ -13,8 +13,8 @@ use Rattle.vdisk_msg.specs.declared.request.Request.{Request}
 use Rattle.vdisk_msg.specs.Descriptor as slot_says
 use Rattle.vdisk_msg.specs.Pieces.{Finishes, Moves, Piece, Stores, read_pieces, unit_count, write_pieces}
 use Rattle.vdisk_msg.specs.Requested as asks_for
-use Rattle.channel_model.specs.Sayings.{count_heard, count_said, half_heard, half_said}
-use Rattle.channel_model.specs.WireAt.{counts_next}
+use Rattle.channel_laws.specs.Sayings.{count_heard, count_said, half_heard, half_said}
+use Rattle.channel_laws.specs.WireAt.{counts_next}
 use Rattle.channel_laws.specs.Blockage.{Blockage, is_stuck_with_own}
 use Rattle.disk_model.specs.ClientPutting.{is_announcing}
 use Rattle.disk_model.specs.ClientRule as client_rules
@@ -23,26 +23,26 @@ use Rattle.channel_laws.specs.EndFold.{handshake_of, link_phase}
 use Rattle.lane_laws.specs.EndLog.{client_left, infos_heard, range_in_work, server_left}
 use Rattle.disk_model.specs.LaneState.{LaneState, Shape, pages_of}
 use Rattle.disk_model.specs.Offering.{client_offer, server_offer}
-use Rattle.channel_model.specs.Ranges.{wrapped}
-use Rattle.channel_model.specs.Seeing.{seen}
+use Rattle.channel_laws.specs.Ranges.{wrapped}
+use Rattle.channel_laws.specs.Seeing.{seen}
 use Rattle.disk_model.specs.ServerRule as server_rules
 use Rattle.disk_model.specs.ServerState.{Ends, Flushes, Gathers, Gives, Progress, Reads, ServerSession, ServerState, Work, Writes}
 use Rattle.lane_laws.specs.DiskLog.{DiskLog}
-use Rattle.channel_model.specs.TranscriptLog.{TranscriptLog}
+use Rattle.channel_laws.specs.TranscriptLog.{TranscriptLog}
 use Rattle.lane_laws.specs.NearLog.{NearLog}
 use Rattle.lane_laws.specs.RingLog.{Accepted, Done, Free, Ready, SlotLog, Zeros}
 use Rattle.lane_laws.specs.WorkLog.{ClientCounts, ServerCounts, WorkLog}
 use Rattle.lane_laws.specs.WorkNext.{bytes_held, count_held, next_by, without_bytes}
-use Rattle.channel_model.specs.OwnMemory.{own_table}
+use Rattle.channel_laws.specs.OwnMemory.{own_table}
 
 -- A LINK counts what was said and heard, and holds what came of a message that isn't whole; part of its own message is put where part of
 -- one was said; before it is up it has heard nothing and holds nothing; the version that it offers in place of a refused one is 1.0 or 0.0.
-pub record LinkAgrees (k : LinkState) (turns : List Utterance) : Type 0 where
-  pub put : k.put_next ≡ counts_next (count_said turns)
-  pub take : k.take_next ≡ counts_next (count_heard turns)
-  pub heard : k.half_heard ≡ half_heard turns
+pub record LinkAgrees (k : LinkState) (utterances : List Utterance) : Type 0 where
+  pub put : k.put_next ≡ counts_next (count_said utterances)
+  pub take : k.take_next ≡ counts_next (count_heard utterances)
+  pub heard : k.half_heard ≡ half_heard utterances
   pub seen : k.whole ≡ None
-  pub begun : k.begun ≡ not (is_empty (half_said turns))
+  pub begun : k.begun ≡ not (is_empty (half_said utterances))
   pub nothing_below : is_up k ≡ false → k.to_send ≡ []
   pub offers : OffersLittle k.phase
 
@@ -146,8 +146,8 @@ pub record ClientEndAgrees (c : ClientState) (shape : Shape) (transcript : Trans
   pub left : c.link.to_send ≡ client_left c c.session (half_said transcript.client) blockage
 
 abbrev pub RangeAgrees : Option ServerSession → List Utterance → Type 0
-RangeAgrees None turns = ⊤
-RangeAgrees (Some s) turns = (s.seq ≡ wrapped (infos_heard turns + 1)) × (s.range ≡ range_in_work turns)
+RangeAgrees None utterances = ⊤
+RangeAgrees (Some s) utterances = (s.seq ≡ wrapped (infos_heard utterances + 1)) × (s.range ≡ range_in_work utterances)
 
 -- and the server has its region of the store
 pub record ServerEndAgrees (v : ServerState) (shape : Shape) (transcript : TranscriptLog) (blockage : Blockage) : Type 0 where

@@ -4,15 +4,15 @@ use Rattle.std.specs.Prelude.{◌≡◌, ℕ, ◌+◌, ◌%◌, ◌^◌, ◌<◌
 use Rattle.ldc_queue.specs.Transcript.{Utterance}
 use Rattle.vdisk_msg.specs.Pieces.{unit_count}
 use Rattle.vio_tag.specs.Spelling.{canonical}
-use Rattle.channel_model.specs.Sayings.{half_said, heard, said}
+use Rattle.channel_laws.specs.Sayings.{half_said, heard, said}
 use Rattle.lane_laws.specs.Agreement.{ClientAgrees, ServerAgrees}
 use Rattle.lane_laws.specs.DiskLog.{DiskLog}
-use Rattle.channel_model.specs.Messages.{range_in}
+use Rattle.channel_laws.specs.Messages.{range_in}
 use Rattle.lane_laws.specs.WorkLog.{ClientCounts, ServerCounts, length_in, one_in}
 use Rattle.disk_model.specs.ClientPutting.{announcement}
 use Rattle.disk_model.specs.ClientState.{ClientSession, ClientState}
 use Rattle.disk_model.specs.LaneState.{LaneState, Shape}
-use Rattle.channel_model.specs.Ranges.{wrapped}
+use Rattle.channel_laws.specs.Ranges.{wrapped}
 use Rattle.dring.specs.Slots.{range_length}
 use Rattle.disk_model.specs.ServerRule.{answer}
 use Rattle.disk_model.specs.ServerState.{Gathers, Gives, Progress, Reads, ServerSession, ServerState, SlotRange, Work, Writes}
@@ -34,8 +34,8 @@ one_where false = 0
 
 -- THE CLIENT: where it announces, what was put of a message and what is left of it are the INFO that does
 abbrev pub ClientHolds : ClientState → List Utterance → Type 0
-ClientHolds c turns =
-    (session : ClientSession) → c.session ≡ Some session → session.announcing ≡ true → half_said turns ++ c.link.to_send ≡ canonical (announcement c session)
+ClientHolds c utterances =
+    (session : ClientSession) → c.session ≡ Some session → session.announcing ≡ true → half_said utterances ++ c.link.to_send ≡ canonical (announcement c session)
 
 abbrev pub announced_of : Option ClientSession → ℕ
 announced_of None = 0
@@ -50,12 +50,12 @@ acked_of None = 0
 acked_of (Some session) = session.acked
 
 -- its session counts what was said and heard, as the log does
-pub record ClientCounted (shape : Shape) (c : ClientState) (turns : List Utterance) (done : ℕ) (k : Option ClientCounts) : Type 0 where
+pub record ClientCounted (shape : Shape) (c : ClientState) (utterances : List Utterance) (done : ℕ) (k : Option ClientCounts) : Type 0 where
   pub slots : c.slots ≡ shape.slots
-  pub holds : ClientHolds c turns
-  pub announced : announced_of c.session ≡ range_sum shape.slots 1 (said turns)
-  pub infos : infos_of c.session ≡ range_count 1 (said turns)
-  pub acked : acked_of c.session ≡ range_sum shape.slots 2 (heard turns)
+  pub holds : ClientHolds c utterances
+  pub announced : announced_of c.session ≡ range_sum shape.slots 1 (said utterances)
+  pub infos : infos_of c.session ≡ range_count 1 (said utterances)
+  pub acked : acked_of c.session ≡ range_sum shape.slots 2 (heard utterances)
   pub agrees : ClientAgrees c.session done k
 
 -- THE SERVER: where its handshake owes nothing, they are the answer to its range, whose descriptors all are finished
@@ -68,7 +68,7 @@ pub record HoldsAnswer (v : ServerState) (bytes : List ℕ) : Type 0 where
   pub bytes_are : bytes ≡ canonical (answer v range)
 
 abbrev pub ServerHolds : ServerState → List Utterance → Type 0
-ServerHolds v turns = v.handshake.owed ≡ None → 1 ≤ length v.link.to_send → HoldsAnswer v (half_said turns ++ v.link.to_send)
+ServerHolds v utterances = v.handshake.owed ≡ None → 1 ≤ length v.link.to_send → HoldsAnswer v (half_said utterances ++ v.link.to_send)
 
 -- without a range all that was asked for is answered; a range is what isn't, begins where so many slots went before, and has a number of 8
 -- bytes; each range that was heard before it has its answer
@@ -78,24 +78,24 @@ RangeStands slots (Some range) d =
     (d.asked ≡ d.answered + range_length slots range.start range.end) × (range.start < slots) × (range.end < slots) × (range.start ≡ wrapped d.answered % slots)
     × (range.seq < 2 ^ 64)
 
-pub record InServerOrder (slots : ℕ) (session : ServerSession) (d : ServerCounts) (turns : List Utterance) : Type 0 where
-  pub asked : d.asked ≡ range_sum slots 1 (heard turns)
-  pub answered : d.answered ≡ range_sum slots 2 (said turns)
+pub record InServerOrder (slots : ℕ) (session : ServerSession) (d : ServerCounts) (utterances : List Utterance) : Type 0 where
+  pub asked : d.asked ≡ range_sum slots 1 (heard utterances)
+  pub answered : d.answered ≡ range_sum slots 2 (said utterances)
   pub finished : d.answered ≤ d.finished
   pub descs : d.descs ≤ d.asked
   pub range : RangeStands slots session.range d
-  pub seq : session.seq ≡ wrapped (range_count 1 (heard turns) + 1)
-  pub replies : range_count 1 (heard turns) ≤ range_count 2 (said turns) + one_range session.range
+  pub seq : session.seq ≡ wrapped (range_count 1 (heard utterances) + 1)
+  pub replies : range_count 1 (heard utterances) ≤ range_count 2 (said utterances) + one_range session.range
 
-pub record NothingAsked (slots : ℕ) (turns : List Utterance) : Type 0 where
-  pub asked : range_sum slots 1 (heard turns) ≡ 0
-  pub answered : range_sum slots 2 (said turns) ≡ 0
-  pub infos : range_count 1 (heard turns) ≡ 0
+pub record NothingAsked (slots : ℕ) (utterances : List Utterance) : Type 0 where
+  pub asked : range_sum slots 1 (heard utterances) ≡ 0
+  pub answered : range_sum slots 2 (said utterances) ≡ 0
+  pub infos : range_count 1 (heard utterances) ≡ 0
 
 abbrev pub ServerOrder : ℕ → Option ServerSession → Option ServerCounts → List Utterance → Type 0
-ServerOrder slots None d turns = NothingAsked slots turns
-ServerOrder slots (Some session) None turns = ⊥
-ServerOrder slots (Some session) (Some d) turns = InServerOrder slots session d turns
+ServerOrder slots None d utterances = NothingAsked slots utterances
+ServerOrder slots (Some session) None utterances = ⊥
+ServerOrder slots (Some session) (Some d) utterances = InServerOrder slots session d utterances
 
 -- the unit in work is one of the descriptor's
 abbrev pub UnitIn : ℕ → Progress → Type 0
@@ -109,11 +109,11 @@ abbrev pub UnitFits : Option Work → Type 0
 UnitFits None = ⊤
 UnitFits (Some work) = UnitIn (unit_count (desc_of work).size) work.progress
 
-pub record ServerCounted (shape : Shape) (v : ServerState) (turns : List Utterance) (d : Option ServerCounts) : Type 0 where
+pub record ServerCounted (shape : Shape) (v : ServerState) (utterances : List Utterance) (d : Option ServerCounts) : Type 0 where
   pub slots : v.slots ≡ shape.slots
   pub blocks : v.blocks ≡ shape.blocks
-  pub holds : ServerHolds v turns
-  pub order : ServerOrder shape.slots v.session d turns
+  pub holds : ServerHolds v utterances
+  pub order : ServerOrder shape.slots v.session d utterances
   pub unit : UnitFits v.work
   pub agrees : ServerAgrees v.session v.work d
 

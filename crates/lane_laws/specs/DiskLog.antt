@@ -2,9 +2,9 @@
 use Rattle.std.specs.Prelude.{Bool, false, ◌||◌, List, Option, Some, None}
 use Rattle.ldc_queue.specs.declared.end.End.{End}
 use Rattle.ldc_queue.specs.declared.end.End.TheVariants.{B}
-use Rattle.channel_model.specs.TranscriptLog.{TranscriptLog, nothing_said, silenced, transcript_moved}
-use Rattle.channel_model.specs.WireEvent.{Idle, WireEvent}
-use Rattle.channel_model.specs.WireLog.{WireLog, nothing_on_wire, server_closed, wire_moved}
+use Rattle.channel_laws.specs.TranscriptLog.{TranscriptLog, nothing_said, silenced, transcript_moved}
+use Rattle.channel_laws.specs.WireEvent.{Idle, WireEvent}
+use Rattle.channel_laws.specs.WireLog.{WireLog, nothing_on_wire, server_closed, wire_moved}
 use Rattle.lane_laws.specs.BlockLog.{BlockLog, after_block, nothing_blocked}
 use Rattle.disk_model.specs.DiskEvent.{DiskEvent, OnWire, Stopped, Stored, Switches, Works}
 use Rattle.disk_model.specs.LaneState.{Shape}

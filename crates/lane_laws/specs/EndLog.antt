@@ -8,8 +8,8 @@ use Rattle.vio_tag.specs.Spelling.{canonical}
 use Rattle.channel_laws.specs.Blockage.{Blockage, left_of, owed_left}
 use Rattle.disk_model.specs.ClientPutting.{announcement}
 use Rattle.disk_model.specs.ClientState.{ClientSession, ClientState}
-use Rattle.channel_model.specs.Messages.{end_of, range_ended, seq_of, start_of}
-use Rattle.channel_model.specs.Sayings.{half_heard, half_said}
+use Rattle.channel_laws.specs.Messages.{end_of, range_ended, seq_of, start_of}
+use Rattle.channel_laws.specs.Sayings.{half_heard, half_said}
 use Rattle.disk_model.specs.ServerRule.{answer}
 use Rattle.disk_model.specs.ServerState.{ServerSession, ServerState, SlotRange}
 use Rattle.lane_laws.specs.WorkLog.{one_in}
@@ -35,13 +35,13 @@ answered_by (Some message) range = None
 
 abbrev pub range_in_work : List Utterance → Option SlotRange
 range_in_work [] = None
-range_in_work (Said packet ∷ turns) = answered_by (range_ended 2 (half_said turns) packet) (range_in_work turns)
-range_in_work (Heard packet ∷ turns) = asked_by (range_ended 1 (half_heard turns) packet) (range_in_work turns)
+range_in_work (Said packet ∷ utterances) = answered_by (range_ended 2 (half_said utterances) packet) (range_in_work utterances)
+range_in_work (Heard packet ∷ utterances) = asked_by (range_ended 1 (half_heard utterances) packet) (range_in_work utterances)
 
 abbrev pub infos_heard : List Utterance → ℕ
 infos_heard [] = 0
-infos_heard (Said packet ∷ turns) = infos_heard turns
-infos_heard (Heard packet ∷ turns) = infos_heard turns + one_in (range_ended 1 (half_heard turns) packet)
+infos_heard (Said packet ∷ utterances) = infos_heard utterances
+infos_heard (Heard packet ∷ utterances) = infos_heard utterances + one_in (range_ended 1 (half_heard utterances) packet)
 
 -- WHAT IS LEFT TO SEND: a client has the INFO that it announces with, where it does, and else what its handshake owes
 abbrev pub announced_or_owed : Bool → ClientState → ClientSession → List ℕ → Blockage → List ℕ

@@ -2,7 +2,7 @@
 use Rattle.lane_laws.specs.DiskLog.{DiskLog}
 use Rattle.lane_laws.specs.May.{OfWire}
 use Rattle.disk_model.specs.DiskEvent.{DiskEvent}
-use Rattle.channel_model.specs.WireAt.{WireHeardAt}
+use Rattle.channel_laws.specs.WireAt.{WireHeardAt}
 
 abbrev pub HeardAt : DiskLog → DiskEvent → Type 0
 HeardAt l event = OfWire (WireHeardAt l.transcript) event

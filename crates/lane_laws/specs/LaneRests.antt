@@ -2,7 +2,7 @@
 use Rattle.std.specs.Prelude.{List}
 use Rattle.ldc_link.specs.declared.phase.Role.TheVariants.{Initiator, Responder}
 use Rattle.ldc_queue.specs.Transcript.{Utterance}
-use Rattle.channel_model.specs.TranscriptLog.{TranscriptLog}
+use Rattle.channel_laws.specs.TranscriptLog.{TranscriptLog}
 use Rattle.disk_model.specs.ClientState.{ClientState}
 use Rattle.disk_model.specs.LaneState.{LaneState}
 use Rattle.disk_model.specs.ServerState.{ServerState}
@@ -10,20 +10,20 @@ use Rattle.channel_laws.specs.EndRests.{EndRests, EndUtters}
 use Rattle.lane_laws.specs.ChannelEnds.{client_core, server_core}
 
 abbrev pub ClientRests : ClientState → List Utterance → Type 0
-ClientRests c turns = EndRests Initiator (client_core c) turns
+ClientRests c utterances = EndRests Initiator (client_core c) utterances
 
 abbrev pub ServerRests : ServerState → List Utterance → Type 0
-ServerRests v turns = EndRests Responder (server_core v) turns
+ServerRests v utterances = EndRests Responder (server_core v) utterances
 
 pub record LaneRests (s : LaneState) (transcript : TranscriptLog) : Type 0 where
   pub client : ClientRests s.client transcript.client
   pub server : ServerRests s.server transcript.server
 
 abbrev pub ClientUtters : ClientState → List Utterance → Type 0
-ClientUtters c turns = EndUtters (client_core c) turns
+ClientUtters c utterances = EndUtters (client_core c) utterances
 
 abbrev pub ServerUtters : ServerState → List Utterance → Type 0
-ServerUtters v turns = EndUtters (server_core v) turns
+ServerUtters v utterances = EndUtters (server_core v) utterances
 
 pub record LaneUtters (s : LaneState) (transcript : TranscriptLog) : Type 0 where
   pub client : ClientUtters s.client transcript.client

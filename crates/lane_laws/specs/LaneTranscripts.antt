@@ -1,7 +1,7 @@
 -- What the ends of a lane said and heard, whoever meddles.
 use Rattle.std.specs.Prelude.{List}
 use Rattle.runs.specs.Lawful.{log_of}
-use Rattle.channel_model.specs.TranscriptLog.{TranscriptLog, nothing_said}
+use Rattle.channel_laws.specs.TranscriptLog.{TranscriptLog, nothing_said}
 use Rattle.lane_laws.specs.DiskLog.{after_transcript}
 use Rattle.disk_model.specs.DiskEvent.{DiskEvent}
 

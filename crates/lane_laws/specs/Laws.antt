@@ -2,8 +2,8 @@
 use Rattle.lane_laws.specs.DiskLog.{DiskLog}
 use Rattle.lane_laws.specs.May.{OfWire}
 use Rattle.disk_model.specs.DiskEvent.{DiskEvent}
-use Rattle.channel_model.specs.ResetSays.{WireResetAt}
-use Rattle.channel_model.specs.WireAt.{WireGapAt, WireLostAt, WireSaidAt, WireUnforgedAt}
+use Rattle.channel_laws.specs.ResetSays.{WireResetAt}
+use Rattle.channel_laws.specs.WireAt.{WireGapAt, WireLostAt, WireSaidAt, WireUnforgedAt}
 
 -- what resets an end says why
 abbrev pub ResetAt : DiskLog → DiskEvent → Type 0

@@ -7,10 +7,10 @@ use Rattle.ldc_queue.specs.Numbered.{numbered}
 use Rattle.ldc_queue.specs.Transcript.{numbered_heard, numbered_said}
 use Rattle.lane_laws.specs.DiskLog.{DiskLog}
 use Rattle.disk_model.specs.LaneState.{LaneState}
-use Rattle.channel_model.specs.Messages.{end_of, is_range, seq_of, start_of}
-use Rattle.channel_model.specs.Ranges.{wrapped}
+use Rattle.channel_laws.specs.Messages.{end_of, is_range, seq_of, start_of}
+use Rattle.channel_laws.specs.Ranges.{wrapped}
 use Rattle.dring.specs.Slots.{range_length}
-use Rattle.channel_model.specs.Sayings.{heard, said}
+use Rattle.channel_laws.specs.Sayings.{heard, said}
 use Rattle.disk_model.specs.ServerState.{ServerSession}
 use Rattle.lane_laws.specs.WorkLog.{ClientCounts, ServerCounts}
 

@@ -5,7 +5,7 @@ use Rattle.ldc_link.specs.Putting.{owes_in}
 use Rattle.ldc_queue.specs.declared.end.End.{End}
 use Rattle.ldc_queue.specs.declared.end.End.TheVariants.{A, B}
 use Rattle.ldc_queue.specs.Wire.{waiting_for}
-use Rattle.channel_model.specs.WireEvent.{Blocked, Idle, Reset, Sent, Took}
+use Rattle.channel_laws.specs.WireEvent.{Blocked, Idle, Reset, Sent, Took}
 use Rattle.disk_model.specs.DiskEvent.{Desc, DiskEvent, Finished, Moved, OnWire, Published, Stored, Works}
 use Rattle.channel_laws.specs.EndFold.{link_phase}
 use Rattle.channel_laws.specs.Blockage.{Clear}

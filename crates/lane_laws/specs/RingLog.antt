@@ -1,7 +1,7 @@
 -- The slots of the ring, as what happened leaves them. They stay as the last session left them until the next one opens.
 use Rattle.std.specs.Prelude.{ℕ, ◌+◌, ◌-◌, ◌%◌, Bool, true, false, List, replicate, set, Option, Some, None}
 use Rattle.ldc_queue.specs.declared.end.End.TheVariants.{A}
-use Rattle.channel_model.specs.WireEvent.{Sent}
+use Rattle.channel_laws.specs.WireEvent.{Sent}
 use Rattle.disk_model.specs.DiskEvent as event
 use Rattle.lane_laws.specs.WorkLog.{ClientCounts, ServerCounts, WorkLog}
 

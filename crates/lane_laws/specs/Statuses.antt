@@ -2,9 +2,9 @@
 -- session of the client's sid.
 use Rattle.std.specs.Prelude.{◌≡◌, ℕ, ◌-◌, List, [], ◌∷◌, length, Option, Some, slice_get}
 use Rattle.ldc_queue.specs.declared.end.ChannelState.TheVariants.{Up}
-use Rattle.channel_model.specs.Sayings.{said}
+use Rattle.channel_laws.specs.Sayings.{said}
 use Rattle.lane_laws.specs.DiskLog.{DiskLog}
-use Rattle.channel_model.specs.Messages.{sid_of}
+use Rattle.channel_laws.specs.Messages.{sid_of}
 use Rattle.lane_laws.specs.RingLog.{Done, SlotLog}
 use Rattle.lane_laws.specs.WorkLaws.{IfClient, IfServer, last_of}
 use Rattle.lane_laws.specs.WorkLog.{ClientCounts, Opened, ServerCounts}

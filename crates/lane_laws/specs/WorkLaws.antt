@@ -18,21 +18,21 @@ use Rattle.vio_tag.specs.declared.cause.Cause.{Cause}
 use Rattle.vio_tag.specs.declared.cause.Cause.TheVariants as the_cause
 use Rattle.vio_handshake.specs.declared.handshake.Handshake.{Handshake}
 use Rattle.vio_handshake.specs.Rules.{sid_fault}
-use Rattle.channel_model.specs.HandshakeOrder.{HandshakeOrder}
-use Rattle.channel_model.specs.Sayings.{half_heard, half_said}
-use Rattle.channel_model.specs.TranscriptLog.{TranscriptLog, hears, says}
-use Rattle.channel_model.specs.WireAt.{IsUp}
-use Rattle.channel_model.specs.WireEvent.{Reset, Sent, Took}
+use Rattle.channel_laws.specs.HandshakeOrder.{HandshakeOrder}
+use Rattle.channel_laws.specs.Sayings.{half_heard, half_said}
+use Rattle.channel_laws.specs.TranscriptLog.{TranscriptLog, hears, says}
+use Rattle.channel_laws.specs.WireAt.{IsUp}
+use Rattle.channel_laws.specs.WireEvent.{Reset, Sent, Took}
 use Rattle.disk_model.specs.DiskEvent.{Desc, DiskEvent, Done, Finished, Misplaced, Moved, OnWire, Published, Stored, Works}
-use Rattle.channel_model.specs.OwnMemory.{own_table}
+use Rattle.channel_laws.specs.OwnMemory.{own_table}
 use Rattle.disk_model.specs.LaneState.{pages_of}
 use Rattle.disk_model.specs.Offering.{client_offer, server_offer}
 use Rattle.disk_model.specs.ServerState.{SlotRange}
-use Rattle.channel_model.specs.Ranges.{wrapped}
+use Rattle.channel_laws.specs.Ranges.{wrapped}
 use Rattle.dring.specs.Slots.{done_state, range_length, ready_state}
 use Rattle.channel_laws.specs.Blockage.{Clear}
 use Rattle.lane_laws.specs.DiskLog.{DiskLog}
-use Rattle.channel_model.specs.Messages.{end_of, ended_by, range_ended, seq_of, sid_of, start_of}
+use Rattle.channel_laws.specs.Messages.{end_of, ended_by, range_ended, seq_of, sid_of, start_of}
 use Rattle.channel_laws.specs.EndFold.{handshake_of}
 use Rattle.lane_laws.specs.EndLog.{ident_of, infos_heard, range_in_work, state_of}
 use Rattle.lane_laws.specs.WorkLog.{ClientCounts, Opened, ServerCounts}
@@ -124,9 +124,9 @@ pub record Announces (l : DiskLog) (c : ClientCounts) (message : List ℕ) : Typ
   pub accepted : l.blocked.client ≡ Clear → c.base + c.published ≡ length l.work.issued
   pub active : state_of message ≡ 1
 
-pub record AsksFor (slots : ℕ) (turns : List Utterance) (h : Handshake) (c : ServerCounts) (message : List ℕ) : Type 0 where
+pub record AsksFor (slots : ℕ) (utterances : List Utterance) (h : Handshake) (c : ServerCounts) (message : List ℕ) : Type 0 where
   pub names : NamesRing h.sid h.draft.ident_peer message
-  pub next : seq_of message ≡ wrapped (infos_heard turns + 1)
+  pub next : seq_of message ≡ wrapped (infos_heard utterances + 1)
   pub begins : start_of message ≡ c.asked % slots
   pub ends : end_of message < slots
   pub answered : c.answered ≡ c.asked
@@ -138,10 +138,10 @@ pub record Acknowledges (slots : ℕ) (h : Handshake) (c : ClientCounts) (messag
   pub announced : c.acked + range_length slots (start_of message) (end_of message) ≤ c.announced
 
 -- its number, its slots and the byte of its state are those of the INFO
-pub record AcknowledgesRange (slots : ℕ) (turns : List Utterance) (h : Handshake) (c : ServerCounts) (message : List ℕ) : Type 0 where
+pub record AcknowledgesRange (slots : ℕ) (utterances : List Utterance) (h : Handshake) (c : ServerCounts) (message : List ℕ) : Type 0 where
   pub names : NamesOwn h h.draft.ident_peer message
   pub range : SlotRange
-  pub in_work : range_in_work turns ≡ Some range
+  pub in_work : range_in_work utterances ≡ Some range
   pub seq : seq_of message ≡ range.seq
   pub start : start_of message ≡ range.start
   pub end : end_of message ≡ range.end
@@ -158,9 +158,9 @@ abbrev pub OfServerRange : DiskLog → Option (List ℕ) → (ServerCounts → L
 OfServerRange l range holds = IfRange range (λ (message : List ℕ). InServer l.work.server (λ (c : ServerCounts). holds c message))
 
 -- an INFO is 1, an ACK 2 and a NACK 4; and no message of groups is heard, which have the envelope 0x0101
-pub record HearsNoOther (subtype : ℕ) (turns : List Utterance) (packet : List ℕ) : Type 0 where
-  pub ranges : (other : ℕ) → other ≢ subtype → range_ended other (half_heard turns) packet ≡ None
-  pub groups : (message : List ℕ) → ended_by (half_heard turns) packet ≡ Some message → number_at 2 2 message ≢ 0x0101
+pub record HearsNoOther (subtype : ℕ) (utterances : List Utterance) (packet : List ℕ) : Type 0 where
+  pub ranges : (other : ℕ) → other ≢ subtype → range_ended other (half_heard utterances) packet ≡ None
+  pub groups : (message : List ℕ) → ended_by (half_heard utterances) packet ≡ Some message → number_at 2 2 message ≢ 0x0101
 
 abbrev pub RangesAt : DiskLog → DiskEvent → Type 0
 RangesAt l (OnWire (Sent A packet opens)) = OfClientRange l (range_ended 1 (half_said l.transcript.client) packet) (Announces l)

@@ -11,8 +11,8 @@ abbrev pub OffersLittle : LinkPhase → Type 0
 OffersLittle (phase.OwesVersNack major) = major ≤ 1
 OffersLittle _ = ⊤
 
-pub record Follows (k : LinkState) (turns : List Utterance) : Type 0 where
-  pub puts : k.put_next ≡ (length (numbered_said turns) + 1) % 4294967296
-  pub takes : k.take_next ≡ (length (numbered_heard turns) + 1) % 4294967296
-  pub half : k.half_heard ≡ unfinished_heard turns
+pub record Follows (k : LinkState) (utterances : List Utterance) : Type 0 where
+  pub puts : k.put_next ≡ (length (numbered_said utterances) + 1) % 4294967296
+  pub takes : k.take_next ≡ (length (numbered_heard utterances) + 1) % 4294967296
+  pub half : k.half_heard ≡ unfinished_heard utterances
   pub offers : OffersLittle k.phase

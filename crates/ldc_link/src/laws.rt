@@ -6,7 +6,7 @@ ghost use Rattle.ldc_queue.specs.Fragments.{fragments_in, FragmentsOf};
 ghost use Rattle.ldc_queue.specs.Messages.{AllMayCome, AreCutFrom};
 ghost use Rattle.ldc_queue.specs.Numbered.{numbered, CountUp};
 ghost use Rattle.ldc_queue.specs.Transcript.{numbered_heard, numbered_said, Utterance};
-ghost use Rattle.ldc_queue.specs.Transcript as turn;
+ghost use Rattle.ldc_queue.specs.Transcript as utterance;
 ghost use Rattle.ldc_link.specs.Calls.{Puts};
 ghost use Rattle.ldc_link.specs.Conversing.{carried, AreData, AreFull, AreNumbered, Hears, PutsAll};
 ghost use Rattle.ldc_link.specs.Following.{Follows};
@@ -38,14 +38,14 @@ pub fn messages_are_said_as_their_fragments()
 /// took.
 pub fn links_follow_what_their_ends_say()
     ensures joins { (k : LinkState) → Follows (joined_link k) [] }
-    ensures puts { (k : LinkState) (turns : List Utterance) (bytes : List ℕ) (m : LinkState) → Follows k turns → Puts k bytes m
-        → CountUp (length (numbered_said turns) + 1) (numbered (bytes ∷ [])) × Follows m (turn.Said bytes ∷ turns) }
-    ensures takes { (k : LinkState) (turns : List Utterance) (bytes : List ℕ) (m : LinkState) → Follows k turns → TakesBytes k bytes (Heard m)
-        → CountUp (length (numbered_heard turns) + 1) (numbered (bytes ∷ [])) × Follows m (turn.Heard bytes ∷ turns) }
-    ensures comes { (k : LinkState) (turns : List Utterance) (bytes : List ℕ) (m : LinkState) → Follows k turns
-        → AllMayCome [] (fragments_in (numbered_heard turns)) → TakesBytes k bytes (Heard m)
-        → AllMayCome [] (fragments_in (numbered_heard (turn.Heard bytes ∷ turns))) }
-    ensures offers { (k : LinkState) (turns : List Utterance) (message : List ℕ) → Follows k turns
-        → Follows (offered message k) turns }
-    ensures clears { (k : LinkState) (turns : List Utterance) → Follows k turns → Follows (cleared k) turns }
+    ensures puts { (k : LinkState) (utterances : List Utterance) (bytes : List ℕ) (m : LinkState) → Follows k utterances → Puts k bytes m
+        → CountUp (length (numbered_said utterances) + 1) (numbered (bytes ∷ [])) × Follows m (utterance.Said bytes ∷ utterances) }
+    ensures takes { (k : LinkState) (utterances : List Utterance) (bytes : List ℕ) (m : LinkState) → Follows k utterances → TakesBytes k bytes (Heard m)
+        → CountUp (length (numbered_heard utterances) + 1) (numbered (bytes ∷ [])) × Follows m (utterance.Heard bytes ∷ utterances) }
+    ensures comes { (k : LinkState) (utterances : List Utterance) (bytes : List ℕ) (m : LinkState) → Follows k utterances
+        → AllMayCome [] (fragments_in (numbered_heard utterances)) → TakesBytes k bytes (Heard m)
+        → AllMayCome [] (fragments_in (numbered_heard (utterance.Heard bytes ∷ utterances))) }
+    ensures offers { (k : LinkState) (utterances : List Utterance) (message : List ℕ) → Follows k utterances
+        → Follows (offered message k) utterances }
+    ensures clears { (k : LinkState) (utterances : List Utterance) → Follows k utterances → Follows (cleared k) utterances }
 {}

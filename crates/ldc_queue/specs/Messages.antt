@@ -23,16 +23,16 @@ half_in half (fragment ∷ fragments) = half_in (half_with fragment.stop (half +
 
 -- the messages that an end said and heard, and the bytes of a message whose last part hasn't come
 abbrev pub messages_said : List Utterance → List (List ℕ)
-messages_said turns = whole_in [] (fragments_in (numbered_said turns))
+messages_said utterances = whole_in [] (fragments_in (numbered_said utterances))
 
 abbrev pub messages_heard : List Utterance → List (List ℕ)
-messages_heard turns = whole_in [] (fragments_in (numbered_heard turns))
+messages_heard utterances = whole_in [] (fragments_in (numbered_heard utterances))
 
 abbrev pub unfinished_said : List Utterance → List ℕ
-unfinished_said turns = half_in [] (fragments_in (numbered_said turns))
+unfinished_said utterances = half_in [] (fragments_in (numbered_said utterances))
 
 abbrev pub unfinished_heard : List Utterance → List ℕ
-unfinished_heard turns = half_in [] (fragments_in (numbered_heard turns))
+unfinished_heard utterances = half_in [] (fragments_in (numbered_heard utterances))
 
 abbrev pub is_empty : List ℕ → Bool
 is_empty [] = true

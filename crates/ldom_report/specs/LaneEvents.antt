@@ -3,8 +3,8 @@
 use Rattle.std.specs.Prelude.{ℕ, List}
 use Rattle.ldc_queue.specs.declared.end.End.{End}
 use Rattle.ldc_queue.specs.declared.end.End.TheVariants.{A, B}
-use Rattle.channel_model.specs.WireEvent.{WireEvent}
-use Rattle.channel_model.specs.WireEvent as wire
+use Rattle.channel_laws.specs.WireEvent.{WireEvent}
+use Rattle.channel_laws.specs.WireEvent as wire
 use Rattle.disk_model.specs.DiskEvent.{DiskEvent, Asks, Works}
 use Rattle.disk_model.specs.DiskEvent as disk
 use Rattle.domain_script.specs.declared.event.EndName.{EndName}

@@ -21,11 +21,11 @@ use Rattle.vio_handshake.specs.declared.session.Offer.{Offer}
 use Rattle.vio_handshake.specs.Offers.{FitsRing, Match}
 use Rattle.vio_tag.proofs.AttributeBytes.{net_attr_reads_back}
 use Rattle.vio_tag.specs.declared.cause.Cause.{Cause}
-use Rattle.channel_model.specs.HandshakeOrder.{HandshakeOrder}
-use Rattle.channel_model.specs.Sayings.{heard, said}
-use Rattle.channel_model.specs.TranscriptLog.{TranscriptLog, transcript_of}
-use Rattle.channel_model.specs.WireAt.{IsOwnReset, IsUp}
-use Rattle.channel_model.specs.WireLog.{WireLog}
+use Rattle.channel_laws.specs.HandshakeOrder.{HandshakeOrder}
+use Rattle.channel_laws.specs.Sayings.{heard, said}
+use Rattle.channel_laws.specs.TranscriptLog.{TranscriptLog, transcript_of}
+use Rattle.channel_laws.specs.WireAt.{IsOwnReset, IsUp}
+use Rattle.channel_laws.specs.WireLog.{WireLog}
 use Rattle.channel_laws.proofs.ConversingRuns.{heard_messages}
 use Rattle.channel_laws.proofs.LossesTold.{loss_kept, loss_told}
 use Rattle.channel_laws.proofs.Sessions.{open_sessions_one, open_sessions_up}

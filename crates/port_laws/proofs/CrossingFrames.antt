@@ -17,10 +17,10 @@ use Rattle.runs.specs.Run.{Run}
 use Rattle.vio_handshake.specs.declared.handshake.Handshake.{Handshake}
 use Rattle.vio_tag.specs.declared.message.Message.{Message}
 use Rattle.channel_laws.proofs.EndStanding.{held_stands}
-use Rattle.channel_model.specs.EndPuts.{handshake_behind}
-use Rattle.channel_model.specs.Seeing.{Seen}
-use Rattle.channel_model.specs.WireAt.{IsUp}
-use Rattle.channel_model.specs.WireLog.{WireLog}
+use Rattle.channel_laws.specs.EndPuts.{handshake_behind}
+use Rattle.channel_laws.specs.Seeing.{Seen}
+use Rattle.channel_laws.specs.WireAt.{IsUp}
+use Rattle.channel_laws.specs.WireLog.{WireLog}
 use Rattle.channel_laws.specs.Standing.{EndStands}
 use Rattle.cookie_copy.specs.Faults.{is_up}
 use Rattle.cookie_copy.specs.Reach.{Reach}

@@ -19,8 +19,8 @@ use Rattle.vio_tag.specs.declared.message.MsgBody.{MsgBody}
 use Rattle.vio_tag.specs.declared.message.MsgBody.TheVariants.{Mcast}
 use Rattle.vio_tag.specs.Decoding.{Decodes}
 use Rattle.vio_tag.specs.Spelling.{SpellsBody, addresses_at, canonical}
-use Rattle.channel_model.specs.EndPuts.{handshake_behind, kind_in, put_kind}
-use Rattle.channel_model.specs.Seeing.{Seen}
+use Rattle.channel_laws.specs.EndPuts.{handshake_behind, kind_in, put_kind}
+use Rattle.channel_laws.specs.Seeing.{Seen}
 use Rattle.cookie_copy.specs.Reach.{Reach}
 use Rattle.channel_laws.specs.EndCore.{Begins, EndMove, Fails, Hears, Says as SaysPacket, Stays, Waits, holds}
 use Rattle.channel_laws.specs.EndStep.{EndBegins, EndFails, EndHears, EndSays, EndStays, EndStep, EndWaits, HearsWhole, Holding, Holds, HoldsOn, HoldsOwed, HoldsOwn, IsOfSession, LinkFails, MayTake, WholeFails, opened_by, risen_at}

@@ -2,8 +2,8 @@
 use Rattle.std.proofs.Common.{List, [], ◌∷◌, ◌++◌}
 use Rattle.runs.specs.Lawful.{log_of}
 use Rattle.runs.specs.Run.{Run, run_push}
-use Rattle.channel_model.specs.ResetSays.{WireResetAt}
-use Rattle.channel_model.specs.WireAt.{WireGapAt}
+use Rattle.channel_laws.specs.ResetSays.{WireResetAt}
+use Rattle.channel_laws.specs.WireAt.{WireGapAt}
 use Rattle.port_model.specs.NetLaneState.{IsNetShape, NetShape}
 use Rattle.port_model.specs.PortLog.{after, no_events}
 use Rattle.port_model.specs.PortMay.{IsLawfulPort, PortMay}

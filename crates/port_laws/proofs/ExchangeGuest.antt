@@ -8,8 +8,8 @@ use Rattle.ldc_link.specs.LinkState.{is_up}
 use Rattle.ldc_queue.specs.declared.end.End.TheVariants.{A, B}
 use Rattle.ldc_queue.specs.OneStream.{IsFront}
 use Rattle.ldc_queue.specs.Transcript.{Heard, Said, Utterance}
-use Rattle.channel_model.specs.Sayings.{heard, said}
-use Rattle.channel_model.specs.WireAt.{IsUp}
+use Rattle.channel_laws.specs.Sayings.{heard, said}
+use Rattle.channel_laws.specs.WireAt.{IsUp}
 use Rattle.channel_laws.specs.Sides.{sides_of, swapped}
 use Rattle.channel_laws.specs.Standing.{EndStands}
 use Rattle.port_model.proofs.Refuting.{none_some, true_false}

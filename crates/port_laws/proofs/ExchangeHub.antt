@@ -14,11 +14,11 @@ use Rattle.vio_handshake.specs.Rules.{HandshakeTake}
 use Rattle.vio_tag.specs.declared.message.Message.{Message}
 use Rattle.vio_tag.specs.declared.message.TagFault.{TagFault}
 use Rattle.vio_tag.specs.Spelling.{envelope_at}
-use Rattle.channel_model.specs.Messages.{ended_by}
-use Rattle.channel_model.specs.Sayings.{half_heard, heard, said}
-use Rattle.channel_model.specs.Seeing.{Seen}
-use Rattle.channel_model.specs.WireAt.{IsUp}
-use Rattle.channel_model.specs.WireLog.{WireLog}
+use Rattle.channel_laws.specs.Messages.{ended_by}
+use Rattle.channel_laws.specs.Sayings.{half_heard, heard, said}
+use Rattle.channel_laws.specs.Seeing.{Seen}
+use Rattle.channel_laws.specs.WireAt.{IsUp}
+use Rattle.channel_laws.specs.WireLog.{WireLog}
 use Rattle.channel_laws.proofs.LinkCases.{link_heard}
 use Rattle.channel_laws.specs.Sides.{sides_of, swapped}
 use Rattle.channel_laws.specs.Standing.{EndStands}

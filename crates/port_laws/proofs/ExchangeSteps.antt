@@ -9,7 +9,7 @@ use Rattle.ldc_queue.specs.Transcript.{Heard, Said, Utterance}
 use Rattle.vio_tag.proofs.Canonical.{canonical_spells, length_canonical}
 use Rattle.vio_tag.specs.declared.message.MsgBody.TheVariants.{Mcast}
 use Rattle.vio_tag.specs.Spelling.{SpellsMessage, canonical}
-use Rattle.channel_model.specs.Sayings.{heard, said}
+use Rattle.channel_laws.specs.Sayings.{heard, said}
 use Rattle.port_model.proofs.Refuting.{none_some}
 use Rattle.port_model.specs.Groups.{membership, seven}
 use Rattle.port_model.specs.NetEndPutting.{groups_answer}

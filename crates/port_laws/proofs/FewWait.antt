@@ -13,8 +13,8 @@ use Rattle.vio_handshake.specs.Messages.{ack}
 use Rattle.vio_tag.proofs.Canonical.{length_canonical}
 use Rattle.vio_tag.specs.declared.message.MsgBody.TheVariants.{Rdx}
 use Rattle.vio_tag.specs.Spelling.{envelope_at, subtype_at}
-use Rattle.channel_model.specs.Sayings.{half_said, heard, said}
-use Rattle.channel_model.specs.WireAt.{IsUp}
+use Rattle.channel_laws.specs.Sayings.{half_said, heard, said}
+use Rattle.channel_laws.specs.WireAt.{IsUp}
 use Rattle.channel_laws.proofs.EndStanding.{open_up}
 use Rattle.channel_laws.proofs.HandshakePlaces.{AtPlace, EachOwn, deal, open_place}
 use Rattle.channel_laws.proofs.HandshakesPlaced.{envelope_reads, own_code}

@@ -3,7 +3,7 @@ use Rattle.std.proofs.Common.{◌≡◌, ℕ, ◌≤◌, true, false, Option, So
 use Rattle.std.specs.Prelude.{◌+◌}
 use Rattle.ldc_link.specs.declared.phase.Role.{Role}
 use Rattle.ldc_link.specs.declared.phase.Role.TheVariants.{Initiator, Responder}
-use Rattle.channel_model.specs.Seeing.{Seen}
+use Rattle.channel_laws.specs.Seeing.{Seen}
 use Rattle.cookie_copy.specs.Reach.{Reach}
 use Rattle.port_model.specs.Fetching.{Fetched, fetched}
 use Rattle.port_model.specs.NetEndPutting.{answers, net_holds, net_put}

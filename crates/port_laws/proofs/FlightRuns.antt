@@ -7,7 +7,7 @@ use Rattle.ldc_queue.specs.declared.end.End.{End}
 use Rattle.ldc_queue.specs.declared.end.End.TheVariants.{A, B}
 use Rattle.runs.specs.Lawful.{run_lawful}
 use Rattle.runs.specs.Run.{Run}
-use Rattle.channel_model.specs.TranscriptLog.{transcript_of}
+use Rattle.channel_laws.specs.TranscriptLog.{transcript_of}
 use Rattle.channel_laws.proofs.Lifting.{stand_run}
 use Rattle.channel_laws.proofs.PacketsTaken.{unforged_took}
 use Rattle.channel_laws.specs.EndCore.{EndCore}

@@ -10,9 +10,9 @@ use Rattle.ldc_queue.specs.declared.end.End.TheVariants.{A, B}
 use Rattle.ldc_queue.specs.Transcript.{Utterance}
 use Rattle.ldc_queue.specs.Wire.{peer_behind, queue_behind, upset}
 use Rattle.vio_tag.specs.declared.cause.Cause.{Cause}
-use Rattle.channel_model.specs.TranscriptLog.{TranscriptLog}
-use Rattle.channel_model.specs.WireEvent.{Blocked, Giver, Injected, Joined, Lost, Poked, Reset, Sent, Took, giver}
-use Rattle.channel_model.specs.WireLog.{WireLog, lossy_behind, wire_moved}
+use Rattle.channel_laws.specs.TranscriptLog.{TranscriptLog}
+use Rattle.channel_laws.specs.WireEvent.{Blocked, Giver, Injected, Joined, Lost, Poked, Reset, Sent, Took, giver}
+use Rattle.channel_laws.specs.WireLog.{WireLog, lossy_behind, wire_moved}
 use Rattle.channel_laws.proofs.EndStanding.{held_stands}
 use Rattle.channel_laws.proofs.Lifting.{EndsAll, begins_anew, resets_anew}
 use Rattle.channel_laws.proofs.PacketsLeft.{anew_packets, answering_shut, says_left, says_packets, stays_packets, waits_left}

@@ -14,9 +14,9 @@ use Rattle.vio_handshake.specs.declared.handshake.Handshake.{Handshake}
 use Rattle.vio_tag.proofs.Canonical.{length_canonical}
 use Rattle.vio_tag.specs.declared.message.Message.{Message}
 use Rattle.vio_tag.specs.Spelling.{canonical}
-use Rattle.channel_model.specs.Ranges.{wrapped}
-use Rattle.channel_model.specs.Sayings.{half_said, said}
-use Rattle.channel_model.specs.Seeing.{Seen}
+use Rattle.channel_laws.specs.Ranges.{wrapped}
+use Rattle.channel_laws.specs.Sayings.{half_said, said}
+use Rattle.channel_laws.specs.Seeing.{Seen}
 use Rattle.channel_laws.proofs.EndCases.{PutOwn, PutWhat, end_put, put_down, PutControl, PutHandshake, PutMore, PutReady}
 use Rattle.channel_laws.proofs.EndResting.{held_handshake}
 use Rattle.channel_laws.proofs.EndStanding.{stands_step, last_none}

@@ -11,8 +11,8 @@ use Rattle.ldc_queue.specs.Transcript.{Utterance}
 use Rattle.ldc_queue.specs.Wire.{peer_behind, peer_of, state_of}
 use Rattle.runs.specs.Lawful.{log_of}
 use Rattle.runs.specs.Run.{Run}
-use Rattle.channel_model.specs.TranscriptLog.{transcript_of}
-use Rattle.channel_model.specs.WireLog.{WireLog}
+use Rattle.channel_laws.specs.TranscriptLog.{transcript_of}
+use Rattle.channel_laws.specs.WireLog.{WireLog}
 use Rattle.port_model.proofs.Refuting.{none_some, true_false}
 use Rattle.port_model.specs.EndLog.{EndLog, SessionLog, change}
 use Rattle.port_model.specs.NetEndStep.{Frame, NetAnswer, NetLeft}

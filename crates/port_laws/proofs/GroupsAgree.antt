@@ -3,7 +3,7 @@ use Rattle.std.proofs.Common.{◌≡◌, ℕ, Bool, Option, Some, List, refl, ap
 use Rattle.ldc_link.specs.declared.phase.Role.TheVariants.{Initiator}
 use Rattle.runs.specs.Lawful.{Lawful, run_lawful}
 use Rattle.runs.specs.Run.{Run}
-use Rattle.channel_model.specs.Seeing.{Seen}
+use Rattle.channel_laws.specs.Seeing.{Seen}
 use Rattle.cookie_copy.specs.Reach.{Reach}
 use Rattle.port_model.specs.Fetching.{Fetched}
 use Rattle.port_model.specs.FrameLaws.{JoiningAt, MayJoin}

@@ -21,7 +21,7 @@ use Rattle.vio_tag.specs.Decoding.{Decodes}
 use Rattle.vio_tag.specs.Form.{IsWellFormed}
 use Rattle.vio_tag.specs.Spelling.{SpellsMessage, addresses_at, canonical, envelope_at, envelope_code, sid_at, subtype_at, type_at, type_code}
 use Rattle.vio_tag.specs.declared.cause.Cause.{Cause}
-use Rattle.channel_model.specs.Sayings.{heard}
+use Rattle.channel_laws.specs.Sayings.{heard}
 use Rattle.channel_laws.proofs.EndStanding.{open_up}
 use Rattle.channel_laws.proofs.HandshakePlaces.{IsOwn, deal, open_place}
 use Rattle.channel_laws.proofs.LinkCases.{LinkHeard, link_heard}
@@ -168,14 +168,14 @@ pub mine_agreed : (asks answers : Offer) (role : Role) (s : Sides) → (two_ends
     → AllAgreed s.mine.core.handshake two_ends.meets.handshakes.sid
 mine_agreed asks answers role s two_ends up opened =
     let d = deal asks answers two_ends.meets.handshakes.sid in
-    let at = mine_at asks answers role s two_ends up (open_up role s.mine.core s.mine.turns two_ends.mine opened) in
-    let last : at.place ≡ AllSaid = open_place true d role s.mine.core s.mine.turns two_ends.mine at opened in
+    let at = mine_at asks answers role s two_ends up (open_up role s.mine.core s.mine.utterances two_ends.mine opened) in
+    let last : at.place ≡ AllSaid = open_place true d role s.mine.core s.mine.utterances two_ends.mine at opened in
     agreed_at d role s.mine.core.handshake (at.is ∙ ap (handshake_at true d role) last)
 
 pub theirs_agreed : (asks answers : Offer) (role : Role) (s : Sides) → (two_ends : TwoEnds asks answers role s) → s.theirs.state ≡ Up → s.theirs.core.is_open ≡ true
     → AllAgreed s.theirs.core.handshake two_ends.meets.handshakes.sid
 theirs_agreed asks answers role s two_ends up opened =
     let d = deal asks answers two_ends.meets.handshakes.sid in
-    let at = theirs_at asks answers role s two_ends up (open_up (other role) s.theirs.core s.theirs.turns two_ends.theirs opened) in
-    let last : at.place ≡ AllSaid = open_place true d (other role) s.theirs.core s.theirs.turns two_ends.theirs at opened in
+    let at = theirs_at asks answers role s two_ends up (open_up (other role) s.theirs.core s.theirs.utterances two_ends.theirs opened) in
+    let last : at.place ≡ AllSaid = open_place true d (other role) s.theirs.core s.theirs.utterances two_ends.theirs at opened in
     agreed_at d (other role) s.theirs.core.handshake (at.is ∙ ap (handshake_at true d (other role)) last)

@@ -11,7 +11,7 @@ use Rattle.ldc_link.specs.Putting.{owes}
 use Rattle.vio_tag.proofs.Canonical.{length_canonical}
 use Rattle.vio_tag.specs.declared.message.Message.{Message}
 use Rattle.vio_tag.specs.Spelling.{canonical}
-use Rattle.channel_model.specs.Seeing.{Seen}
+use Rattle.channel_laws.specs.Seeing.{Seen}
 use Rattle.cookie_copy.specs.Reach.{Reach}
 use Rattle.port_model.proofs.Refuting.{false_true, none_some, of_some, true_false}
 use Rattle.port_model.proofs.Ruling.{says_of}

@@ -12,11 +12,11 @@ use Rattle.ldc_queue.specs.declared.end.End.TheVariants.{A, B}
 use Rattle.ldc_queue.specs.Wire.{Wire, peer_behind, state_of, waiting_for}
 use Rattle.runs.specs.Run.{Run, run_keeps}
 use Rattle.vio_tag.specs.declared.cause.Cause.{Cause}
-use Rattle.channel_model.specs.Seeing.{Seen}
+use Rattle.channel_laws.specs.Seeing.{Seen}
 use Rattle.cookie_copy.specs.Reach.{Reach}
-use Rattle.channel_model.specs.WireAt.{DeclinesAt, IsUp, MayCarry, MayReset}
-use Rattle.channel_model.specs.WireEvent.{ByStep, Declined, Giver, WireEvent, giver}
-use Rattle.channel_model.specs.WireLog.{WireLog}
+use Rattle.channel_laws.specs.WireAt.{DeclinesAt, IsUp, MayCarry, MayReset}
+use Rattle.channel_laws.specs.WireEvent.{ByStep, Declined, Giver, WireEvent, giver}
+use Rattle.channel_laws.specs.WireLog.{WireLog}
 use Rattle.channel_laws.specs.EndCore.{EndMove, Fails, Stays}
 use Rattle.channel_laws.specs.EndStep.{EndBegins, EndStays, EndStep}
 use Rattle.channel_laws.proofs.EndsAtRest.{none_waits}

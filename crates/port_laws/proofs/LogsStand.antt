@@ -7,9 +7,9 @@ use Rattle.std.proofs.lemmas.Option.{slice_get_within}
 use Rattle.ldc_queue.specs.declared.end.End.TheVariants.{A, B}
 use Rattle.ldc_queue.specs.Transcript.{Utterance}
 use Rattle.vnet_msg.specs.Frames.{IsFrame, is_frame_length}
-use Rattle.channel_model.specs.Messages.{ended_by}
-use Rattle.channel_model.specs.Sayings.{half_heard, half_said}
-use Rattle.channel_model.specs.TranscriptLog.{transcript_of}
+use Rattle.channel_laws.specs.Messages.{ended_by}
+use Rattle.channel_laws.specs.Sayings.{half_heard, half_said}
+use Rattle.channel_laws.specs.TranscriptLog.{transcript_of}
 use Rattle.port_model.specs.EndLog.{EndLog, OpenedLog, SessionLog, change, ends_log, gives_log, heard_in, heard_kind, more_published, more_taken, opens_log, published_in, said_in, said_kind}
 use Rattle.port_model.specs.NetEndStep.{Blocked, Frame, Given, Idle, NetAnswer, NetGives, Published, Sent, Took}
 use Rattle.port_model.specs.NetEndState.{NetEndState}

@@ -14,10 +14,10 @@ use Rattle.runs.specs.Run.{Run, run_push}
 use Rattle.vio_handshake.proofs.Places.{AllSaid, Deal}
 use Rattle.vio_handshake.specs.declared.handshake.Handshake.{Handshake}
 use Rattle.vio_tag.specs.declared.message.Message.{Message}
-use Rattle.channel_model.specs.Seeing.{Seen}
-use Rattle.channel_model.specs.TranscriptLog.{TranscriptLog}
-use Rattle.channel_model.specs.WireAt.{IsUp}
-use Rattle.channel_model.specs.WireLog.{WireLog}
+use Rattle.channel_laws.specs.Seeing.{Seen}
+use Rattle.channel_laws.specs.TranscriptLog.{TranscriptLog}
+use Rattle.channel_laws.specs.WireAt.{IsUp}
+use Rattle.channel_laws.specs.WireLog.{WireLog}
 use Rattle.channel_laws.proofs.HandshakePlaces.{deal, open_place}
 use Rattle.channel_laws.proofs.ManyWait.{many_wait, owes_some}
 use Rattle.channel_laws.proofs.PartsWaiting.{LongSaid, long_run}

@@ -15,12 +15,12 @@ use Rattle.runs.specs.Lawful.{Lawful}
 use Rattle.runs.specs.Run.{Run}
 use Rattle.vio_tag.specs.declared.cause.Cause.{Cause}
 use Rattle.vio_tag.specs.Spelling.{envelope_at, subtype_at}
-use Rattle.channel_model.specs.Ranges.{wrapped}
-use Rattle.channel_model.specs.Sayings.{heard, said}
-use Rattle.channel_model.specs.TranscriptLog.{TranscriptLog, transcript_of}
-use Rattle.channel_model.specs.WireAt.{IsOwnReset, IsUp, UnforgedReset, WireUnforgedAt}
-use Rattle.channel_model.specs.WireEvent.{Giver, giver}
-use Rattle.channel_model.specs.WireLog.{WireLog}
+use Rattle.channel_laws.specs.Ranges.{wrapped}
+use Rattle.channel_laws.specs.Sayings.{heard, said}
+use Rattle.channel_laws.specs.TranscriptLog.{TranscriptLog, transcript_of}
+use Rattle.channel_laws.specs.WireAt.{IsOwnReset, IsUp, UnforgedReset, WireUnforgedAt}
+use Rattle.channel_laws.specs.WireEvent.{Giver, giver}
+use Rattle.channel_laws.specs.WireLog.{WireLog}
 use Rattle.channel_laws.proofs.ConversingRuns.{hears_next}
 use Rattle.channel_laws.proofs.LinkRefuses.{link_refuses}
 use Rattle.channel_laws.proofs.PartsSaid.{PartsSaid, parts_run}

@@ -9,7 +9,7 @@ use Rattle.vio_tag.proofs.Canonical.{canonical_spells}
 use Rattle.vio_tag.specs.declared.message.Message.{Message}
 use Rattle.vio_tag.specs.declared.message.MsgBody.TheVariants.{DringData, Mcast}
 use Rattle.vio_tag.specs.Spelling.{SpellsMessage, canonical}
-use Rattle.channel_model.specs.Messages.{end_of, seq_of, start_of, subtype_of}
+use Rattle.channel_laws.specs.Messages.{end_of, seq_of, start_of, subtype_of}
 use Rattle.port_model.specs.EndLog.{groups_fields}
 use Rattle.port_model.specs.Groups.{membership, seven}
 use Rattle.port_model.specs.NetEndState.{GroupsReply}

@@ -10,7 +10,7 @@ use Rattle.ldc_queue.specs.Transcript.{Utterance}
 use Rattle.vio_handshake.specs.declared.handshake.Handshake.{Handshake}
 use Rattle.vio_handshake.specs.declared.session.Offer.{Offer}
 use Rattle.vio_handshake.proofs.Places.{AllSaid, Deal, Place}
-use Rattle.channel_model.specs.Sayings.{heard, said}
+use Rattle.channel_laws.specs.Sayings.{heard, said}
 use Rattle.channel_laws.proofs.ConversingRuns.{HeardFrom, hears_now}
 use Rattle.channel_laws.proofs.EndStanding.{open_up}
 use Rattle.channel_laws.proofs.HandshakePlaces.{AtPlace, deal, place_open}
@@ -56,8 +56,8 @@ more_than r = grind arith
 -- TWO ENDS, from the side of one
 pub record TwoEnds (asks answers : Offer) (role : Role) (s : Sides) : Type 0 where
   pub both : asks.both_rings ≡ true
-  pub mine : EndStands role s.mine.core s.mine.turns
-  pub theirs : EndStands (other role) s.theirs.core s.theirs.turns
+  pub mine : EndStands role s.mine.core s.mine.utterances
+  pub theirs : EndStands (other role) s.theirs.core s.theirs.utterances
   pub meets : Meets asks answers role s
 
 longer : (xs more all : List (List ℕ)) → all ≡ xs ++ more → length xs ≤ length all
@@ -71,11 +71,11 @@ none_long xs is = ap length is
 
 -- where its handshake stands
 pub mine_at : (asks answers : Offer) (role : Role) (s : Sides) → (two_ends : TwoEnds asks answers role s) → s.mine.state ≡ Up → is_up s.mine.core.link ≡ true
-    → AtPlace true (deal asks answers two_ends.meets.handshakes.sid) role s.mine.core.handshake s.mine.turns
+    → AtPlace true (deal asks answers two_ends.meets.handshakes.sid) role s.mine.core.handshake s.mine.utterances
 mine_at asks answers role s two_ends up link = grind (arith, deal)
 
 pub theirs_at : (asks answers : Offer) (role : Role) (s : Sides) → (two_ends : TwoEnds asks answers role s) → s.theirs.state ≡ Up → is_up s.theirs.core.link ≡ true
-    → AtPlace true (deal asks answers two_ends.meets.handshakes.sid) (other role) s.theirs.core.handshake s.theirs.turns
+    → AtPlace true (deal asks answers two_ends.meets.handshakes.sid) (other role) s.theirs.core.handshake s.theirs.utterances
 theirs_at asks answers role s two_ends up link = grind (arith, deal)
 
 -- THE ROW of what the initiator says, as an end of this role has it
@@ -96,14 +96,14 @@ pub record InAll (r : Role) (turns : List Utterance) : Type 0 where
   pub row_long : 6 ≤ length (row r turns)
   pub heard_long : 6 ≤ length (heard turns)
 
-pub open_long : (asks answers : Offer) (role : Role) (s : Sides) → TwoEnds asks answers role s → s.mine.state ≡ Up → s.mine.core.is_open ≡ true → InAll role s.mine.turns
+pub open_long : (asks answers : Offer) (role : Role) (s : Sides) → TwoEnds asks answers role s → s.mine.state ≡ Up → s.mine.core.is_open ≡ true → InAll role s.mine.utterances
 open_long asks answers role s two_ends up opened =
     let d = deal asks answers two_ends.meets.handshakes.sid in
-    let at = mine_at asks answers role s two_ends up (open_up role s.mine.core s.mine.turns two_ends.mine opened) in
+    let at = mine_at asks answers role s two_ends up (open_up role s.mine.core s.mine.utterances two_ends.mine opened) in
     grind (arith, longer, said_at, six_said)
 
 -- before, at most five of the row
-pub closed_short : (asks answers : Offer) (role : Role) (s : Sides) → TwoEnds asks answers role s → s.mine.state ≡ Up → s.mine.core.is_open ≡ false → length (row role s.mine.turns) ≤ 5
+pub closed_short : (asks answers : Offer) (role : Role) (s : Sides) → TwoEnds asks answers role s → s.mine.state ≡ Up → s.mine.core.is_open ≡ false → length (row role s.mine.utterances) ≤ 5
 unfolding most
 closed_short asks answers role s two_ends up shut =
     grind (arith, none_long, deal, mine_at, row_at, last_or, true_false, place_open, said_at, few_said, whole)
@@ -113,28 +113,28 @@ pub record PeerIn (s : Sides) : Type 0 where
   pub up : s.theirs.state ≡ Up
   pub opened : s.theirs.core.is_open ≡ true
 
-pub peer_open : (asks answers : Offer) (role : Role) (s : Sides) → TwoEnds asks answers role s → s.mine.state ≡ Up → least role ≤ length (heard s.mine.turns) → PeerIn s
+pub peer_open : (asks answers : Offer) (role : Role) (s : Sides) → TwoEnds asks answers role s → s.mine.state ≡ Up → least role ≤ length (heard s.mine.utterances) → PeerIn s
 peer_open asks answers role s two_ends up many = by_state s.theirs.state refl
   where
-    hears : HeardFrom s s.mine.turns
+    hears : HeardFrom s s.mine.utterances
     hears = hears_now role s two_ends.meets.converse up
 
-    some : 6 ≤ length (said s.theirs.turns)
-    some = omega (arith, many, least_six role, longer (heard s.mine.turns) hears.front.0 (said s.theirs.turns) hears.front.1)
+    some : 6 ≤ length (said s.theirs.utterances)
+    some = omega (arith, many, least_six role, longer (heard s.mine.utterances) hears.front.0 (said s.theirs.utterances) hears.front.1)
 
     all : s.theirs.state ≡ Up → is_up s.theirs.core.link ≡ true → PeerIn s
     all peer_up link =
         let d = deal asks answers two_ends.meets.handshakes.sid in
         let at = theirs_at asks answers role s two_ends peer_up link in
         elim (last_or at.place) [
-          | inl last ↦ record { up = peer_up; opened = place_open true d (other role) s.theirs.core s.theirs.turns two_ends.theirs at last }
+          | inl last ↦ record { up = peer_up; opened = place_open true d (other role) s.theirs.core s.theirs.utterances two_ends.theirs at last }
           | inr far ↦ (
               absurd (omega (
                 arith,
                 many,
                 more_than role,
-                longer (heard s.mine.turns) hears.front.0 (said s.theirs.turns) hears.front.1,
-                whole (said_at true d (other role) at.place) at.mine (said s.theirs.turns) at.said_is ((at.only far).0),
+                longer (heard s.mine.utterances) hears.front.0 (said s.theirs.utterances) hears.front.1,
+                whole (said_at true d (other role) at.place) at.mine (said s.theirs.utterances) at.said_is ((at.only far).0),
                 few_said d (other role) at.place far,
               )))
         ]
@@ -143,12 +143,12 @@ peer_open asks answers role s two_ends up many = by_state s.theirs.state refl
     by_link peer_up b link = grind (arith, some, all, none_long)
 
     never : (s.theirs.state ≡ Up → ⊥) → PeerIn s
-    never not = absurd (omega (arith, many, least_six role, none_long (heard s.mine.turns) (hears.none not)))
+    never not = absurd (omega (arith, many, least_six role, none_long (heard s.mine.utterances) (hears.none not)))
 
     by_state : (x : ChannelState) → s.theirs.state ≡ x → PeerIn s
     by_state Up is = by_link is (is_up s.theirs.core.link) refl
     by_state x is = never (λ now. let wrong : x ≡ Up = sym is ∙ now in cc wrong)
 
 -- an end in session has a peer that is up
-pub peer_is_up : (asks answers : Offer) (role : Role) (s : Sides) → TwoEnds asks answers role s → s.mine.state ≡ Up → 1 ≤ length (heard s.mine.turns) → s.theirs.state ≡ Up
+pub peer_is_up : (asks answers : Offer) (role : Role) (s : Sides) → TwoEnds asks answers role s → s.mine.state ≡ Up → 1 ≤ length (heard s.mine.utterances) → s.theirs.state ≡ Up
 peer_is_up asks answers role s two_ends up some = grind (arith, hears_now, none_long)

@@ -17,7 +17,7 @@ use Rattle.vio_tag.specs.declared.cause.Cause.{Cause}
 use Rattle.vio_tag.specs.declared.message.Message.{Message}
 use Rattle.vio_tag.specs.declared.message.MsgBody.{MsgBody}
 use Rattle.vio_tag.specs.declared.message.TagFault.{TagFault}
-use Rattle.channel_model.specs.TranscriptLog.{TranscriptLog, transcript_of}
+use Rattle.channel_laws.specs.TranscriptLog.{TranscriptLog, transcript_of}
 use Rattle.channel_laws.proofs.CoreLaws.{stands_a, stands_b}
 use Rattle.channel_laws.proofs.EndCases.{stays_risen}
 use Rattle.channel_laws.proofs.EndStanding.{open_up, opened_phase}

@@ -12,7 +12,7 @@ use Rattle.ldc_queue.specs.declared.end.End.TheVariants.{A, B}
 use Rattle.ldc_queue.specs.Transcript.{Utterance}
 use Rattle.runs.specs.Lawful.{log_append, log_of, run_lawful}
 use Rattle.runs.specs.Run.{Run, run_push}
-use Rattle.channel_model.specs.WireLog.{WireLog}
+use Rattle.channel_laws.specs.WireLog.{WireLog}
 use Rattle.channel_laws.proofs.Lifting.{EndsAll}
 use Rattle.channel_laws.specs.LaneCore.{LaneCore, transcript_behind}
 use Rattle.port_model.proofs.Moving.{before_keeps}

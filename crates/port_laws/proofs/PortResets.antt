@@ -17,12 +17,12 @@ use Rattle.vio_tag.specs.declared.message.MsgBody.{MsgBody}
 use Rattle.vio_tag.specs.declared.message.MsgBody.TheVariants.{DringData, Mcast}
 use Rattle.vio_tag.specs.Fault.{first_fault}
 use Rattle.vio_tag.specs.Spelling.{SpellsBody, envelope_at, envelope_code}
-use Rattle.channel_model.specs.Ranges.{is_other}
+use Rattle.channel_laws.specs.Ranges.{is_other}
 use Rattle.dring.specs.Slots.{range_length}
-use Rattle.channel_model.specs.ResetSays.{IsOther, ResetSays, WireResetAt}
-use Rattle.channel_model.specs.TranscriptLog.{TranscriptLog, transcript_of}
-use Rattle.channel_model.specs.WireAt.{GapOf, WireGapAt}
-use Rattle.channel_model.specs.WireEvent.{WireEvent}
+use Rattle.channel_laws.specs.ResetSays.{IsOther, ResetSays, WireResetAt}
+use Rattle.channel_laws.specs.TranscriptLog.{TranscriptLog, transcript_of}
+use Rattle.channel_laws.specs.WireAt.{GapOf, WireGapAt}
+use Rattle.channel_laws.specs.WireEvent.{WireEvent}
 use Rattle.channel_laws.proofs.CausesSaid.{cause_said}
 use Rattle.channel_laws.proofs.LinkResets.{other_number}
 use Rattle.channel_laws.proofs.Resets.{reset_says}

@@ -2,8 +2,8 @@
 use Rattle.std.proofs.Common.{◌≡◌, ℕ, Option, Some, None, List, [], ◌∷◌, ◌++◌, refl, sym, subst, ap, ◌∙◌, arith}
 use Rattle.runs.specs.Lawful.{Lawful, log_append, log_of, run_lawful}
 use Rattle.runs.specs.Run.{Run, run_keeps, run_push}
-use Rattle.channel_model.specs.TranscriptLog.{TranscriptLog}
-use Rattle.channel_model.specs.WireEvent.{WireEvent}
+use Rattle.channel_laws.specs.TranscriptLog.{TranscriptLog}
+use Rattle.channel_laws.specs.WireEvent.{WireEvent}
 use Rattle.channel_laws.specs.CoreLog as core
 use Rattle.channel_laws.specs.LaneCore.{CoreEvent, CoreStep, transcript_after, transcript_behind}
 use Rattle.port_model.proofs.Moving.{before_keeps}

@@ -7,9 +7,9 @@ use Rattle.ldc_queue.specs.declared.end.End.TheVariants.{A, B}
 use Rattle.ldc_queue.specs.OneStream.{IsFront}
 use Rattle.ldc_queue.specs.Wire.{peer_of}
 use Rattle.vio_handshake.specs.declared.session.Offer.{Offer}
-use Rattle.channel_model.specs.Sayings.{heard, said}
-use Rattle.channel_model.specs.TranscriptLog.{TranscriptLog, transcript_of}
-use Rattle.channel_model.specs.WireAt.{IsUp}
+use Rattle.channel_laws.specs.Sayings.{heard, said}
+use Rattle.channel_laws.specs.TranscriptLog.{TranscriptLog, transcript_of}
+use Rattle.channel_laws.specs.WireAt.{IsUp}
 use Rattle.channel_laws.proofs.ConversingRuns.{messages_of}
 use Rattle.channel_laws.proofs.HandshakesPlaced.{Meets, meets_keep}
 use Rattle.channel_laws.proofs.Sessions.{meets_knows, one_session}

@@ -12,9 +12,9 @@ use Rattle.ldc_queue.specs.Messages.{is_empty}
 use Rattle.ldc_queue.specs.Transcript.{Utterance}
 use Rattle.vio_handshake.specs.declared.handshake.Handshake.{Handshake}
 use Rattle.vio_handshake.specs.Rules.{opens_by_put}
-use Rattle.channel_model.specs.EndPuts.{handshake_behind}
-use Rattle.channel_model.specs.Messages.{ended_by, whole_with}
-use Rattle.channel_model.specs.Sayings.{half_said}
+use Rattle.channel_laws.specs.EndPuts.{handshake_behind}
+use Rattle.channel_laws.specs.Messages.{ended_by, whole_with}
+use Rattle.channel_laws.specs.Sayings.{half_said}
 use Rattle.channel_laws.proofs.EndCases.{PutControl, PutHandshake, PutMore, PutOwn, PutReady, PutWhat, put_down}
 use Rattle.channel_laws.proofs.EndStanding.{holds_some, last_none}
 use Rattle.channel_laws.proofs.LinkCases.{behind_part}

@@ -13,8 +13,8 @@ use Rattle.vio_tag.specs.declared.message.Message.{Message}
 use Rattle.vio_tag.specs.declared.message.MsgBody.{MsgBody}
 use Rattle.vio_tag.specs.declared.message.MsgBody.TheVariants.{DringData, Mcast}
 use Rattle.vio_tag.specs.Spelling.{SpellsMessage, envelope_at, subtype_at}
-use Rattle.channel_model.specs.Messages.{end_of, seq_of, start_of}
-use Rattle.channel_model.specs.Ranges.{is_other, wrapped}
+use Rattle.channel_laws.specs.Messages.{end_of, seq_of, start_of}
+use Rattle.channel_laws.specs.Ranges.{is_other, wrapped}
 use Rattle.channel_laws.specs.EndStep.{IsOfSession}
 use Rattle.channel_laws.specs.Sides.{other}
 use Rattle.port_model.specs.EndLog.{SessionLog, range_of}

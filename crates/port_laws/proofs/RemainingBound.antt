@@ -7,7 +7,7 @@ use Rattle.ldc_queue.specs.declared.end.ChannelState.{ChannelState}
 use Rattle.ldc_queue.specs.declared.end.ChannelState.TheVariants.{Up}
 use Rattle.runs.specs.Lawful.{log_of}
 use Rattle.runs.specs.Run.{Run}
-use Rattle.channel_model.specs.WireLog.{WireLog}
+use Rattle.channel_laws.specs.WireLog.{WireLog}
 use Rattle.port_model.specs.NetEndState.{Activity, NetEndState, NetSession, unseen_in}
 use Rattle.port_model.specs.NetLaneState.{IsNetShape, NetShape}
 use Rattle.port_model.specs.PortLog.{PortLog, after, no_events}

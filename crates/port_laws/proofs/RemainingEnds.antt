@@ -12,8 +12,8 @@ use Rattle.vio_handshake.specs.declared.handshake.Handshake.{Handshake}
 use Rattle.vio_handshake.specs.declared.handshake.Phase.{Phase}
 use Rattle.vio_handshake.specs.Rules.{opens_by_put}
 use Rattle.vio_tag.specs.declared.message.Message.{Message}
-use Rattle.channel_model.specs.EndPuts.{PutKind, handshake_behind, put_opens}
-use Rattle.channel_model.specs.Seeing.{Seen}
+use Rattle.channel_laws.specs.EndPuts.{PutKind, handshake_behind, put_opens}
+use Rattle.channel_laws.specs.Seeing.{Seen}
 use Rattle.cookie_copy.specs.Reach.{Reach}
 use Rattle.channel_laws.proofs.EndStanding.{held_stands}
 use Rattle.channel_laws.proofs.PacketsLeft.{held_packets, loud_none, owing_none, own_most, says_packets}

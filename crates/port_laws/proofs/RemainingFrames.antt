@@ -14,7 +14,7 @@ use Rattle.runs.specs.Lawful.{log_of}
 use Rattle.runs.specs.Run.{Run}
 use Rattle.vio_bytes.specs.Place.{put_at}
 use Rattle.vnet_msg.specs.Frames.{header}
-use Rattle.channel_model.specs.WireLog.{WireLog}
+use Rattle.channel_laws.specs.WireLog.{WireLog}
 use Rattle.channel_laws.specs.EndCore.{EndCore}
 use Rattle.port_model.proofs.Ruling.{says_of}
 use Rattle.port_model.specs.NetEndRule.{Fetches}

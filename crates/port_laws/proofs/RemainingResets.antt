@@ -10,8 +10,8 @@ use Rattle.ldc_queue.specs.Wire.{state_of, upset}
 use Rattle.runs.specs.Lawful.{log_of}
 use Rattle.runs.specs.Run.{Run}
 use Rattle.vio_tag.specs.declared.cause.Cause.{Cause}
-use Rattle.channel_model.specs.WireAt.{IsUp}
-use Rattle.channel_model.specs.WireLog.{WireLog}
+use Rattle.channel_laws.specs.WireAt.{IsUp}
+use Rattle.channel_laws.specs.WireLog.{WireLog}
 use Rattle.port_model.proofs.FramesKept.{held_in}
 use Rattle.port_model.specs.NetEndState.{NetEndState, NetSession, joined_net_end, unseen}
 use Rattle.port_model.specs.NetEndStep.{Blocked, Frame, Idle, NetAnswer, Reset, Took}

@@ -12,12 +12,12 @@ use Rattle.ldc_queue.specs.Transcript.{Utterance}
 use Rattle.ldc_queue.specs.Wire.{peer_behind, peer_of, queue_behind, state_of}
 use Rattle.runs.specs.Lawful.{log_of}
 use Rattle.runs.specs.Run.{Run}
-use Rattle.channel_model.specs.Seeing.{Seen}
-use Rattle.channel_model.specs.TranscriptLog.{transcript_of}
-use Rattle.channel_model.specs.WireAt.{IsUp}
-use Rattle.channel_model.specs.WireEvent.{WireEvent}
-use Rattle.channel_model.specs.WireEvent as on_channel
-use Rattle.channel_model.specs.WireLog.{lossy_behind, wire_moved}
+use Rattle.channel_laws.specs.Seeing.{Seen}
+use Rattle.channel_laws.specs.TranscriptLog.{transcript_of}
+use Rattle.channel_laws.specs.WireAt.{IsUp}
+use Rattle.channel_laws.specs.WireEvent.{WireEvent}
+use Rattle.channel_laws.specs.WireEvent as on_channel
+use Rattle.channel_laws.specs.WireLog.{lossy_behind, wire_moved}
 use Rattle.channel_laws.specs.PacketsLeft.{all_of, left_in}
 use Rattle.channel_laws.specs.Standing.{EndStands}
 use Rattle.port_model.proofs.FramesKept.{held_in}

@@ -14,8 +14,8 @@ use Rattle.runs.specs.Lawful.{log_of}
 use Rattle.runs.specs.Run.{Run}
 use Rattle.vio_handshake.specs.declared.handshake.Handshake.{Handshake}
 use Rattle.vio_tag.specs.declared.message.MsgBody.{MsgBody}
-use Rattle.channel_model.specs.TranscriptLog.{transcript_of}
-use Rattle.channel_model.specs.WireAt.{IsFirstOn, IsUp}
+use Rattle.channel_laws.specs.TranscriptLog.{transcript_of}
+use Rattle.channel_laws.specs.WireAt.{IsFirstOn, IsUp}
 use Rattle.channel_laws.proofs.PacketsTaken.{unforged_took}
 use Rattle.channel_laws.specs.LaneCore.{end_of}
 use Rattle.channel_laws.specs.PacketsLeft.{packets_left}

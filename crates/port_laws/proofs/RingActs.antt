@@ -17,11 +17,11 @@ use Rattle.ldc_queue.specs.Wire.{peer_of, state_of}
 use Rattle.vio_handshake.specs.declared.session.Offer.{Offer}
 use Rattle.vio_handshake.specs.Pairing.{KnowsBoth, KnowsRing}
 use Rattle.vnet_msg.specs.Frames.{IsFrame, memory_pages}
-use Rattle.channel_model.specs.OwnMemory.{own_table}
-use Rattle.channel_model.specs.Seeing.{Seen}
-use Rattle.channel_model.specs.TranscriptLog.{transcript_of}
-use Rattle.channel_model.specs.WireAt.{IsUp}
-use Rattle.channel_model.specs.WireLog.{WireLog}
+use Rattle.channel_laws.specs.OwnMemory.{own_table}
+use Rattle.channel_laws.specs.Seeing.{Seen}
+use Rattle.channel_laws.specs.TranscriptLog.{transcript_of}
+use Rattle.channel_laws.specs.WireAt.{IsUp}
+use Rattle.channel_laws.specs.WireLog.{WireLog}
 use Rattle.channel_laws.proofs.EndResting.{held_handshake}
 use Rattle.channel_laws.specs.LaneCore.{end_of}
 use Rattle.port_model.proofs.Refuting.{false_true, none_some, true_false}

@@ -8,10 +8,10 @@ use Rattle.ldc_queue.specs.declared.end.ChannelState.TheVariants.{Up}
 use Rattle.ldc_queue.specs.declared.end.End.{End}
 use Rattle.ldc_queue.specs.Transcript.{Heard, Said, Utterance}
 use Rattle.ldc_queue.specs.Wire.{peer_behind, peer_of, state_of}
-use Rattle.channel_model.specs.Messages.{ended_by, opening_sid}
-use Rattle.channel_model.specs.Sayings.{half_heard, half_said, heard}
-use Rattle.channel_model.specs.Seeing.{Seen}
-use Rattle.channel_model.specs.TranscriptLog.{TranscriptLog, transcript_of}
+use Rattle.channel_laws.specs.Messages.{ended_by, opening_sid}
+use Rattle.channel_laws.specs.Sayings.{half_heard, half_said, heard}
+use Rattle.channel_laws.specs.Seeing.{Seen}
+use Rattle.channel_laws.specs.TranscriptLog.{TranscriptLog, transcript_of}
 use Rattle.port_model.proofs.Ruling.{says_of}
 use Rattle.port_model.specs.EndLog.{EndLog, SessionLog, change, heard_in, heard_kind, hears_log, more_published, more_taken as one_taken, opens_log, said_in, said_kind, says_log}
 use Rattle.port_model.specs.NetEndState.{NetEndState, NetSession}

@@ -10,9 +10,9 @@ use Rattle.ldc_queue.specs.Transcript.{Utterance}
 use Rattle.vio_tag.specs.declared.message.Message.{Message}
 use Rattle.vio_tag.specs.declared.message.MsgBody.{MsgBody}
 use Rattle.vnet_msg.specs.Frames.{IsFrame}
-use Rattle.channel_model.specs.EndPuts.{handshake_behind}
+use Rattle.channel_laws.specs.EndPuts.{handshake_behind}
 use Rattle.dring.specs.Slots.{range_length}
-use Rattle.channel_model.specs.Seeing.{Seen}
+use Rattle.channel_laws.specs.Seeing.{Seen}
 use Rattle.cookie_copy.specs.Reach.{Reach}
 use Rattle.channel_laws.specs.Standing.{EndStands}
 use Rattle.port_model.proofs.Refuting.{none_some, of_some}

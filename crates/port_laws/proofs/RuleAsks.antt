@@ -27,11 +27,11 @@ use Rattle.vio_tag.specs.declared.message.TagFault.{TagFault}
 use Rattle.vio_tag.specs.Decoding.{Decodes}
 use Rattle.vio_tag.specs.Form.{HasForm}
 use Rattle.vio_tag.specs.Spelling.{SpellsBody, SpellsMessage, envelope_code}
-use Rattle.channel_model.specs.Messages.{end_of, ended_by, is_range, range_if, range_in}
-use Rattle.channel_model.specs.Ranges.{is_other, wrapped}
-use Rattle.channel_model.specs.Sayings.{count_heard, half_heard}
-use Rattle.channel_model.specs.TranscriptLog.{transcript_of}
-use Rattle.channel_model.specs.WireAt.{counts_next}
+use Rattle.channel_laws.specs.Messages.{end_of, ended_by, is_range, range_if, range_in}
+use Rattle.channel_laws.specs.Ranges.{is_other, wrapped}
+use Rattle.channel_laws.specs.Sayings.{count_heard, half_heard}
+use Rattle.channel_laws.specs.TranscriptLog.{transcript_of}
+use Rattle.channel_laws.specs.WireAt.{counts_next}
 use Rattle.channel_laws.proofs.Resets.{reset_says}
 use Rattle.channel_laws.specs.LaneCore.{CoreEvent, CoreStep, end_of as core_of, transcript_behind}
 use Rattle.channel_laws.specs.PacketCauses.{body_cause, decoded_cause, fault_cause, message_cause, mode_cause, names_mode, number_cause, packet_cause, part_cause}

@@ -3,9 +3,9 @@ use Rattle.std.proofs.Common.{◌≡◌, ℕ, Option, Some, List, arith}
 use Rattle.ldc_link.specs.declared.phase.Role.TheVariants.{Responder}
 use Rattle.runs.specs.Lawful.{Lawful, log_of}
 use Rattle.runs.specs.Run.{Run}
-use Rattle.channel_model.specs.Messages.{ended_by}
-use Rattle.channel_model.specs.Sayings.{half_said}
-use Rattle.channel_model.specs.TranscriptLog.{transcript_of}
+use Rattle.channel_laws.specs.Messages.{ended_by}
+use Rattle.channel_laws.specs.Sayings.{half_said}
+use Rattle.channel_laws.specs.TranscriptLog.{transcript_of}
 use Rattle.port_model.specs.EndLog.{EndLog, SessionLog}
 use Rattle.port_model.specs.FrameLaws.{GroupsSaidAt, IfMessage, SpeaksOfGroups}
 use Rattle.port_model.specs.NetEndState.{NetEndState}

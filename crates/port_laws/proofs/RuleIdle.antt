@@ -11,8 +11,8 @@ use Rattle.ldc_queue.specs.declared.end.End.TheVariants.{A, B}
 use Rattle.ldc_queue.specs.Wire.{waiting_for}
 use Rattle.runs.specs.Lawful.{Lawful}
 use Rattle.runs.specs.Run.{Run}
-use Rattle.channel_model.specs.Seeing.{Seen}
-use Rattle.channel_model.specs.WireLog.{WireLog}
+use Rattle.channel_laws.specs.Seeing.{Seen}
+use Rattle.channel_laws.specs.WireLog.{WireLog}
 use Rattle.port_model.proofs.Moving.{before_keeps}
 use Rattle.port_model.proofs.Refuting.{false_true, none_some, true_false}
 use Rattle.port_model.proofs.Ruling.{says_of}

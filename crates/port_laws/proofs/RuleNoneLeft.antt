@@ -12,10 +12,10 @@ use Rattle.ldc_queue.specs.OneStream.{OneWay, live}
 use Rattle.ldc_queue.specs.Transcript.{numbered_heard, numbered_said}
 use Rattle.runs.specs.Lawful.{Lawful}
 use Rattle.runs.specs.Run.{Run}
-use Rattle.channel_model.proofs.SameSayings.{heard_is, said_is}
-use Rattle.channel_model.specs.Sayings.{heard, said}
-use Rattle.channel_model.specs.TranscriptLog.{transcript_of}
-use Rattle.channel_model.specs.WireLog.{WireLog}
+use Rattle.channel_laws.proofs.SameSayings.{heard_is, said_is}
+use Rattle.channel_laws.specs.Sayings.{heard, said}
+use Rattle.channel_laws.specs.TranscriptLog.{transcript_of}
+use Rattle.channel_laws.specs.WireLog.{WireLog}
 use Rattle.channel_laws.specs.Conversing.{Converse}
 use Rattle.channel_laws.specs.Sides.{Sides}
 use Rattle.port_model.proofs.Moving.{before_keeps}
@@ -53,16 +53,16 @@ one_way : (x y : ChannelState) (put took waiting : List (List ℕ)) (lost : ℕ)
 one_way x y put took waiting lost way whole none up other = grind (arith, none_of, up_live, append-nil)
 
 pub record HeardAll (s : Sides) : Type 0 where
-  pub mine : said s.mine.turns ≡ heard s.theirs.turns
-  pub theirs : said s.theirs.turns ≡ heard s.mine.turns
+  pub mine : said s.mine.utterances ≡ heard s.theirs.utterances
+  pub theirs : said s.theirs.utterances ≡ heard s.mine.utterances
 
 pub heard_all : (s : Sides) → Converse Initiator s → s.lossy ≡ false → s.mine.state ≡ Up → s.theirs.state ≡ Up → s.mine.waiting ≡ [] → s.theirs.waiting ≡ [] → HeardAll s
 heard_all s c whole up other none other_none =
     let lost = c.whole whole in
-    let asked : numbered_said s.mine.turns ≡ numbered_heard s.theirs.turns =
-    one_way s.mine.state s.theirs.state (numbered_said s.mine.turns) (numbered_heard s.theirs.turns) s.theirs.waiting c.lost_theirs c.stream.to_b lost.1 other_none up other in
-    let answered : numbered_said s.theirs.turns ≡ numbered_heard s.mine.turns =
-    one_way s.theirs.state s.mine.state (numbered_said s.theirs.turns) (numbered_heard s.mine.turns) s.mine.waiting c.lost_mine c.stream.to_a lost.0 none other up in
+    let asked : numbered_said s.mine.utterances ≡ numbered_heard s.theirs.utterances =
+    one_way s.mine.state s.theirs.state (numbered_said s.mine.utterances) (numbered_heard s.theirs.utterances) s.theirs.waiting c.lost_theirs c.stream.to_b lost.1 other_none up other in
+    let answered : numbered_said s.theirs.utterances ≡ numbered_heard s.mine.utterances =
+    one_way s.theirs.state s.mine.state (numbered_said s.theirs.utterances) (numbered_heard s.mine.utterances) s.mine.waiting c.lost_mine c.stream.to_a lost.0 none other up in
     grind (arith, said_is, heard_is)
 
 nothing_goes : (told taken going : List (List ℕ)) → told ≡ taken ++ going → told ≡ taken → going ≡ []

@@ -8,8 +8,8 @@ use Rattle.ldc_queue.specs.declared.end.End.TheVariants.{A, B}
 use Rattle.ldc_queue.specs.Transcript.{Utterance}
 use Rattle.runs.specs.Lawful.{Lawful}
 use Rattle.runs.specs.Run.{Run}
-use Rattle.channel_model.specs.Sayings.{heard, said}
-use Rattle.channel_model.specs.WireLog.{WireLog}
+use Rattle.channel_laws.specs.Sayings.{heard, said}
+use Rattle.channel_laws.specs.WireLog.{WireLog}
 use Rattle.port_model.proofs.Refuting.{true_false}
 use Rattle.port_model.proofs.Ruling.{says_of}
 use Rattle.port_model.specs.FrameLaws.{InSession, ToldAll}

@@ -9,9 +9,9 @@ use Rattle.ldc_queue.specs.Wire.{state_of}
 use Rattle.runs.specs.Lawful.{Lawful}
 use Rattle.runs.specs.Run.{Run}
 use Rattle.vio_tag.specs.declared.cause.Cause.{Cause}
-use Rattle.channel_model.specs.TranscriptLog.{transcript_of}
-use Rattle.channel_model.specs.WireAt.{IsUp}
-use Rattle.channel_model.specs.WireLog.{WireLog}
+use Rattle.channel_laws.specs.TranscriptLog.{transcript_of}
+use Rattle.channel_laws.specs.WireAt.{IsUp}
+use Rattle.channel_laws.specs.WireLog.{WireLog}
 use Rattle.port_model.proofs.Refuting.{false_true, true_false}
 use Rattle.port_model.proofs.Ruling.{says_of}
 use Rattle.port_model.specs.EndLog.{EndLog, SessionLog, said_in, said_kind}

@@ -7,7 +7,7 @@ use Rattle.ldc_queue.specs.declared.end.End.{End}
 use Rattle.ldc_queue.specs.Wire.{peer_of, state_of}
 use Rattle.runs.specs.Lawful.{Lawful}
 use Rattle.runs.specs.Run.{Run}
-use Rattle.channel_model.specs.TranscriptLog.{transcript_of}
+use Rattle.channel_laws.specs.TranscriptLog.{transcript_of}
 use Rattle.vio_tag.specs.declared.cause.Cause.{Cause}
 use Rattle.vnet_msg.specs.Frames.{memory_pages}
 use Rattle.port_model.proofs.Refuting.{none_some, true_false}

@@ -6,8 +6,8 @@ use Rattle.ldc_queue.specs.Wire.{peer_of, waiting_for}
 use Rattle.runs.specs.Lawful.{Lawful, log_of}
 use Rattle.runs.specs.Run.{Run}
 use Rattle.vnet_msg.specs.Frames.{memory_pages}
-use Rattle.channel_model.specs.WireAt.{WireAnswersAt, WireTableAt}
-use Rattle.channel_model.specs.WireLog.{WireLog}
+use Rattle.channel_laws.specs.WireAt.{WireAnswersAt, WireTableAt}
+use Rattle.channel_laws.specs.WireLog.{WireLog}
 use Rattle.channel_laws.proofs.Sessions.{converse_knows}
 use Rattle.channel_laws.specs.CoreLog as core
 use Rattle.channel_laws.specs.LaneCore.{CoreStands}

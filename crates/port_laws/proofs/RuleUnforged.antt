@@ -9,8 +9,8 @@ use Rattle.ldc_queue.specs.declared.end.End.TheVariants.{A, B}
 use Rattle.ldc_queue.specs.Wire.{peer_of, state_of}
 use Rattle.runs.specs.Lawful.{Lawful}
 use Rattle.runs.specs.Run.{Run}
-use Rattle.channel_model.specs.TranscriptLog.{transcript_of}
-use Rattle.channel_model.specs.WireAt.{IsUp}
+use Rattle.channel_laws.specs.TranscriptLog.{transcript_of}
+use Rattle.channel_laws.specs.WireAt.{IsUp}
 use Rattle.vnet_msg.specs.Frames.{memory_pages}
 use Rattle.port_model.proofs.Refuting.{true_false}
 use Rattle.port_model.proofs.Ruling.{says_of}

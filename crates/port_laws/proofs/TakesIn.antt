@@ -17,7 +17,7 @@ use Rattle.vio_tag.specs.declared.message.Message.{Message}
 use Rattle.vio_tag.specs.declared.message.MsgBody.{MsgBody}
 use Rattle.vio_tag.specs.declared.message.MsgBody.TheVariants.{Mcast}
 use Rattle.vio_tag.specs.Spelling.{SpellsBody, SpellsMessage, addresses_at, envelope_at, envelope_code}
-use Rattle.channel_model.specs.Sayings.{heard, said}
+use Rattle.channel_laws.specs.Sayings.{heard, said}
 use Rattle.channel_laws.proofs.HandshakePlaces.{IsOwn, deal}
 use Rattle.channel_laws.proofs.HandshakesPlaced.{envelope_reads, next_own, own_code}
 use Rattle.channel_laws.specs.EndStep.{IsOfSession}
@@ -36,7 +36,7 @@ use Rattle.port_model.proofs.Refuting.{true_false}
 
 -- THE NEXT MESSAGE is one of the session, and is read as that
 pub next_is_own : (asks answers : Offer) (role : Role) (s : Sides) (bytes : List ℕ) → (two_ends : TwoEnds asks answers role s) → s.mine.state ≡ Up → s.mine.core.is_open ≡ true → s.theirs.state ≡ Up
-    → IsFront (heard s.mine.turns ++ bytes ∷ []) (said s.theirs.turns) → IsOwn (deal asks answers two_ends.meets.handshakes.sid) bytes
+    → IsFront (heard s.mine.utterances ++ bytes ∷ []) (said s.theirs.utterances) → IsOwn (deal asks answers two_ends.meets.handshakes.sid) bytes
 next_is_own asks answers role s bytes two_ends up opened other_up front =
     next_own asks answers role s bytes (record { mine = two_ends.mine; theirs = two_ends.theirs }) two_ends.meets.handshakes up opened other_up front
 
@@ -44,7 +44,7 @@ fitting_long : (role : Role) (sid : ℕ) (bytes : List ℕ) → MessageFits role
 fitting_long role sid bytes given given_2 = grind arith
 
 pub next_read : (asks answers : Offer) (role r : Role) (s : Sides) (bytes : List ℕ) (sid : ℕ) → (two_ends : TwoEnds asks answers role s) → s.mine.state ≡ Up → s.mine.core.is_open ≡ true → s.theirs.state ≡ Up
-    → IsFront (heard s.mine.turns ++ bytes ∷ []) (said s.theirs.turns) → MessageFits r sid bytes → OwnRead bytes two_ends.meets.handshakes.sid
+    → IsFront (heard s.mine.utterances ++ bytes ∷ []) (said s.theirs.utterances) → MessageFits r sid bytes → OwnRead bytes two_ends.meets.handshakes.sid
 next_read asks answers role r s bytes sid two_ends up opened other_up front fits =
     let by_code : (code : ℕ) → envelope_at bytes ≡ code → (code ≡ 0x0042) ⊎ (code ≡ 0x0101) → (envelope_at bytes ≡ 0x0042) ⊎ (envelope_at bytes ≡ 0x0101) = λ code is given.
     grind arith in

@@ -12,8 +12,8 @@ use Rattle.vio_handshake.specs.Rules.{HandshakeTake, handshake_take}
 use Rattle.vio_tag.specs.declared.message.Message.{Message}
 use Rattle.vio_tag.specs.declared.message.TagFault.{TagFault}
 use Rattle.vio_tag.specs.Decoding.{Decodes}
-use Rattle.channel_model.specs.Messages.{ended_by, whole_with}
-use Rattle.channel_model.specs.Sayings.{half_heard, heard, whole_by, whole_past}
+use Rattle.channel_laws.specs.Messages.{ended_by, whole_with}
+use Rattle.channel_laws.specs.Sayings.{half_heard, heard, whole_by, whole_past}
 use Rattle.channel_laws.proofs.EndStanding.{up_empty}
 use Rattle.channel_laws.proofs.LinkCases.{LinkHeard, link_heard}
 use Rattle.channel_laws.proofs.UtteranceCases.{HearsOn, hears_on}

@@ -3,8 +3,8 @@ use Rattle.std.proofs.Common.{◌≡◌, ℕ, ◌+◌, ◌≤◌, true, false, O
 use Rattle.std.specs.Prelude.{⊤}
 use Rattle.ldc_queue.specs.OneStream.{IsFront}
 use Rattle.ldc_queue.specs.Transcript.{Heard, Said, Utterance}
-use Rattle.channel_model.specs.Messages.{ended_by, opening_sid}
-use Rattle.channel_model.specs.Sayings.{half_heard, half_said, heard, said}
+use Rattle.channel_laws.specs.Messages.{ended_by, opening_sid}
+use Rattle.channel_laws.specs.Sayings.{half_heard, half_said, heard, said}
 use Rattle.port_model.specs.EndLog.{EndLog, SessionLog, change, heard_in, more_published, more_taken, opened_log, said_in}
 use Rattle.port_model.specs.NetEndStep.{Blocked, Frame, Idle, Joined, NetAnswer, Published, Reset, Sent, Took}
 use Rattle.port_model.specs.PortLog.{after_answer}

@@ -8,7 +8,7 @@ use Rattle.ldc_queue.specs.declared.end.ChannelState.TheVariants.{Up}
 use Rattle.vio_handshake.specs.declared.session.Offer.{Offer}
 use Rattle.vio_handshake.proofs.Places.{AllSaid, AttributesAnswered, Deal, Place, owner}
 use Rattle.vio_tag.specs.Spelling.{canonical, envelope_at}
-use Rattle.channel_model.specs.Sayings.{heard, said}
+use Rattle.channel_laws.specs.Sayings.{heard, said}
 use Rattle.channel_laws.proofs.EndStanding.{open_up}
 use Rattle.channel_laws.proofs.HandshakePlaces.{deal, open_place, place_open}
 use Rattle.channel_laws.proofs.Script.{before, bytes_at, is_role, last_or, one_if, said_at, said_by}
@@ -48,33 +48,33 @@ pub record BothPlain (said_messages heard_messages : List (List ℕ)) : Type 0 w
   pub said_plain : Plain said_messages
   pub heard_plain : Plain heard_messages
 
-pub closed_plain : (asks answers : Offer) (role : Role) (s : Sides) → TwoEnds asks answers role s → s.mine.state ≡ Up → s.mine.core.is_open ≡ false → BothPlain (said s.mine.turns) (heard s.mine.turns)
+pub closed_plain : (asks answers : Offer) (role : Role) (s : Sides) → TwoEnds asks answers role s → s.mine.state ≡ Up → s.mine.core.is_open ≡ false → BothPlain (said s.mine.utterances) (heard s.mine.utterances)
 closed_plain asks answers role s two_ends up shut = by_link (is_up s.mine.core.link) refl
   where
-    by_link : (b : Bool) → is_up s.mine.core.link ≡ b → BothPlain (said s.mine.turns) (heard s.mine.turns)
+    by_link : (b : Bool) → is_up s.mine.core.link ≡ b → BothPlain (said s.mine.utterances) (heard s.mine.utterances)
     by_link false down = grind arith
     by_link true link =
         let d = deal asks answers two_ends.meets.handshakes.sid in
         let at = mine_at asks answers role s two_ends up link in
         elim (last_or at.place) [
-          | inl last ↦ true_false (sym (place_open true d role s.mine.core s.mine.turns two_ends.mine at last) ∙ shut)
+          | inl last ↦ true_false (sym (place_open true d role s.mine.core s.mine.utterances two_ends.mine at last) ∙ shut)
           | inr far ↦ record {
-            said_plain = all_plain d role at.place at.mine (said s.mine.turns) at.said_is (at.only far).0;
-            heard_plain = all_plain d (other role) at.place at.theirs (heard s.mine.turns) at.heard_is (at.only far).1;
+            said_plain = all_plain d role at.place at.mine (said s.mine.utterances) at.said_is (at.only far).0;
+            heard_plain = all_plain d (other role) at.place at.theirs (heard s.mine.utterances) at.heard_is (at.only far).1;
           }
         ]
 
 -- AS IT OPENS, with six messages
-pub open_said : (asks answers : Offer) (role : Role) (s : Sides) → TwoEnds asks answers role s → s.mine.state ≡ Up → s.mine.core.is_open ≡ true → length (said s.mine.turns) ≤ 6 → Plain (said s.mine.turns)
+pub open_said : (asks answers : Offer) (role : Role) (s : Sides) → TwoEnds asks answers role s → s.mine.state ≡ Up → s.mine.core.is_open ≡ true → length (said s.mine.utterances) ≤ 6 → Plain (said s.mine.utterances)
 open_said asks answers role s two_ends up opened few =
     let d = deal asks answers two_ends.meets.handshakes.sid in
-    let at = mine_at asks answers role s two_ends up (open_up role s.mine.core s.mine.turns two_ends.mine opened) in
-    let last : at.place ≡ AllSaid = open_place true d role s.mine.core s.mine.turns two_ends.mine at opened in
-    all_plain d role at.place at.mine (said s.mine.turns) at.said_is (none_behind (said_at true d role at.place) at.mine (said s.mine.turns) at.said_is (six_said d role at.place last) few)
+    let at = mine_at asks answers role s two_ends up (open_up role s.mine.core s.mine.utterances two_ends.mine opened) in
+    let last : at.place ≡ AllSaid = open_place true d role s.mine.core s.mine.utterances two_ends.mine at opened in
+    all_plain d role at.place at.mine (said s.mine.utterances) at.said_is (none_behind (said_at true d role at.place) at.mine (said s.mine.utterances) at.said_is (six_said d role at.place last) few)
 
-pub open_heard : (asks answers : Offer) (role : Role) (s : Sides) → TwoEnds asks answers role s → s.mine.state ≡ Up → s.mine.core.is_open ≡ true → length (heard s.mine.turns) ≤ 6 → Plain (heard s.mine.turns)
+pub open_heard : (asks answers : Offer) (role : Role) (s : Sides) → TwoEnds asks answers role s → s.mine.state ≡ Up → s.mine.core.is_open ≡ true → length (heard s.mine.utterances) ≤ 6 → Plain (heard s.mine.utterances)
 open_heard asks answers role s two_ends up opened few =
     let d = deal asks answers two_ends.meets.handshakes.sid in
-    let at = mine_at asks answers role s two_ends up (open_up role s.mine.core s.mine.turns two_ends.mine opened) in
-    let last : at.place ≡ AllSaid = open_place true d role s.mine.core s.mine.turns two_ends.mine at opened in
+    let at = mine_at asks answers role s two_ends up (open_up role s.mine.core s.mine.utterances two_ends.mine opened) in
+    let last : at.place ≡ AllSaid = open_place true d role s.mine.core s.mine.utterances two_ends.mine at opened in
     all_plain d _ _ _ _ at.heard_is (none_behind _ _ _ at.heard_is (six_said d _ _ last) few)

@@ -5,9 +5,9 @@ use Rattle.ldc_queue.specs.declared.end.End.{End}
 use Rattle.ldc_queue.specs.Transcript.{Heard, Said}
 use Rattle.runs.specs.Lawful.{Lawful, log_of}
 use Rattle.runs.specs.Run.{Run}
-use Rattle.channel_model.specs.TranscriptLog.{TranscriptLog, hears, says, transcript_of}
-use Rattle.channel_model.specs.WireAt.{WireHeardAt, WireSaidAt}
-use Rattle.channel_model.specs.WireEvent.{WireEvent}
+use Rattle.channel_laws.specs.TranscriptLog.{TranscriptLog, hears, says, transcript_of}
+use Rattle.channel_laws.specs.WireAt.{WireHeardAt, WireSaidAt}
+use Rattle.channel_laws.specs.WireEvent.{WireEvent}
 use Rattle.channel_laws.proofs.Numbering.{heard_lawful, said_lawful}
 use Rattle.channel_laws.specs.CoreLog as core
 use Rattle.channel_laws.proofs.OpeningOrder.{opens_hearing, opens_saying}

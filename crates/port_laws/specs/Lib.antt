@@ -22,6 +22,6 @@ pub use Rattle.port_model.specs.NetEvent
 pub use Rattle.port_model.specs.NetLaneState
 pub use Rattle.port_model.specs.NetLaneStep
 pub use Rattle.port_model.specs.PortState
-pub use Rattle.channel_model.specs.WireLog
+pub use Rattle.channel_laws.specs.WireLog
 pub use Rattle.port_model.specs.FramesStand
 pub use Rattle.port_model.specs.RuleFacts

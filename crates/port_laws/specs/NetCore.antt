@@ -4,7 +4,7 @@ use Rattle.ldc_link.specs.declared.phase.Role.{Role}
 use Rattle.ldc_link.specs.declared.phase.Role.TheVariants.{Initiator, Responder}
 use Rattle.ldc_queue.specs.declared.end.ChannelState.{ChannelState}
 use Rattle.ldc_queue.specs.declared.end.ChannelState.TheVariants.{Down, Resetting, Up}
-use Rattle.channel_model.specs.WireEvent.{WireEvent}
+use Rattle.channel_laws.specs.WireEvent.{WireEvent}
 use Rattle.channel_laws.specs.EndCore.{EndCore}
 use Rattle.channel_laws.specs.LaneCore.{Beside, CoreEvent, LaneCore, OnChannel, fresh_core}
 use Rattle.port_model.specs.NetEndState.{NetEndState, NetSession}

@@ -11,7 +11,7 @@ use Rattle.vio_tag.specs.declared.cause.Cause.TheVariants as the_cause
 use Rattle.vio_tag.specs.declared.message.Message.{Message}
 use Rattle.vio_tag.specs.declared.message.MsgBody.{MsgBody}
 use Rattle.vio_tag.specs.declared.message.MsgBody.TheVariants.{DringData, Mcast}
-use Rattle.channel_model.specs.Ranges.{is_other}
+use Rattle.channel_laws.specs.Ranges.{is_other}
 use Rattle.dring.specs.Slots.{range_length}
 use Rattle.channel_laws.specs.PacketCauses.{packet_cause}
 use Rattle.port_model.specs.NetEndState.{NetEndState, NetSession}
@@ -53,5 +53,5 @@ own_cause role s session memory message = session_cause role s session memory me
 
 -- THE CAUSE that a packet has for an end in this session which said and heard this
 abbrev pub port_cause : NetLaneState → End → NetSession → List Utterance → List ℕ → Option Cause
-port_cause s e session turns packet =
-    packet_cause (own_cause (role_at e) (net_end e s) session (memory_of e s)) (net_end e s).handshake.draft.sid turns packet
+port_cause s e session utterances packet =
+    packet_cause (own_cause (role_at e) (net_end e s) session (memory_of e s)) (net_end e s).handshake.draft.sid utterances packet

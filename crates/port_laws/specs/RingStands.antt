@@ -5,7 +5,7 @@ use Rattle.ldc_queue.specs.declared.end.ChannelState.{ChannelState}
 use Rattle.ldc_queue.specs.declared.end.ChannelState.TheVariants.{Down, Resetting, Up}
 use Rattle.ldc_queue.specs.declared.end.End.{End}
 use Rattle.ldc_queue.specs.Wire.{peer_of, state_of}
-use Rattle.channel_model.specs.WireAt.{IsUp}
+use Rattle.channel_laws.specs.WireAt.{IsUp}
 use Rattle.port_model.specs.EndLog.{SessionLog}
 use Rattle.port_model.specs.NetEndState.{NetSession}
 use Rattle.port_model.specs.NetLaneState.{NetLaneState, memory_of, net_end}

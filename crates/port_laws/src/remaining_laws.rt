@@ -2,7 +2,7 @@
 
 ghost use Rattle.std.specs.Prelude.{◌≡◌, ◌*◌, ◌+◌, ◌<◌, ◌≤◌, ◌⊎◌, ℕ, Bool, false, length, List, Option, true};
 ghost use Rattle.runs.specs.Run.{Run};
-ghost use Rattle.channel_model.specs.WireAt.{IsUp};
+ghost use Rattle.channel_laws.specs.WireAt.{IsUp};
 ghost use Rattle.ldc_queue.specs.declared.end.End.{End};
 ghost use Rattle.ldc_queue.specs.declared.end.End.TheVariants.{B};
 ghost use Rattle.vio_tag.specs.declared.cause.Cause.{Cause};

@@ -3,7 +3,7 @@
 ghost use Rattle.std.specs.Prelude.{List};
 ghost use Rattle.runs.specs.Lawful.{Lawful};
 ghost use Rattle.runs.specs.Run.{Run};
-ghost use Rattle.channel_model.specs.WireAt.{WireAnswersAt, WireHeardAt, WireSaidAt, WireTableAt, WireUnforgedAt};
+ghost use Rattle.channel_laws.specs.WireAt.{WireAnswersAt, WireHeardAt, WireSaidAt, WireTableAt, WireUnforgedAt};
 ghost use Rattle.port_model.specs.FrameLaws.{OpeningsAt};
 ghost use Rattle.port_model.specs.NetLaneState.{IsNetShape, NetShape};
 ghost use Rattle.port_model.specs.PortLog.{after, no_events, PortLog};

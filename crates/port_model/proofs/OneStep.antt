@@ -9,7 +9,7 @@ use Rattle.ldc_packet.proofs.Reading.{one_result as one_packet}
 use Rattle.vio_tag.specs.declared.cause.Cause.{Cause}
 use Rattle.vio_tag.specs.declared.cause.Cause.TheVariants as the_cause
 use Rattle.vio_tag.proofs.Reading.{one_result as one_message}
-use Rattle.channel_model.specs.Seeing.{Seen}
+use Rattle.channel_laws.specs.Seeing.{Seen}
 use Rattle.cookie_copy.specs.Reach.{Reach}
 use Rattle.port_model.specs.Fetching.{Fetched, IsFrame, NotReady, Refuses, fetched}
 use Rattle.port_model.specs.NetEndPutting.{answer, answers, cleared_by_put, holding_own, net_holds, net_opens, net_put}

@@ -16,9 +16,9 @@ use Rattle.vio_tag.specs.declared.message.MsgBody.{MsgBody}
 use Rattle.vio_tag.specs.declared.message.TagFault.{TagFault}
 use Rattle.vnet_msg.specs.declared.desc.NetDesc.{NetDesc}
 use Rattle.cookie_copy.specs.Reach.{Reach}
-use Rattle.channel_model.specs.WireEvent.{ByStep, giver}
-use Rattle.channel_model.proofs.OwnCauses.{IsOwn, OwnLink, link_own}
-use Rattle.channel_model.proofs.OwnMessages.{OwnFault, OwnHandshake, handshake_own, sid_own}
+use Rattle.channel_laws.specs.WireEvent.{ByStep, giver}
+use Rattle.channel_laws.proofs.OwnCauses.{IsOwn, OwnLink, link_own}
+use Rattle.channel_laws.proofs.OwnMessages.{OwnFault, OwnHandshake, handshake_own, sid_own}
 use Rattle.port_model.specs.Fetching.{Fetched, IsFrame, NotReady, Refuses, copied, fetched, marked, read, slot_read, slots_cookies}
 use Rattle.port_model.specs.NetEndRule.{Fetches, NetRule, Takes}
 use Rattle.port_model.specs.NetEndState.{Activity, NetEndState, NetSession}

@@ -7,7 +7,7 @@ use Rattle.ldc_link.specs.declared.phase.Role.{Role}
 use Rattle.ldc_link.specs.declared.phase.Role.TheVariants.{Initiator}
 use Rattle.ldc_link.specs.Putting.{owes}
 use Rattle.vio_tag.specs.declared.message.Message.{Message}
-use Rattle.channel_model.specs.Seeing.{Seen}
+use Rattle.channel_laws.specs.Seeing.{Seen}
 use Rattle.port_model.specs.NetEndRule.{Announces, Idles, Joins, NetRule, Puts, Tells, fetches_first, port_rule, publishes, replies_first, says, takes_first, tells_first}
 use Rattle.port_model.specs.NetEndState.{GroupsReply, NetEndState, NetSession, unseen_in}
 use Rattle.port_model.specs.RuleFacts.{HasTime, IfOpen, IsFree, IsFreeIn, MayListen, RuleSays}

@@ -1,6 +1,6 @@
 -- What happened to an end of a port: the frames that it was given, and its sessions, counted without bound.
 use Rattle.std.specs.Prelude.{ℕ, ◌+◌, ◌-◌, ◌%◌, Bool, true, false, List, [], ◌∷◌, ◌++◌, length, Option, Some, None}
-use Rattle.channel_model.specs.Messages.{end_of, start_of, subtype_of}
+use Rattle.channel_laws.specs.Messages.{end_of, start_of, subtype_of}
 use Rattle.dring.specs.Slots.{range_length}
 use Rattle.port_model.specs.Groups.{groups_after}
 use Rattle.port_model.specs.Spoken.{GroupsAck, GroupsInfo, GroupsNack, Other, RangeAck, RangeInfo, Spoken, addresses_of, count_of, set_of, seven_of, spoken}

@@ -6,12 +6,12 @@ use Rattle.ldc_queue.specs.declared.end.End.TheVariants.{A, B}
 use Rattle.vio_tag.specs.declared.cause.Cause.{Cause}
 use Rattle.vio_tag.specs.declared.cause.Cause.TheVariants as the_cause
 use Rattle.vnet_msg.specs.Frames.{IsFrame, is_frame_length}
-use Rattle.channel_model.specs.HandshakeOrder.{HandshakeOrder}
-use Rattle.channel_model.specs.Messages.{end_of, ended_by, range_ended, range_in, seq_of, start_of}
-use Rattle.channel_model.specs.Ranges.{wrapped}
-use Rattle.channel_model.specs.Sayings.{half_heard, half_said}
-use Rattle.channel_model.specs.TranscriptLog.{TranscriptLog, hears, says, transcript_of}
-use Rattle.channel_model.specs.WireAt.{IsUp}
+use Rattle.channel_laws.specs.HandshakeOrder.{HandshakeOrder}
+use Rattle.channel_laws.specs.Messages.{end_of, ended_by, range_ended, range_in, seq_of, start_of}
+use Rattle.channel_laws.specs.Ranges.{wrapped}
+use Rattle.channel_laws.specs.Sayings.{half_heard, half_said}
+use Rattle.channel_laws.specs.TranscriptLog.{TranscriptLog, hears, says, transcript_of}
+use Rattle.channel_laws.specs.WireAt.{IsUp}
 use Rattle.port_model.specs.EndLog.{EndLog, SessionLog, groups_fields, held, lost_in, range_of}
 use Rattle.port_model.specs.Groups.{is_in}
 use Rattle.port_model.specs.NetEndStep.{Already, BadLength, Frame, Full, Given, GroupsFull, Joined, Joining, Member, Published, Queued, Reset, Sent, Took}

@@ -10,8 +10,8 @@ use Rattle.vio_handshake.specs.Messages.{ack, info}
 use Rattle.vio_tag.specs.declared.message.Message.{Message}
 use Rattle.vio_tag.specs.declared.message.MsgBody.TheVariants.{DringData, Mcast}
 use Rattle.vio_tag.specs.Spelling.{canonical}
-use Rattle.channel_model.specs.EndPuts.{PutKind, handshake_behind, put_kind, put_opens}
-use Rattle.channel_model.specs.Ranges.{wrapped}
+use Rattle.channel_laws.specs.EndPuts.{PutKind, handshake_behind, put_kind, put_opens}
+use Rattle.channel_laws.specs.Ranges.{wrapped}
 use Rattle.cookie_copy.specs.Reach.{Reach}
 use Rattle.port_model.specs.Fetching.{Fetched, NotReady, fetched}
 use Rattle.port_model.specs.Groups.{membership}

@@ -9,7 +9,7 @@ use Rattle.vio_tag.specs.declared.cause.Cause.{Cause}
 use Rattle.vio_tag.specs.declared.cause.Cause.TheVariants as the_cause
 use Rattle.vnet_msg.specs.Descriptor.{canonical}
 use Rattle.vnet_msg.specs.Frames.{buffer_place, frame_buffer, frame_desc, is_frame_length}
-use Rattle.channel_model.specs.Seeing.{Seen}
+use Rattle.channel_laws.specs.Seeing.{Seen}
 use Rattle.cookie_copy.specs.Reach.{Reach}
 use Rattle.port_model.specs.Fetching.{Fetched, IsFrame, NotReady, Refuses, fetched}
 use Rattle.port_model.specs.Groups.{is_in}

@@ -3,8 +3,8 @@ use Rattle.std.specs.Prelude.{ℕ, List, Option, Some, None}
 use Rattle.ldc_queue.specs.declared.end.End.{End}
 use Rattle.ldc_queue.specs.declared.end.End.TheVariants.{A}
 use Rattle.vio_tag.specs.declared.cause.Cause.TheVariants as the_cause
-use Rattle.channel_model.specs.WireEvent.{Declined, WireEvent}
-use Rattle.channel_model.specs.WireEvent as wire
+use Rattle.channel_laws.specs.WireEvent.{Declined, WireEvent}
+use Rattle.channel_laws.specs.WireEvent as wire
 use Rattle.port_model.specs.NetEndStep.{Blocked, Frame, Given, Idle, Joined, Joining, NetAnswer, Published, Reset, Sent, Took}
 
 pub data NetEvent : Type 0 where

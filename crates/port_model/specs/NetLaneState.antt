@@ -7,10 +7,10 @@ use Rattle.ldc_queue.specs.declared.end.End.{End}
 use Rattle.ldc_queue.specs.declared.end.End.TheVariants.{A, B}
 use Rattle.map_table.specs.declared.table.Entry.{Entry}
 use Rattle.vnet_msg.specs.Frames.{memory_pages}
-use Rattle.channel_model.specs.OwnMemory.{IsPowerOfTwo, own_table}
-use Rattle.channel_model.specs.Seeing.{Seen, seen}
+use Rattle.channel_laws.specs.OwnMemory.{IsPowerOfTwo, own_table}
+use Rattle.channel_laws.specs.Seeing.{Seen, seen}
 use Rattle.cookie_copy.specs.Reach.{Reach}
-use Rattle.channel_model.specs.WireLog.{WireLog, nothing_on_wire}
+use Rattle.channel_laws.specs.WireLog.{WireLog, nothing_on_wire}
 use Rattle.port_model.specs.NetEndState.{NetEndState, fresh_net_end}
 use Rattle.port_model.specs.NetEndStep.{NetLeft}
 

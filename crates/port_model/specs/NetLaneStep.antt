@@ -4,9 +4,9 @@ use Rattle.std.specs.Prelude.{◌≡◌, ℕ, ◌+◌, ◌≤◌, ◌==◌, Bool
 use Rattle.ldc_queue.specs.declared.end.End.{End}
 use Rattle.ldc_queue.specs.declared.end.End.TheVariants.{A}
 use Rattle.vio_bytes.specs.Place.{put_at}
-use Rattle.channel_model.specs.WireAt.{DeclinesAt, HasRoomFor, IsFirstOn, IsUp, Sizes}
-use Rattle.channel_model.specs.WireEvent.{Declined, InjectedFull, NotInjected, NothingLost, PokeRefused, WireEvent}
-use Rattle.channel_model.specs.WireLog.{WireLog, wire_moved}
+use Rattle.channel_laws.specs.WireAt.{DeclinesAt, HasRoomFor, IsFirstOn, IsUp, Sizes}
+use Rattle.channel_laws.specs.WireEvent.{Declined, InjectedFull, NotInjected, NothingLost, PokeRefused, WireEvent}
+use Rattle.channel_laws.specs.WireLog.{WireLog, wire_moved}
 use Rattle.port_model.specs.NetEndState.{NetSession, joined_net_end, unseen}
 use Rattle.port_model.specs.NetEndStep.{NetAnswer, NetEndStep, NetGives, NetJoins, NetLeft}
 use Rattle.port_model.specs.NetEvent.{Asked, CalmTick, Declines, Gives, Injects, Joins, Loses, NetEvent, Pokes, Steps, Ticked, on_wire}

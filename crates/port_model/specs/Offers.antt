@@ -7,7 +7,7 @@ use Rattle.vio_bytes.specs.Place.{number_at}
 use Rattle.vio_handshake.specs.declared.session.Offer.{Offer}
 use Rattle.vio_tag.specs.Attributes.{net_attr_bytes}
 use Rattle.vio_tag.specs.declared.attributes.NetAttr.{NetAttr}
-use Rattle.channel_model.specs.OwnMemory.{filled}
+use Rattle.channel_laws.specs.OwnMemory.{filled}
 
 -- a ring of so many slots of 64 bytes is below a page: it has one cookie, of its size
 abbrev pub ring_cookie : ℕ → Cookie

@@ -3,11 +3,11 @@ use Rattle.std.specs.Prelude.{ℕ, List, [], ◌∷◌, ◌++◌, Option, Some, 
 use Rattle.ldc_queue.specs.declared.end.End.{End}
 use Rattle.ldc_queue.specs.declared.end.End.TheVariants.{A, B}
 use Rattle.ldc_queue.specs.Transcript.{Utterance}
-use Rattle.channel_model.specs.Messages.{ended_by, opening_sid}
-use Rattle.channel_model.specs.Sayings.{half_heard, half_said}
-use Rattle.channel_model.specs.TranscriptLog.{TranscriptLog, nothing_said, transcript_moved, transcript_of}
-use Rattle.channel_model.specs.WireEvent.{WireEvent}
-use Rattle.channel_model.specs.WireLog.{WireLog, nothing_on_wire}
+use Rattle.channel_laws.specs.Messages.{ended_by, opening_sid}
+use Rattle.channel_laws.specs.Sayings.{half_heard, half_said}
+use Rattle.channel_laws.specs.TranscriptLog.{TranscriptLog, nothing_said, transcript_moved, transcript_of}
+use Rattle.channel_laws.specs.WireEvent.{WireEvent}
+use Rattle.channel_laws.specs.WireLog.{WireLog, nothing_on_wire}
 use Rattle.port_model.specs.EndLog.{EndLog, ends_log, gives_log, hears_log, no_frames, opens_log, publishes_log, says_log, takes_log}
 use Rattle.port_model.specs.NetEndStep.{Already, BadLength, Blocked, Frame, Full, Given, GroupsFull, Idle, Joined, Joining, Member, NetAnswer, Published, Queued, Reset, Sent, Took}
 use Rattle.port_model.specs.NetEvent.{Asked, Gives, Joins, NetEvent, Steps, Ticked, on_wire}
@@ -44,16 +44,16 @@ log_of_end B l = l.hub
 
 -- WHAT AN ANSWER is for its end, which said and heard these utterances before
 abbrev pub after_answer : ℕ → List Utterance → NetAnswer → EndLog → EndLog
-after_answer slots turns (Joined lost) l = ends_log lost l
-after_answer slots turns (Took packet opens) l =
-    opens_log opens (opening_sid (half_heard turns) packet) (hears_log slots (ended_by (half_heard turns) packet) l)
-after_answer slots turns (Sent packet opens) l =
-    opens_log opens (opening_sid (half_said turns) packet) (says_log (ended_by (half_said turns) packet) l)
-after_answer slots turns Blocked l = l
-after_answer slots turns Idle l = l
-after_answer slots turns (Published id) l = publishes_log l
-after_answer slots turns (Frame frame) l = takes_log l
-after_answer slots turns (Reset cause packet lost) l = ends_log lost l
+after_answer slots utterances (Joined lost) l = ends_log lost l
+after_answer slots utterances (Took packet opens) l =
+    opens_log opens (opening_sid (half_heard utterances) packet) (hears_log slots (ended_by (half_heard utterances) packet) l)
+after_answer slots utterances (Sent packet opens) l =
+    opens_log opens (opening_sid (half_said utterances) packet) (says_log (ended_by (half_said utterances) packet) l)
+after_answer slots utterances Blocked l = l
+after_answer slots utterances Idle l = l
+after_answer slots utterances (Published id) l = publishes_log l
+after_answer slots utterances (Frame frame) l = takes_log l
+after_answer slots utterances (Reset cause packet lost) l = ends_log lost l
 
 abbrev pub after_given : Given → EndLog → EndLog
 after_given (Queued id frame) l = gives_log frame l

@@ -2,9 +2,9 @@
 use Rattle.std.specs.Prelude.{◌*◌, List, Option, Some, None, ⊤}
 use Rattle.runs.specs.Lawful.{Lawful}
 use Rattle.vnet_msg.specs.Frames.{memory_pages}
-use Rattle.channel_model.specs.ResetSays.{WireResetAt}
-use Rattle.channel_model.specs.WireAt.{Sizes, WireAnswersAt, WireGapAt, WireHeardAt, WireSaidAt, WireTableAt, WireUnforgedAt}
-use Rattle.channel_model.specs.WireEvent.{WireEvent}
+use Rattle.channel_laws.specs.ResetSays.{WireResetAt}
+use Rattle.channel_laws.specs.WireAt.{Sizes, WireAnswersAt, WireGapAt, WireHeardAt, WireSaidAt, WireTableAt, WireUnforgedAt}
+use Rattle.channel_laws.specs.WireEvent.{WireEvent}
 use Rattle.port_model.specs.FrameLaws.{AcknowledgesAt, AdmissionAt, AnnouncesAt, AsksAt, GroupsSaidAt, JoiningAt, LostAt, OpeningsAt, OwnResetAt, PublishedAt, SeesAt, TakingAt, TickAt, UndoneAt, WorksAt}
 use Rattle.port_model.specs.NetEvent.{on_wire}
 use Rattle.port_model.specs.NetLaneState.{NetShape}

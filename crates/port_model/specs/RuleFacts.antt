@@ -4,7 +4,7 @@ use Rattle.cookie_copy.specs.Faults.{is_up}
 use Rattle.ldc_link.specs.declared.phase.Role.{Role}
 use Rattle.ldc_link.specs.declared.phase.Role.TheVariants.{Initiator}
 use Rattle.ldc_link.specs.Putting.{owes}
-use Rattle.channel_model.specs.Seeing.{Seen}
+use Rattle.channel_laws.specs.Seeing.{Seen}
 use Rattle.port_model.specs.NetEndRule.{Announces, Fetches, Idles, Joins, NetRule, Publishes, Puts, Replies, Says, Takes, Tells}
 use Rattle.port_model.specs.NetEndState.{NetEndState, NetSession, unseen_in}
 

@@ -2,7 +2,7 @@
 use Rattle.std.specs.Prelude.{ℕ, ◌==◌, if◌then◌else◌, List, take}
 use Rattle.vio_bytes.specs.Place.{number_at}
 use Rattle.vio_tag.specs.Spelling.{addresses_at}
-use Rattle.channel_model.specs.Messages.{subtype_of}
+use Rattle.channel_laws.specs.Messages.{subtype_of}
 
 pub data Spoken : Type 0 where
   -- DRING_DATA INFO and ACK, MCAST_INFO INFO, ACK and NACK

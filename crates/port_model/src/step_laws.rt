@@ -3,9 +3,9 @@
 ghost use Rattle.std.specs.Prelude.{◌≡◌, ◌↔◌, ◌+◌, ◌%◌, ◌<◌, ◌&&◌, ◌||◌, ℕ, List, None, not, Option, slice_get, Some, true};
 ghost use Rattle.ldc_link.specs.declared.phase.Role.{Role};
 ghost use Rattle.vio_tag.specs.declared.cause.Cause.{Cause};
-ghost use Rattle.channel_model.specs.Seeing.{Seen};
+ghost use Rattle.channel_laws.specs.Seeing.{Seen};
 ghost use Rattle.cookie_copy.specs.Reach.{Reach};
-ghost use Rattle.channel_model.specs.WireEvent.{ByStep, giver};
+ghost use Rattle.channel_laws.specs.WireEvent.{ByStep, giver};
 ghost use Rattle.dring.specs.Slots.{done_state};
 ghost use Rattle.port_model.specs.Groups.{groups_after, is_in, with_groups, without_groups};
 ghost use Rattle.port_model.specs.GroupSets.{ComesOf, IsRefused, Once};

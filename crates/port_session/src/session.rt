@@ -1,7 +1,7 @@
 // An open session.
 
 ghost use Rattle.std.specs.Prelude.{◌≡◌, ◌≢◌, ◌+◌, ◌-◌, ◌%◌, ◌^◌, ◌<◌, ◌≤◌, ◌&&◌, not, nat_le, nat_lt, true, false, None, Some};
-ghost use Rattle.channel_model.specs.Ranges.{wrapped};
+ghost use Rattle.channel_laws.specs.Ranges.{wrapped};
 ghost use Rattle.port_model.specs.NetEndStep.{published};
 ghost use Rattle.port_model.specs.NetEndTaking.{active, replying};
 ghost use Rattle.port_model.specs.NetEndState.{opened_session, unseen_in};

@@ -11,8 +11,8 @@ use Rattle.world_parts.specs.disk_model.LaneStep.{LaneStep}
 use Rattle.domain_script.specs.LaneKinds.{disk_lane}
 use Rattle.domain_script.specs.declared.event.Side.{Side}
 use Rattle.domain_script.specs.declared.event.Side.TheVariants.{Client, Server}
-use Rattle.world_parts.specs.channel_model.WireEvent.{Declines, InjectedFull, NothingLost, NotInjected, PokeRefused}
-use Rattle.world_parts.specs.channel_model.WireEvent as wire
+use Rattle.world_parts.specs.channel_laws.WireEvent.{Declines, InjectedFull, NothingLost, NotInjected, PokeRefused}
+use Rattle.world_parts.specs.channel_laws.WireEvent as wire
 use Rattle.world_parts.specs.world_laws.Settle.{OfLane, SettleEntry}
 use Rattle.world_parts.specs.domain_laws.Lines.{AnswersCall, AnswersRequest, Asked, Calls, Injects, Line, Loses, Pokes, Resets, Restarts, Starts, Stops, Ticks, DiskLane}
 use Rattle.ldc_queue.specs.declared.end.End.TheVariants.{A, B}

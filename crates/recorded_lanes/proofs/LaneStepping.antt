@@ -7,11 +7,11 @@ use Rattle.world_parts.proofs.disk_model.OwnSteps.{server_resets_own}
 use Rattle.world_parts.specs.disk_model.ClientStep.{completed_slot}
 use Rattle.world_parts.specs.disk_model.LaneState.{LaneState}
 use Rattle.world_parts.specs.disk_model.LaneStep.{LaneStep, ResetBy, ServerOnWire, reach}
-use Rattle.world_parts.specs.channel_model.Seeing.{seen}
+use Rattle.world_parts.specs.channel_laws.Seeing.{seen}
 use Rattle.world_parts.specs.disk_model.Served.{Served}
 use Rattle.world_parts.specs.disk_model.ServerRule.{server_rule}
-use Rattle.world_parts.specs.channel_model.WireEvent as wire
-use Rattle.world_parts.specs.channel_model.WireEvent.{ByStep, Giver, giver}
+use Rattle.world_parts.specs.channel_laws.WireEvent as wire
+use Rattle.world_parts.specs.channel_laws.WireEvent.{ByStep, Giver, giver}
 use Rattle.world_parts.specs.lane_laws.CalmEnds.{IsStep}
 use Rattle.world_parts.specs.world_laws.World.{LaneMoves}
 use Rattle.ldc_queue.specs.declared.end.End.TheVariants.{A, B}

@@ -2,7 +2,7 @@
 use Rattle.std.proofs.Common.{◌≡◌, ℕ, Bool, true, false, ◌||◌, Some, List, [], ◌∷◌, refl, sym, ap, subst, ◌∙◌}
 use Rattle.std.specs.Prelude.{◌&&◌}
 use Rattle.world_parts.specs.disk_model.DiskEvent.{Asks, DiskEvent, Off, OnWire, Switches}
-use Rattle.world_parts.specs.channel_model.WireEvent as wire
+use Rattle.world_parts.specs.channel_laws.WireEvent as wire
 use Rattle.world_parts.specs.world_laws.DiskKind.{is_calm}
 use Rattle.world_parts.specs.world_laws.Settle.{OfLane, SettleEntry, entry_of}
 use Rattle.world_parts.specs.domain_laws.Lines.{Line}

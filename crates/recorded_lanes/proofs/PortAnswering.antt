@@ -13,7 +13,7 @@ use Rattle.world_parts.specs.port_model.NetEndStep as port
 use Rattle.world_parts.specs.port_model.NetEvent.{Asked, CalmTick, Declines, Gives, NetEvent, Ticked}
 use Rattle.world_parts.specs.port_model.NetEvent as net
 use Rattle.world_parts.specs.port_model.PortState.{OnLane, PortState}
-use Rattle.world_parts.specs.channel_model.WireEvent.{InjectedFull, NothingLost, NotInjected, PokeRefused}
+use Rattle.world_parts.specs.channel_laws.WireEvent.{InjectedFull, NothingLost, NotInjected, PokeRefused}
 use Rattle.kept_requests.specs.Bytes.{BytesState, filled}
 use Rattle.lane_kinds.specs.Lanes.{AllStep, EntryOf, own_or}
 use Rattle.runs.specs.Run.{Run}

@@ -17,7 +17,7 @@ use Rattle.world_parts.proofs.world_laws.LaneLists.{each_there}
 use Rattle.world_parts.specs.world_laws.World.{IsWorld, WorldState, WorldStep, fresh_world}
 use Rattle.world_parts.specs.domain_laws.Domain.{DomainState}
 use Rattle.world_parts.specs.port_model.NetLaneState.{NetShape}
-use Rattle.world_parts.specs.channel_model.WireLog.{WireLog}
+use Rattle.world_parts.specs.channel_laws.WireLog.{WireLog}
 use Rattle.world_parts.proofs.lane_laws.AgreementRuns.{run_agrees}
 use Rattle.world_parts.proofs.world_laws.Forging.{forged_by_events}
 use Rattle.script_laws.proofs.Failing.{fails_by_events}

@@ -5,7 +5,7 @@ use Rattle.vio_tag.specs.declared.cause.Cause.{Cause}
 use Rattle.std.specs.Prelude.{⊤}
 use Rattle.ldc_queue.specs.declared.end.End.TheVariants.{A}
 use Rattle.vdisk_msg.specs.Requests.{BadCount, BadRange}
-use Rattle.world_parts.specs.channel_model.WireEvent.{Reset}
+use Rattle.world_parts.specs.channel_laws.WireEvent.{Reset}
 use Rattle.world_parts.specs.disk_model.DiskEvent.{Asks, DiskEvent, Done, Full, OnWire, Refused, Works}
 use Rattle.domain_script.specs.declared.event.DiskDecl.{DiskDecl}
 use Rattle.domain_script.specs.declared.event.Lane.{Lane}

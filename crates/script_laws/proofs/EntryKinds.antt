@@ -5,7 +5,7 @@ use Rattle.std.specs.Prelude.{⊤}
 use Rattle.std.proofs.lemmas.Bool.{eqb-true}
 use Rattle.vdisk_msg.specs.declared.request.Request.{Request}
 use Rattle.disk_law.specs.ListStep as plain
-use Rattle.world_parts.specs.channel_model.WireEvent.{Declined, Declines, InjectedFull, PokeRefused}
+use Rattle.world_parts.specs.channel_laws.WireEvent.{Declined, Declines, InjectedFull, PokeRefused}
 use Rattle.world_parts.specs.disk_model.DiskEvent.{Accepted, Asks, DiskEvent, Done, Full, OnWire, Refused, Works}
 use Rattle.disk_law.specs.Requests.{Defect}
 use Rattle.world_parts.specs.port_model.NetEndStep.{BadLength, GroupsFull}

@@ -8,9 +8,9 @@ use Rattle.world_parts.specs.disk_model.LaneState.{IsShape, LaneState, Shape, fr
 use Rattle.world_parts.specs.disk_model.LaneStep.{LaneStep}
 use Rattle.world_parts.proofs.lane_laws.LaneCores.{transcript_is}
 use Rattle.world_parts.proofs.lane_laws.HeardFront.{heard_messages, heard_packets}
-use Rattle.world_parts.specs.channel_model.TranscriptLog.{TranscriptLog, transcript_of}
-use Rattle.world_parts.specs.channel_model.WireAt.{IsUp}
-use Rattle.world_parts.specs.channel_model.WireLog.{WireLog}
+use Rattle.world_parts.specs.channel_laws.TranscriptLog.{TranscriptLog, transcript_of}
+use Rattle.world_parts.specs.channel_laws.WireAt.{IsUp}
+use Rattle.world_parts.specs.channel_laws.WireLog.{WireLog}
 use Rattle.channel_laws.proofs.ConversingRuns as core
 use Rattle.world_parts.proofs.port_laws.CoreLaws.{port_front, sizes_fit}
 use Rattle.world_parts.proofs.port_laws.PortRuns.{fresh_port_core, spoken_behind}

@@ -7,8 +7,8 @@ use Rattle.runs.specs.Run.{Run, run_push}
 use Rattle.ldc_queue.specs.Transcript.{Utterance}
 use Rattle.ldc_queue.specs.declared.end.End.{End}
 use Rattle.vio_tag.specs.declared.cause.Cause.{Cause}
-use Rattle.world_parts.specs.channel_model.ResetSays.{ResetSays}
-use Rattle.world_parts.specs.channel_model.TranscriptLog.{transcript_of}
+use Rattle.world_parts.specs.channel_laws.ResetSays.{ResetSays}
+use Rattle.world_parts.specs.channel_laws.TranscriptLog.{transcript_of}
 use Rattle.lane_kinds.proofs.Moving.{each_there}
 use Rattle.lane_kinds.proofs.Places.{get_within}
 use Rattle.lane_kinds.specs.Lanes.{EachOf, own_or}

@@ -8,7 +8,7 @@ use Rattle.lane_kinds.proofs.Places.{get_within}
 use Rattle.lane_kinds.specs.Lanes.{EachOf}
 use Rattle.ldc_queue.specs.declared.end.End.{End}
 use Rattle.ldc_queue.specs.declared.end.End.TheVariants.{A, B}
-use Rattle.world_parts.specs.channel_model.WireAt.{IsUp}
+use Rattle.world_parts.specs.channel_laws.WireAt.{IsUp}
 use Rattle.world_parts.proofs.port_laws.EveryRun.{every_run}
 use Rattle.world_parts.specs.port_laws.InOrder.{InOrder}
 use Rattle.world_parts.specs.port_laws.Lost.{frames_lost}

@@ -5,7 +5,7 @@ use Rattle.std.proofs.lemmas.Option.{slice_get_within}
 use Rattle.std.specs.Prelude.{not, ⊤}
 use Rattle.runs.specs.Lawful.{log_of}
 use Rattle.runs.specs.Run.{Run, run_append, run_split}
-use Rattle.world_parts.specs.channel_model.WireLog.{WireLog}
+use Rattle.world_parts.specs.channel_laws.WireLog.{WireLog}
 use Rattle.disk_law.specs.ListState.{ImageState}
 use Rattle.domain_script.specs.declared.event.DiskDecl.{DiskDecl}
 use Rattle.domain_script.specs.declared.event.Event.{Event}

@@ -2,7 +2,7 @@
 use Rattle.std.proofs.Common.{◌≡◌, ℕ, ◌<◌, List, [], ◌∷◌, ◌++◌, length, map, refl, ap, ◌∙◌, arith, append_assoc}
 use Rattle.std.specs.List.{flat_map}
 use Rattle.runs.specs.Run.{Run}
-use Rattle.world_parts.specs.channel_model.WireEvent.{Reset}
+use Rattle.world_parts.specs.channel_laws.WireEvent.{Reset}
 use Rattle.world_parts.specs.disk_model.DiskEvent.{Asks, Done, Full, OnWire, Refused, Works}
 use Rattle.domain_script.specs.declared.event.DiskDecl.{DiskDecl}
 use Rattle.domain_script.specs.declared.event.Event.{Event}

@@ -14,7 +14,7 @@ use Rattle.domain_script.specs.declared.event.DiskDecl.{DiskDecl}
 use Rattle.domain_script.specs.declared.event.Event.{Event}
 use Rattle.domain_script.specs.declared.event.Event.TheVariants.{Settle}
 use Rattle.world_parts.proofs.lane_laws.AgreementRuns.{run_agrees}
-use Rattle.world_parts.specs.channel_model.WireLog.{WireLog}
+use Rattle.world_parts.specs.channel_laws.WireLog.{WireLog}
 use Rattle.world_parts.proofs.world_laws.LaneTicks.{waits_where}
 use Rattle.world_parts.proofs.world_laws.Moving.{happened_both}
 use Rattle.world_parts.specs.world_laws.Along.{happened}

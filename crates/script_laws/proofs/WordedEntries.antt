@@ -4,7 +4,7 @@ use Rattle.std.specs.List.{All}
 use Rattle.std.proofs.lemmas.List.Elements.{All-cons, All-nil}
 use Rattle.std.specs.Prelude.{⊤}
 use Rattle.ldc_queue.specs.declared.end.End.{End}
-use Rattle.world_parts.specs.channel_model.WireEvent.{Reset}
+use Rattle.world_parts.specs.channel_laws.WireEvent.{Reset}
 use Rattle.world_parts.specs.disk_model.DiskEvent.{DiskEvent, Stored, Works}
 use Rattle.world_parts.specs.world_laws.Settle.{OfLane, SettleEntry}
 use Rattle.world_parts.specs.domain_laws.Lines.{Line}

@@ -6,7 +6,7 @@ use Rattle.world_parts.specs.disk_model.LaneState.{Shape}
 use Rattle.world_parts.specs.lane_laws.Blocks.{after_requests, block_at}
 use Rattle.world_parts.specs.lane_laws.Headline.{CompletionShows, HoldsDone, LastWrite}
 use Rattle.world_parts.specs.lane_laws.ImageStep.{region_of}
-use Rattle.world_parts.specs.channel_model.WireEvent.{Reset}
+use Rattle.world_parts.specs.channel_laws.WireEvent.{Reset}
 use Rattle.world_parts.specs.world_laws.Along.{happened}
 use Rattle.world_parts.specs.world_laws.Settle.{OfLane, SettleEntry}
 use Rattle.script_laws.specs.Told.{log_at}

@@ -17,8 +17,8 @@ use Rattle.world_parts.specs.Script.{FitsScript, ScriptParts, events_of, journal
 use Rattle.world_parts.specs.domain_laws.Domain.{DomainState}
 use Rattle.domain_script.specs.Limits.{most_lines}
 
--- A run at one moment: the names that it declared, the entries of its journal, its world, and how many lines its report
--- would count.
+-- A run at one moment: the names that it declared, the entries of its journal, its world, and a count of lines: before
+-- lines are run it is how many were read, and behind them how many its report counts.
 pub record RunAt : Type 0 where
   pub names : NamesState
   pub journal : List Entry
@@ -49,8 +49,8 @@ pub record RunsLines (start now : Option (List ℕ)) (before : RunAt) (why : Sta
   pub feeds : why ≡ status.SourceFault → AllFed start left read.texts
   pub counted : after.count ≡ counted_lines why (before.count + length read.texts)
 
--- From its first line on the script was read and run, in the world `s` of what these names declare, and then no further
--- line was taken up.
+-- From its first line on the script was read and run, in the world `s`, and then no further line was taken up. That `s`
+-- is the world of what these names declare is said where a run is attached.
 pub record RunsAll (start now : Option (List ℕ)) (names : NamesState) (s : DomainState) (why : Status) (after : RunAt) : Type 0 where
   pub parts : ScriptParts
   pub stopped : Stopped start now why (events_of parts) after.names (length after.journal) after.count

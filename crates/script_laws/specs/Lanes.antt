@@ -7,9 +7,9 @@ use Rattle.world_parts.specs.disk_model.LaneState.{LaneState, Shape, fresh}
 use Rattle.world_parts.specs.disk_model.LaneStep.{LaneStep}
 use Rattle.world_parts.specs.lane_laws.May.{IsLawful}
 use Rattle.world_parts.specs.lane_laws.NearLaws.{NearInOrder}
-use Rattle.world_parts.specs.channel_model.Sayings.{heard, said}
-use Rattle.world_parts.specs.channel_model.TranscriptLog.{TranscriptLog, transcript_of}
-use Rattle.world_parts.specs.channel_model.WireAt.{IsUp}
+use Rattle.world_parts.specs.channel_laws.Sayings.{heard, said}
+use Rattle.world_parts.specs.channel_laws.TranscriptLog.{TranscriptLog, transcript_of}
+use Rattle.world_parts.specs.channel_laws.WireAt.{IsUp}
 use Rattle.world_parts.specs.lane_laws.WorkLog.{ClientCounts, ServerCounts}
 use Rattle.world_parts.specs.lane_laws.CountsOrdered.{CountsOrdered}
 use Rattle.world_parts.specs.lane_laws.OneSession.{AreOneSession}

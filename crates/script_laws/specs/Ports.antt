@@ -3,7 +3,7 @@ use Rattle.std.specs.Prelude.{◌≡◌, ◌↔◌, ℕ, List, [], ◌∷◌, �
 use Rattle.runs.specs.Run.{Run}
 use Rattle.ldc_queue.specs.declared.end.End.{End}
 use Rattle.ldc_queue.specs.declared.end.End.TheVariants.{A, B}
-use Rattle.world_parts.specs.channel_model.WireAt.{IsUp}
+use Rattle.world_parts.specs.channel_laws.WireAt.{IsUp}
 use Rattle.world_parts.specs.port_laws.InOrder.{InOrder}
 use Rattle.world_parts.specs.port_laws.Lost.{frames_lost}
 use Rattle.world_parts.specs.port_model.NetLaneState.{NetShape}

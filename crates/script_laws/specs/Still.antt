@@ -2,7 +2,7 @@
 use Rattle.std.specs.Prelude.{◌≡◌, ◌⊎◌, ◌+◌, ◌≤◌, true, [], length}
 use Rattle.world_parts.specs.lane_laws.DiskLog.{DiskLog}
 use Rattle.world_parts.specs.lane_laws.QuietLaws.{EndIsIdle}
-use Rattle.world_parts.specs.channel_model.WireAt.{IsUp}
+use Rattle.world_parts.specs.channel_laws.WireAt.{IsUp}
 use Rattle.world_parts.specs.port_model.FrameLaws.{IfSession}
 use Rattle.world_parts.specs.port_model.PortLog.{PortLog, log_of_end}
 use Rattle.world_parts.specs.port_model.RestLaws.{IsIdle}

@@ -1,7 +1,7 @@
 -- A step of a port's end, in an entry of all: the cause for which it resets itself is its own, and the frame that it
 -- takes has its length.
 use Rattle.std.proofs.Common.{◌≡◌, ℕ, List, Option, Some, slice_get, arith}
-use Rattle.channel_model.specs.WireEvent.{ByStep, giver}
+use Rattle.channel_laws.specs.WireEvent.{ByStep, giver}
 use Rattle.lane_kinds.proofs.Places.{get_within}
 use Rattle.lane_kinds.specs.Lanes.{EachOf, EntryOf}
 use Rattle.ldc_queue.specs.declared.end.End.{End}

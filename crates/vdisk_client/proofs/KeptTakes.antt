@@ -24,7 +24,7 @@ use Rattle.disk_model.specs.ClientPutting.{is_announcing}
 use Rattle.disk_model.specs.ClientRule.{is_urgent}
 use Rattle.disk_model.specs.ClientState.{ClientSession, ClientState, slot_in}
 use Rattle.disk_model.specs.ClientTaking.{ClientTake, ClientTakes, GoesOn, HearsLink, HearsWhole, Resets, acknowledged, by_handshake, hears_message, in_session, reads, sid_first, takes_ack}
-use Rattle.channel_model.specs.Ranges.{is_other}
+use Rattle.channel_laws.specs.Ranges.{is_other}
 use Rattle.dring.specs.Slots.{range_length}
 use Rattle.vdisk_client.proofs.Linking.{LinkTook, bytes_took}
 use Rattle.vdisk_client.proofs.Handshaking.{HandshakeKeeps, TakeKeeps, begun_keeps, take_keeps}

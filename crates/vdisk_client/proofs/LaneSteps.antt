@@ -4,8 +4,8 @@ use Rattle.ldc_queue.specs.ChannelView.{ChannelView}
 use Rattle.ldc_queue.specs.declared.end.End.TheVariants.{A, B}
 use Rattle.ldc_queue.specs.Wire.{Wire, configured, put_for, taken_for}
 use Rattle.vio_tag.specs.declared.cause.Cause.{Cause}
-use Rattle.channel_model.specs.WireEvent as wire
-use Rattle.channel_model.specs.WireEvent.{ByStep, Giver, giver}
+use Rattle.channel_laws.specs.WireEvent as wire
+use Rattle.channel_laws.specs.WireEvent.{ByStep, Giver, giver}
 use Rattle.disk_model.proofs.OwnSteps.{client_resets_own}
 use Rattle.disk_model.specs.ClientRule.{client_rule}
 use Rattle.disk_model.specs.ClientState.{ClientState}
@@ -14,7 +14,7 @@ use Rattle.disk_model.specs.DiskEvent.{DiskEvent, Done, OnWire, Published, Works
 use Rattle.disk_model.specs.LaneState.{LaneState}
 use Rattle.disk_model.specs.OnChannel.{IsChannelOf}
 use Rattle.disk_model.specs.LaneStep.{ClientOnWire, LaneStep, ResetBy}
-use Rattle.channel_model.specs.Seeing.{Seen, seen}
+use Rattle.channel_laws.specs.Seeing.{Seen, seen}
 use Rattle.vdisk_client.specs.Calls.{Steps, channel_after, client_event, sees}
 use Rattle.vdisk_client.specs.OnLane.{client_moved}
 use Rattle.vdisk_client.specs.declared.answers.ClientOut.{ClientOut}

@@ -1,6 +1,6 @@
 -- A client's step as a step of a disk's lane, over the lane's channel and memory.
 use Rattle.std.specs.Prelude.{ℕ, List}
-use Rattle.channel_model.specs.WireLog.{wire_moved}
+use Rattle.channel_laws.specs.WireLog.{wire_moved}
 use Rattle.disk_model.specs.ClientState.{ClientState}
 use Rattle.disk_model.specs.DiskEvent.{Asks, DiskEvent, OnWire, Calms, Switches, Works}
 use Rattle.disk_model.specs.LaneState.{LaneState}

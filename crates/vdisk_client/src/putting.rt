@@ -38,7 +38,7 @@ impl ClientEnd {
     ghost use Rattle.disk_model.specs.ClientPutting.{announcement, holding, is_announcing};
     ghost use Rattle.disk_model.specs.ClientRule.{Announces, Says, announces, in_session, publishes, puts_first, says};
     ghost use Rattle.disk_model.specs.ClientState.{first_id, opened_session};
-    ghost use Rattle.channel_model.specs.EndPuts.{EndsHandshake, put_opens};
+    ghost use Rattle.channel_laws.specs.EndPuts.{EndsHandshake, put_opens};
     ghost use Rattle.vdisk_client.specs.Calls.{Steps, rule_of};
     ghost use Rattle.vdisk_client.specs.Putting.{CountsMore, HoldsOwn, PutsHeld, cleared_if, kind_of, noted, put_of};
     ghost use Rattle.disk_requests.specs.Room.{HoldsRing};

@@ -1,7 +1,7 @@
 // The counts of an open session.
 
 ghost use Rattle.std.specs.Prelude.{◌≡◌, ◌≢◌, ◌+◌, ◌-◌, ◌%◌, ◌^◌, ◌<◌, ◌≤◌, nat_le, nat_lt, true, false};
-ghost use Rattle.channel_model.specs.Ranges.{wrapped};
+ghost use Rattle.channel_laws.specs.Ranges.{wrapped};
 ghost use Rattle.disk_model.specs.ClientState.{opened_session};
 
 use dring::slot_of;

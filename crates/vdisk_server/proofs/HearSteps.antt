@@ -16,7 +16,7 @@ use Rattle.vio_handshake.specs.State.{begun, joined_handshake, handshake_up}
 use Rattle.vio_tag.specs.declared.cause.Cause.{Cause}
 use Rattle.vio_tag.specs.declared.message.Message.{Message}
 use Rattle.vio_tag.specs.declared.message.TagFault.{TagFault}
-use Rattle.channel_model.specs.EndPuts.{handshake_risen}
+use Rattle.channel_laws.specs.EndPuts.{handshake_risen}
 use Rattle.disk_model.specs.ServerRule.{ServerRule, Takes, server_rule, takes_first}
 use Rattle.disk_model.specs.ServerState.{ServerState, joined_server}
 use Rattle.disk_model.specs.ServerStep.{ServerFails}

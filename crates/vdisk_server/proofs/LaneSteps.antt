@@ -4,12 +4,12 @@ use Rattle.ldc_queue.specs.ChannelView.{ChannelView}
 use Rattle.ldc_queue.specs.declared.end.End.TheVariants.{A, B}
 use Rattle.ldc_queue.specs.Wire.{Wire, configured, put_for, taken_for}
 use Rattle.cookie_copy.specs.Faults.{both_up}
-use Rattle.channel_model.specs.WireEvent as wire
+use Rattle.channel_laws.specs.WireEvent as wire
 use Rattle.disk_model.specs.DiskEvent.{Desc, DiskEvent, Finished, Moved, OnWire, Stored, Worked, Works}
 use Rattle.disk_model.specs.LaneState.{LaneState}
 use Rattle.disk_model.specs.OnChannel.{IsChannelOf}
 use Rattle.disk_model.specs.LaneStep.{ServerOnWire, ServerWorks, reach}
-use Rattle.channel_model.specs.Seeing.{Seen, seen}
+use Rattle.channel_laws.specs.Seeing.{Seen, seen}
 use Rattle.disk_model.specs.Served.{Served, ServedStep, StoreDid}
 use Rattle.disk_model.specs.ServerState.{ServerState}
 use Rattle.disk_model.specs.ServerStep.{ServerStep}

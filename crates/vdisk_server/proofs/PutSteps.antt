@@ -16,7 +16,7 @@ use Rattle.ldc_queue.specs.ChannelView.{ChannelView}
 use Rattle.vio_handshake.specs.declared.handshake.Handshake.{Handshake}
 use Rattle.vio_handshake.specs.Rules.{opens_by_put}
 use Rattle.vio_tag.specs.declared.message.Message.{Message}
-use Rattle.channel_model.specs.EndPuts.{ComesUp, EndsOwn, EndsHandshake, Goes, PutKind, ending, kind_in, put_opens, handshake_behind}
+use Rattle.channel_laws.specs.EndPuts.{ComesUp, EndsOwn, EndsHandshake, Goes, PutKind, ending, kind_in, put_opens, handshake_behind}
 use Rattle.disk_model.specs.ServerPutting.{server_holds, server_kind, server_opens, server_put, session_behind}
 use Rattle.disk_model.specs.ServerRule.{server_rule}
 use Rattle.disk_model.specs.ServerState.{ServerState}

@@ -5,7 +5,7 @@ use Rattle.std.specs.Prelude.{◌==◌, if◌then◌else◌, ⊤}
 use Rattle.cookie_copy.specs.Faults.{is_up as is_configured}
 use Rattle.ldc_link.specs.Putting.{owes}
 use Rattle.vio_tag.specs.declared.message.Message.{Message}
-use Rattle.channel_model.specs.Seeing.{Seen}
+use Rattle.channel_laws.specs.Seeing.{Seen}
 use Rattle.disk_model.specs.ServerRule.{Fetches, Joins, Puts, Idles, Says, ServerRule, Serves, Takes, answer, in_range, in_session, says, server_rule, serves, takes_first}
 use Rattle.disk_model.specs.ServerState.{ServerSession, ServerState, SlotRange, Work}
 use Rattle.vdisk_server.specs.Rules.{answer_owed, first_owed, in_hand, owed_message, ranged, session_owes}

@@ -11,7 +11,7 @@ use Rattle.vio_handshake.specs.declared.handshake.Handshake.{Handshake}
 use Rattle.vio_handshake.specs.declared.handshake.Phase.{Phase}
 use Rattle.vio_handshake.specs.Rules.{handshake_sent}
 use Rattle.vio_tag.specs.declared.message.Message.{Message}
-use Rattle.channel_model.specs.EndPuts.{EndsOwn, EndsHandshake, Goes, PutKind, ending, handshake_behind}
+use Rattle.channel_laws.specs.EndPuts.{EndsOwn, EndsHandshake, Goes, PutKind, ending, handshake_behind}
 use Rattle.disk_model.specs.ServerPutting.{answered, server_put, session_behind}
 use Rattle.disk_model.specs.ServerRule.{answer}
 use Rattle.disk_model.specs.ServerState.{ServerSession, ServerState, SlotRange, Work}

@@ -1,6 +1,6 @@
 -- A server in the lane of its disk.
 use Rattle.std.specs.Prelude.{ℕ, List, ◌||◌}
-use Rattle.channel_model.specs.WireLog.{wire_moved}
+use Rattle.channel_laws.specs.WireLog.{wire_moved}
 use Rattle.disk_model.specs.DiskEvent.{DiskEvent, OnWire, Works}
 use Rattle.disk_model.specs.LaneState.{LaneState}
 use Rattle.disk_model.specs.LaneStep.{failed_worked, near_on_wire, near_worked}

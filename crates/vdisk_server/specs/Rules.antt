@@ -2,7 +2,7 @@
 use Rattle.std.specs.Prelude.{ℕ, ◌+◌, ◌==◌, if◌then◌else◌, List, Option, Some, None}
 use Rattle.vdisk_msg.specs.Descriptor.{disk_desc_of}
 use Rattle.vio_tag.specs.declared.message.Message.{Message}
-use Rattle.channel_model.specs.Ranges.{wrapped}
+use Rattle.channel_laws.specs.Ranges.{wrapped}
 use Rattle.disk_model.specs.ServerRule.{answer}
 use Rattle.disk_model.specs.ServerState.{ServerSession, ServerState, SlotRange, Work}
 use Rattle.disk_model.specs.ServerWork.{first_progress}

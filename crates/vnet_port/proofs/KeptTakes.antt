@@ -21,8 +21,8 @@ use Rattle.vio_tag.specs.declared.message.MsgBody.TheVariants.{DringData, Mcast}
 use Rattle.vio_tag.specs.declared.message.TagFault.{TagFault}
 use Rattle.vio_tag.specs.Decoding.{Decodes}
 use Rattle.vio_tag.specs.Form.{IsWellFormed}
-use Rattle.channel_model.specs.EndPuts.{handshake_risen}
-use Rattle.channel_model.specs.Ranges.{is_other}
+use Rattle.channel_laws.specs.EndPuts.{handshake_risen}
+use Rattle.channel_laws.specs.Ranges.{is_other}
 use Rattle.dring.specs.Slots.{range_length}
 use Rattle.port_model.specs.Groups.{at_most_seven, groups_after, set_groups, with_groups, without_groups}
 use Rattle.port_model.specs.NetEndState.{NetEndState, NetSession, with_session}

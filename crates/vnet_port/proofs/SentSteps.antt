@@ -18,8 +18,8 @@ use Rattle.map_table.specs.declared.table.Entry.{Entry}
 use Rattle.vio_tag.specs.declared.message.Message.{Message}
 use Rattle.vio_handshake.specs.declared.handshake.Handshake.{Handshake}
 use Rattle.vio_handshake.specs.Rules.{opens_by_put}
-use Rattle.channel_model.specs.EndPuts.{ComesUp, EndsHandshake, EndsOwn, Goes, PutKind, ending, handshake_behind, kind_in, put_kind, put_opens}
-use Rattle.channel_model.specs.Seeing.{seen}
+use Rattle.channel_laws.specs.EndPuts.{ComesUp, EndsHandshake, EndsOwn, Goes, PutKind, ending, handshake_behind, kind_in, put_kind, put_opens}
+use Rattle.channel_laws.specs.Seeing.{seen}
 use Rattle.port_model.specs.NetEndPutting.{cleared_by_put, net_holds, net_kind, net_opens, net_put, opened_by_put}
 use Rattle.port_model.specs.NetEndState.{NetEndState}
 use Rattle.port_model.specs.NetEndStep.{NetLeft}

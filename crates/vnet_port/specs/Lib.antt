@@ -7,6 +7,6 @@ pub mod Hearing
 pub mod Memberships
 pub mod NextAct
 pub use Rattle.port_frames.specs.Memories
-pub use Rattle.channel_model.specs.Seeing
-pub use Rattle.channel_model.specs.WireEvent
-pub use Rattle.channel_model.specs.WireLog
+pub use Rattle.channel_laws.specs.Seeing
+pub use Rattle.channel_laws.specs.WireEvent
+pub use Rattle.channel_laws.specs.WireLog

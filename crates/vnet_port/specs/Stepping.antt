@@ -4,7 +4,7 @@ use Rattle.ldc_queue.specs.ChannelView.{ChannelView, channel_with, channel_witho
 use Rattle.ldc_queue.specs.declared.end.End.{End}
 use Rattle.ldc_queue.specs.Wire.{peer_of}
 use Rattle.map_table.specs.declared.table.Entry.{Entry}
-use Rattle.channel_model.specs.Seeing.{Seen, seen}
+use Rattle.channel_laws.specs.Seeing.{Seen, seen}
 use Rattle.port_frames.specs.Memories.{reach_over}
 use Rattle.port_model.specs.NetEndRule.{NetRule, port_rule}
 use Rattle.port_model.specs.NetEndState.{NetEndState}

@@ -28,7 +28,7 @@ pub(crate) enum PutOf {
 }
 
 impl PortEnd {
-    ghost use Rattle.channel_model.specs.EndPuts.{EndsHandshake, put_opens};
+    ghost use Rattle.channel_laws.specs.EndPuts.{EndsHandshake, put_opens};
     ghost use Rattle.port_model.specs.NetEndPutting.{cleared_ring, holding};
     ghost use Rattle.port_model.specs.NetEndState.{first_id, opened_net_end};
     ghost use Rattle.vnet_port.specs.Calls.{end_of};

@@ -10,8 +10,8 @@ use Rattle.vdisk_msg.specs.declared.request.Request.{Request}
 use Rattle.vdisk_msg.specs.declared.request.Request.TheVariants.{Flush, Read, Write}
 use Rattle.vdisk_msg.specs.Requests.{BadCount, Defect, defect, given_count, operation_of}
 use Rattle.vio_tag.specs.declared.cause.Cause.{Cause}
-use Rattle.channel_model.specs.ResetSays.{ResetSays}
-use Rattle.channel_model.specs.WireEvent.{Joined, Reset}
+use Rattle.channel_laws.specs.ResetSays.{ResetSays}
+use Rattle.channel_laws.specs.WireEvent.{Joined, Reset}
 use Rattle.lane_laws.specs.DiskLog.{DiskLog, after, nothing_yet}
 use Rattle.lane_laws.specs.May.{May}
 use Rattle.lane_laws.specs.RequestLaws.{CarriesAt, carried_count}

@@ -4,7 +4,7 @@ use Rattle.std.specs.Prelude.{◌&&◌}
 use Rattle.runs.specs.Run.{run_keeps, run_push}
 use Rattle.ldc_queue.specs.declared.end.End.{End}
 use Rattle.ldc_queue.specs.declared.end.End.TheVariants.{A, B}
-use Rattle.channel_model.specs.WireAt.{IsUp}
+use Rattle.channel_laws.specs.WireAt.{IsUp}
 use Rattle.disk_model.specs.DiskEvent.{DiskEvent}
 use Rattle.disk_model.specs.LaneState.{LaneState, fresh}
 use Rattle.disk_model.specs.LaneStep.{LaneStep}

@@ -4,7 +4,7 @@ use Rattle.std.proofs.Common.{◌≡◌, ℕ, ◌-◌, ◌%◌, false, List, [],
 use Rattle.std.specs.Prelude.{⊤, slice_get}
 use Rattle.runs.specs.Lawful.{Lawful, lawful_split, log_of}
 use Rattle.runs.specs.Run.{Run, run_push}
-use Rattle.channel_model.specs.WireLog.{WireLog}
+use Rattle.channel_laws.specs.WireLog.{WireLog}
 use Rattle.lane_laws.specs.DiskLog.{DiskLog, after, nothing_yet}
 use Rattle.lane_laws.specs.May.{May}
 use Rattle.lane_laws.specs.RingLog.{Done as IsDone}

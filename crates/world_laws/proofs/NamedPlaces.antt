@@ -16,9 +16,9 @@ use Rattle.disk_model.specs.ServerWork.{desc_of}
 use Rattle.lane_laws.specs.DiskLog.{DiskLog, after, nothing_yet}
 use Rattle.ldc_queue.specs.declared.end.ChannelState.TheVariants.{Up}
 use Rattle.ldc_queue.specs.declared.end.End.TheVariants.{B}
-use Rattle.channel_model.specs.Seeing.{seen}
+use Rattle.channel_laws.specs.Seeing.{seen}
 use Rattle.disk_model.specs.ServerRule as server_rules
-use Rattle.channel_model.specs.WireLog.{WireLog}
+use Rattle.channel_laws.specs.WireLog.{WireLog}
 use Rattle.lane_laws.proofs.Ruling.{server_may}
 use Rattle.lane_laws.proofs.StandingSteps.{wired_keeps}
 use Rattle.lane_laws.proofs.RingClientSteps.{got_at}

@@ -3,8 +3,8 @@ use Rattle.std.proofs.Common.{◌≡◌, ℕ, List, Option, refl, ap, ◌∙◌,
 use Rattle.std.specs.Prelude.{⊤}
 use Rattle.ldc_queue.specs.declared.end.End.{End}
 use Rattle.ldc_queue.specs.declared.end.End.TheVariants.{A, B}
-use Rattle.channel_model.specs.WireEvent.{Giver, Injected, Poked, Reset, WireEvent}
-use Rattle.channel_model.specs.WireLog.{wire_moved}
+use Rattle.channel_laws.specs.WireEvent.{Giver, Injected, Poked, Reset, WireEvent}
+use Rattle.channel_laws.specs.WireLog.{wire_moved}
 use Rattle.vio_tag.specs.declared.cause.Cause.{Cause}
 use Rattle.disk_model.specs.DiskEvent.{DiskEvent, OnWire, Calms, Stopped, Switches, Worked, Works, Calm}
 use Rattle.disk_model.specs.LaneState.{LaneState}

@@ -5,7 +5,7 @@ use Rattle.std.proofs.lemmas.Option.{slice_get_within}
 use Rattle.runs.specs.Lawful.{log_of}
 use Rattle.runs.specs.Run.{Run, run_split}
 use Rattle.ldc_queue.specs.declared.end.End.TheVariants.{A, B}
-use Rattle.channel_model.specs.WireAt.{IsUp}
+use Rattle.channel_laws.specs.WireAt.{IsUp}
 use Rattle.disk_law.specs.ListState.{ImageState}
 use Rattle.lane_laws.specs.Agreement.{AgreesWithLog}
 use Rattle.lane_laws.specs.DiskLog.{after, nothing_yet}

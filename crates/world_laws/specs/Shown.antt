@@ -1,6 +1,6 @@
 -- What of a journal a short report shows.
 use Rattle.std.specs.Prelude.{Bool, true, false, List, [], ◌∷◌, ◌++◌}
-use Rattle.channel_model.specs.WireEvent.{Reset}
+use Rattle.channel_laws.specs.WireEvent.{Reset}
 use Rattle.disk_model.specs.DiskEvent.{Asks, Done, Full, OnWire, Refused, Works}
 use Rattle.world_laws.specs.Settle.{OfLane, SettleEntry}
 

@@ -2,7 +2,7 @@
 use Rattle.std.specs.Prelude.{◌≡◌, ℕ, ◌%◌, ◌<◌, ◌≤◌, List, length, ⊤}
 use Rattle.vio_tag.specs.declared.cause.Cause.{Cause}
 use Rattle.vio_tag.specs.declared.cause.Cause.TheVariants as the_cause
-use Rattle.channel_model.specs.WireEvent.{Joined, Reset}
+use Rattle.channel_laws.specs.WireEvent.{Joined, Reset}
 use Rattle.disk_model.specs.DiskEvent.{DiskEvent, Done, OnWire, Stored, Works}
 
 -- an operation is a read, 1, a write, 2, or a flush, 3

@@ -4,7 +4,7 @@ ghost use Rattle.std.specs.Prelude.{◌≡◌, ℕ, true, false, [], ◌∷◌, 
 ghost use Rattle.runs.specs.Run.{Run};
 ghost use Rattle.ldc_queue.specs.declared.end.End.{End};
 ghost use Rattle.ldc_queue.specs.declared.end.End.TheVariants.{A, B};
-ghost use Rattle.channel_model.specs.WireEvent.{Idle};
+ghost use Rattle.channel_laws.specs.WireEvent.{Idle};
 ghost use Rattle.disk_model.specs.DiskEvent.{Off, OnWire, Switches};
 ghost use Rattle.disk_model.specs.LaneState.{LaneState};
 ghost use Rattle.disk_model.specs.LaneStep.{LaneStep};

@@ -4,7 +4,7 @@ ghost use Rattle.std.specs.Prelude.{◌≡◌, ◌<◌, ℕ, false, true, is_som
 ghost use Rattle.runs.specs.Lawful.{log_of};
 ghost use Rattle.runs.specs.Run.{Run};
 ghost use Rattle.ldc_queue.specs.declared.end.End.TheVariants.{A, B};
-ghost use Rattle.channel_model.specs.WireAt.{IsUp};
+ghost use Rattle.channel_laws.specs.WireAt.{IsUp};
 ghost use Rattle.disk_law.specs.ListState.{ImageState};
 ghost use Rattle.lane_laws.specs.Agreement.{AgreesWithLog};
 ghost use Rattle.lane_laws.specs.DiskLog.{after, nothing_yet};

@@ -5,7 +5,7 @@ use Rattle.std.specs.Prelude.{IsSomeAnd, ⊤}
 use Rattle.std.proofs.lemmas.Bool.{eqb-true}
 use Rattle.vdisk_msg.specs.declared.request.Request.{Request}
 use Rattle.disk_law.specs.Requests.{Defect}
-use Rattle.domain_laws.specs.channel_model.WireEvent.{Declined, Declines, InjectedFull, NothingLost, NotInjected, PokeRefused, WireEvent}
+use Rattle.domain_laws.specs.channel_laws.WireEvent.{Declined, Declines, InjectedFull, NothingLost, NotInjected, PokeRefused, WireEvent}
 use Rattle.domain_laws.specs.disk_model.DiskEvent.{Asks, Calm, CalmReset, CalmRestart, CalmStart, CalmStop, CalmTick, DiskEvent, Full, OnWire, Published, Refused, Calms, Works}
 use Rattle.domain_laws.specs.port_model.NetEvent.{CalmTick as CalmPortTick, Gives, Joins, NetEvent, Steps}
 use Rattle.domain_laws.specs.port_model.NetEvent as net

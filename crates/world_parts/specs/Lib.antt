@@ -12,4 +12,4 @@ pub use Rattle.domain_laws.specs.port_laws as port_laws
 pub use Rattle.domain_laws.specs.port_model as port_model
 pub use Rattle.domain_laws.specs.lane_laws as lane_laws
 pub use Rattle.domain_laws.specs.disk_model as disk_model
-pub use Rattle.domain_laws.specs.channel_model as channel_model
+pub use Rattle.domain_laws.specs.channel_laws as channel_laws

@@ -3,7 +3,7 @@ use Rattle.ldc_link.specs.Calls.{Sends}
 use Rattle.ldc_link.specs.declared.answers.SendOut.TheVariants as send
 use Rattle.ldc_queue.specs.declared.end.End.{End}
 use Rattle.port_model.specs.NetEndState.{NetEndState}
-use Rattle.channel_model.specs.EndPuts.{put_opens}
+use Rattle.channel_laws.specs.EndPuts.{put_opens}
 use Rattle.vnet_port.proofs.SentSteps.{handshake_owes, put_sent}
 use Rattle.vnet_port.specs.declared.putting.PutOf.{PutOf}
 use Rattle.vnet_port.specs.Putting.{MayOpen, PutsHeld, kind_of, next_put, noted}

@@ -9,7 +9,7 @@ use Rattle.map_table.specs.declared.cookie.Cookie.{Cookie}
 use Rattle.vio_handshake.specs.declared.handshake.Handshake.{Handshake}
 use Rattle.vio_handshake.specs.declared.session.Offer.{Offer}
 use Rattle.vio_handshake.specs.State.{fresh_handshake}
-use Rattle.channel_model.specs.WireLog.{WireLog, nothing_on_wire}
+use Rattle.channel_laws.specs.WireLog.{WireLog, nothing_on_wire}
 use Rattle.channel_laws.specs.EndCore.{EndCore}
 use Rattle.channel_laws.specs.LaneCore.{CoreEvent, CoreStep, LaneCore}
 

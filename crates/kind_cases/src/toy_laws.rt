@@ -5,13 +5,13 @@ ghost use Rattle.runs.specs.Run.{Run};
 ghost use Rattle.ldc_queue.specs.Transcript.{Heard, Said};
 ghost use Rattle.ldc_queue.specs.declared.end.End.TheVariants.{A, B};
 ghost use Rattle.ldc_queue.specs.declared.end.End.{End};
-ghost use Rattle.channel_model.specs.HandshakeOrder.{HandshakeOrder};
-ghost use Rattle.channel_model.specs.TranscriptLog.{transcript_of};
-ghost use Rattle.channel_model.specs.WireEvent.{Sent, Took};
+ghost use Rattle.channel_laws.specs.HandshakeOrder.{HandshakeOrder};
+ghost use Rattle.channel_laws.specs.TranscriptLog.{transcript_of};
+ghost use Rattle.channel_laws.specs.WireEvent.{Sent, Took};
 ghost use Rattle.channel_laws.specs.EndsAtRest.{IsAtRest};
 ghost use Rattle.channel_laws.specs.LaneCore.{role_of, transcript_behind, CoreEvent, OnChannel};
 ghost use Rattle.channel_laws.specs.OneSession.{AreOneSession};
-ghost use Rattle.channel_laws.specs.ToyKind.{fresh_toys, toy_lane, ToyLane, ToyStep};
+ghost use Rattle.kind_cases.specs.ToyKind.{fresh_toys, toy_lane, ToyLane, ToyStep};
 
 /// The toy's sessions open in the order of the handshake with rings both ways. On a channel that nobody forged the
 /// open sessions of both its ends are one, and each end knows the other's ring. Two toys at rest are in session there,

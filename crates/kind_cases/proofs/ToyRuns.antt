@@ -8,16 +8,16 @@ use Rattle.ldc_queue.specs.Transcript.{Heard, Said}
 use Rattle.map_table.proofs.Each.{each_replicate}
 use Rattle.vio_handshake.specs.Acceptance.{hold_ring}
 use Rattle.vio_handshake.specs.Offers.{FitsRing, Match}
-use Rattle.channel_model.specs.HandshakeOrder.{HandshakeOrder}
-use Rattle.channel_model.specs.TranscriptLog.{transcript_of}
-use Rattle.channel_model.specs.WireEvent as event
+use Rattle.channel_laws.specs.HandshakeOrder.{HandshakeOrder}
+use Rattle.channel_laws.specs.TranscriptLog.{transcript_of}
+use Rattle.channel_laws.specs.WireEvent as event
 use Rattle.channel_laws.proofs.EndsAtRest.{two_at_rest_open}
 use Rattle.channel_laws.proofs.OpeningOrder.{opens_hearing, opens_saying}
 use Rattle.channel_laws.proofs.Sessions.{open_sessions_one}
 use Rattle.channel_laws.specs.EndsAtRest.{IsAtRest}
 use Rattle.channel_laws.specs.LaneCore.{CoreEvent, CoreFits, CoreStep, OfferFits, OnChannel, role_of, transcript_behind}
 use Rattle.channel_laws.specs.OneSession.{AreOneSession}
-use Rattle.channel_laws.specs.ToyKind.{ToyLane, ToyStep, fresh_toys, toy_lane, toy_offer}
+use Rattle.kind_cases.specs.ToyKind.{ToyLane, ToyStep, fresh_toys, toy_lane, toy_offer}
 
 offer_fits : OfferFits toy_offer
 offer_fits = grind (arith, each_replicate)

@@ -8,7 +8,7 @@ use Rattle.ldc_link.specs.declared.phase.Role.TheVariants.{Initiator, Responder}
 use Rattle.ldc_queue.specs.Fragments.{fragment_at, is_part}
 use Rattle.ldc_queue.specs.Transcript.{Heard, Said, Utterance}
 use Rattle.vio_tag.specs.Spelling as message_at
-use Rattle.channel_model.specs.Sayings.{half_heard, half_said}
+use Rattle.channel_laws.specs.Sayings.{half_heard, half_said}
 
 -- the packets of a link's own handshake: VERS INFO 1.0, a VERS INFO of major 1, VERS ACK 1.0, RTS and RTR with mode 1, RDX INFO
 pub data Control : Type 0 where
@@ -121,17 +121,17 @@ IsAside role lines (Heard packet) before = ComesUpBelow lines ⊎ (is_part packe
 abbrev pub FollowsRow : Role → ℕ → List Line → List Utterance → Type 0
 FollowsRow role sid [] [] = ⊤
 FollowsRow role sid (line ∷ lines) [] = ⊥
-FollowsRow role sid [] (turn ∷ turns) = IsAside role [] turn turns × FollowsRow role sid [] turns
-FollowsRow role sid (line ∷ lines) (turn ∷ turns) =
-    (Meets sid line turn turns × FollowsRow role sid lines turns)
-    ⊎ (IsAside role (line ∷ lines) turn turns × FollowsRow role sid (line ∷ lines) turns)
+FollowsRow role sid [] (turn ∷ utterances) = IsAside role [] turn utterances × FollowsRow role sid [] utterances
+FollowsRow role sid (line ∷ lines) (turn ∷ utterances) =
+    (Meets sid line turn utterances × FollowsRow role sid lines utterances)
+    ⊎ (IsAside role (line ∷ lines) turn utterances × FollowsRow role sid (line ∷ lines) utterances)
 
 -- Its newest turn is that by which the session opened. All messages of the row have one sid.
 abbrev pub OpensBy : Role → ℕ → List Line → List Utterance → Type 0
-OpensBy role sid [] turns = ⊥
+OpensBy role sid [] utterances = ⊥
 OpensBy role sid (line ∷ lines) [] = ⊥
-OpensBy role sid (line ∷ lines) (turn ∷ turns) = Meets sid line turn turns × FollowsRow role sid lines turns
+OpensBy role sid (line ∷ lines) (turn ∷ utterances) = Meets sid line turn utterances × FollowsRow role sid lines utterances
 
-pub record HandshakeOrder (both : Bool) (role : Role) (turns : List Utterance) : Type 0 where
+pub record HandshakeOrder (both : Bool) (role : Role) (utterances : List Utterance) : Type 0 where
   pub sid : ℕ
-  pub opens : OpensBy role sid (row both role) turns
+  pub opens : OpensBy role sid (row both role) utterances

@@ -16,7 +16,7 @@ use Rattle.vio_handshake.specs.declared.handshake.Phase.{Phase}
 use Rattle.vio_handshake.specs.declared.handshake.Phase.TheVariants as state
 use Rattle.vio_handshake.specs.Rules as rules
 use Rattle.vio_handshake.specs.Rules.{Faults, Goes, GoesOpen, HandshakeTake, answered, asked, fault_or, is_declined, row, handshake_hear, handshake_take, sid_fault}
-use Rattle.channel_model.proofs.OwnCauses.{IsOwn}
+use Rattle.channel_laws.proofs.OwnCauses.{IsOwn}
 
 abbrev pub OwnHandshake : HandshakeTake → Type 0
 OwnHandshake (Goes h) = ⊤

@@ -9,7 +9,7 @@ use Rattle.ldc_queue.specs.Messages as in_order
 use Rattle.ldc_queue.specs.Messages.{half_in, half_with, messages_heard, messages_said, whole_in, whole_with}
 use Rattle.ldc_queue.specs.Numbered.{kept, numbered}
 use Rattle.ldc_queue.specs.Transcript.{Heard, Said, Utterance, numbered_heard, numbered_said}
-use Rattle.channel_model.specs.Sayings.{half_heard, half_past, half_said, heard, said, whole_by, whole_past}
+use Rattle.channel_laws.specs.Sayings.{half_heard, half_past, half_said, heard, said, whole_by, whole_past}
 
 -- the part of one packet, if it has one: each part has a number
 kept_part : (b c : Bool) (packet : List ℕ) → is_part packet ≡ b → fragments_in (kept (b || c) packet []) ≡ joins b (fragment_at packet) []

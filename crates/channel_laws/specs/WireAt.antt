@@ -14,10 +14,10 @@ use Rattle.ldc_queue.specs.Transcript.{Utterance}
 use Rattle.ldc_queue.specs.Wire.{Wire, peer_of, state_of, waiting_for}
 use Rattle.vio_tag.specs.declared.cause.Cause.{Cause}
 use Rattle.vio_tag.specs.declared.cause.Cause.TheVariants as the_cause
-use Rattle.channel_model.specs.Sayings.{count_heard, count_said, half_heard, half_said}
-use Rattle.channel_model.specs.TranscriptLog.{TranscriptLog, transcript_of}
-use Rattle.channel_model.specs.WireEvent.{Blocked, ByRestart, ByScript, ByStep, ByTick, Declined, Declines, Giver, Idle, Injected, InjectedFull, Joined, Lost, NotInjected, NothingLost, PokeRefused, Poked, Reset, Sent, Took, WireEvent, giver}
-use Rattle.channel_model.specs.WireLog.{WireLog}
+use Rattle.channel_laws.specs.Sayings.{count_heard, count_said, half_heard, half_said}
+use Rattle.channel_laws.specs.TranscriptLog.{TranscriptLog, transcript_of}
+use Rattle.channel_laws.specs.WireEvent.{Blocked, ByRestart, ByScript, ByStep, ByTick, Declined, Declines, Giver, Idle, Injected, InjectedFull, Joined, Lost, NotInjected, NothingLost, PokeRefused, Poked, Reset, Sent, Took, WireEvent, giver}
+use Rattle.channel_laws.specs.WireLog.{WireLog}
 
 -- the entries of each queue, of which one always stays free, and the bytes of an end's memory
 pub record Sizes : Type 0 where
@@ -83,13 +83,13 @@ pub record IsSaidPart (half : List ℕ) (part : Fragment) : Type 0 where
   pub long : part.stop ≡ false → length part.bytes ≡ 56
   pub most : length half + length part.bytes ≤ 256
 
-pub record IsSaid (turns : List Utterance) (bytes : List ℕ) : Type 0 where
+pub record IsSaid (utterances : List Utterance) (bytes : List ℕ) : Type 0 where
   pub packet : Packet
   pub formed : IsWellFormed packet
   pub widths : HasWidths packet
   pub spelled : bytes ≡ canonical packet
-  pub number : is_numbered bytes ≡ true → seqid_at bytes ≡ counts_next (count_said turns)
-  pub part : is_part bytes ≡ true → IsSaidPart (half_said turns) (fragment_at bytes)
+  pub number : is_numbered bytes ≡ true → seqid_at bytes ≡ counts_next (count_said utterances)
+  pub part : is_part bytes ≡ true → IsSaidPart (half_said utterances) (fragment_at bytes)
 
 abbrev pub WireSaidAt : TranscriptLog → WireEvent → Type 0
 WireSaidAt l (Sent e packet opens) = IsSaid (transcript_of e l) packet
@@ -101,30 +101,30 @@ pub record IsHeardPart (half : List ℕ) (part : Fragment) : Type 0 where
   pub start : part.start ≡ is_empty half
   pub most : length half + length part.bytes ≤ 256
 
-pub record IsHeard (turns : List Utterance) (bytes : List ℕ) : Type 0 where
+pub record IsHeard (utterances : List Utterance) (bytes : List ℕ) : Type 0 where
   pub whole : length bytes ≡ 64
   pub sound : first_fault bytes ≡ None
-  pub number : is_numbered bytes ≡ true → seqid_at bytes ≡ counts_next (count_heard turns)
-  pub part : is_part bytes ≡ true → IsHeardPart (half_heard turns) (fragment_at bytes)
+  pub number : is_numbered bytes ≡ true → seqid_at bytes ≡ counts_next (count_heard utterances)
+  pub part : is_part bytes ≡ true → IsHeardPart (half_heard utterances) (fragment_at bytes)
 
 abbrev pub WireHeardAt : TranscriptLog → WireEvent → Type 0
 WireHeardAt l (Took e packet opens) = IsHeard (transcript_of e l) packet
 WireHeardAt l _ = ⊤
 
 -- THE GAP: the packet has a number, which is another than the next
-pub record IsGap (turns : List Utterance) (expected found : ℕ) (packet : List ℕ) : Type 0 where
+pub record IsGap (utterances : List Utterance) (expected found : ℕ) (packet : List ℕ) : Type 0 where
   pub has_number : is_numbered packet ≡ true
-  pub next : expected ≡ counts_next (count_heard turns)
+  pub next : expected ≡ counts_next (count_heard utterances)
   pub is : found ≡ seqid_at packet
   pub other : expected ≢ found
 
 abbrev pub GapCarries : List Utterance → ℕ → ℕ → Option (List ℕ) → Type 0
-GapCarries turns expected found None = ⊥
-GapCarries turns expected found (Some packet) = IsGap turns expected found packet
+GapCarries utterances expected found None = ⊥
+GapCarries utterances expected found (Some packet) = IsGap utterances expected found packet
 
 abbrev pub GapOf : List Utterance → Cause → Option (List ℕ) → Type 0
-GapOf turns (the_cause.Gap expected found) packet = GapCarries turns expected found packet
-GapOf turns _ packet = ⊤
+GapOf utterances (the_cause.Gap expected found) packet = GapCarries utterances expected found packet
+GapOf utterances _ packet = ⊤
 
 abbrev pub WireGapAt : TranscriptLog → WireEvent → Type 0
 WireGapAt l (Reset e cause packet lost) = GapOf (transcript_of e l) cause packet

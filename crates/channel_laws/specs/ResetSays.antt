@@ -10,9 +10,9 @@ use Rattle.vio_tag.specs.declared.cause.Cause.{Cause}
 use Rattle.vio_tag.specs.declared.cause.Cause.TheVariants as the_cause
 use Rattle.vio_tag.specs.Fault as message
 use Rattle.vio_tag.specs.Spelling as message_at
-use Rattle.channel_model.specs.Sayings.{half_heard}
-use Rattle.channel_model.specs.TranscriptLog.{TranscriptLog, transcript_of}
-use Rattle.channel_model.specs.WireEvent.{Reset, WireEvent}
+use Rattle.channel_laws.specs.Sayings.{half_heard}
+use Rattle.channel_laws.specs.TranscriptLog.{TranscriptLog, transcript_of}
+use Rattle.channel_laws.specs.WireEvent.{Reset, WireEvent}
 
 -- RTS or RTR with the mode, which isn't unreliable, 1
 pub record HasMode (packet : List ℕ) (found : ℕ) : Type 0 where
@@ -29,13 +29,13 @@ pub record RefusesVersion (packet : List ℕ) : Type 0 where
       ⊎ ((subtype_at packet ≡ 2) × ((number_at 2 8 packet ≢ 1) ⊎ (number_at 2 10 packet ≢ 0)))
 
 -- a part that makes no message with what had come before
-pub record BreaksMessage (turns : List Utterance) (packet : List ℕ) : Type 0 where
+pub record BreaksMessage (utterances : List Utterance) (packet : List ℕ) : Type 0 where
   pub part : is_part packet ≡ true
-  pub broken : may_come (half_heard turns) (fragment_at packet) ≡ false
+  pub broken : may_come (half_heard utterances) (fragment_at packet) ≡ false
 
 -- the message that the packet ends
 abbrev pub ended : List Utterance → List ℕ → List ℕ
-ended turns packet = half_heard turns ++ (fragment_at packet).bytes
+ended utterances packet = half_heard utterances ++ (fragment_at packet).bytes
 
 pub record EndsMessage (packet : List ℕ) : Type 0 where
   pub part : is_part packet ≡ true
@@ -58,24 +58,24 @@ MessageSays m (the_cause.RangeEnd found) = (message.first_fault m ≡ None) × (
 MessageSays m _ = ⊥
 
 abbrev pub EndsBadly : List Utterance → List ℕ → Cause → Type 0
-EndsBadly turns packet cause = EndsMessage packet × MessageSays (ended turns packet) cause
+EndsBadly utterances packet cause = EndsMessage packet × MessageSays (ended utterances packet) cause
 
 -- Bytes that spell no packet have that cause and no other. What a gap says stands by itself, and what a ring has no packet.
 abbrev pub PacketSays : List Utterance → List ℕ → Cause → Type 0
-PacketSays turns packet (the_cause.Packet fault) = first_fault packet ≡ Some fault
-PacketSays turns packet (the_cause.Gap expected found) = first_fault packet ≡ None
-PacketSays turns packet (the_cause.Mode found) = (first_fault packet ≡ None) × HasMode packet found
-PacketSays turns packet the_cause.Version = (first_fault packet ≡ None) × RefusesVersion packet
-PacketSays turns packet the_cause.Unexpected = first_fault packet ≡ None
-PacketSays turns packet the_cause.Fragment = (first_fault packet ≡ None) × BreaksMessage turns packet
-PacketSays turns packet (the_cause.NotReady slot state) = ⊥
-PacketSays turns packet (the_cause.NotDone slot state) = first_fault packet ≡ None
-PacketSays turns packet (the_cause.Frame size count) = ⊥
-PacketSays turns packet (the_cause.Copy fault) = ⊥
-PacketSays turns packet the_cause.Asked = ⊥
-PacketSays turns packet the_cause.Restart = ⊥
-PacketSays turns packet the_cause.Tick = ⊥
-PacketSays turns packet cause = (first_fault packet ≡ None) × EndsBadly turns packet cause
+PacketSays utterances packet (the_cause.Packet fault) = first_fault packet ≡ Some fault
+PacketSays utterances packet (the_cause.Gap expected found) = first_fault packet ≡ None
+PacketSays utterances packet (the_cause.Mode found) = (first_fault packet ≡ None) × HasMode packet found
+PacketSays utterances packet the_cause.Version = (first_fault packet ≡ None) × RefusesVersion packet
+PacketSays utterances packet the_cause.Unexpected = first_fault packet ≡ None
+PacketSays utterances packet the_cause.Fragment = (first_fault packet ≡ None) × BreaksMessage utterances packet
+PacketSays utterances packet (the_cause.NotReady slot state) = ⊥
+PacketSays utterances packet (the_cause.NotDone slot state) = first_fault packet ≡ None
+PacketSays utterances packet (the_cause.Frame size count) = ⊥
+PacketSays utterances packet (the_cause.Copy fault) = ⊥
+PacketSays utterances packet the_cause.Asked = ⊥
+PacketSays utterances packet the_cause.Restart = ⊥
+PacketSays utterances packet the_cause.Tick = ⊥
+PacketSays utterances packet cause = (first_fault packet ≡ None) × EndsBadly utterances packet cause
 
 -- the causes that lie in a packet want one
 abbrev pub MayLackPacket : Cause → Type 0
@@ -89,8 +89,8 @@ MayLackPacket (the_cause.Copy fault) = ⊤
 MayLackPacket _ = ⊥
 
 abbrev pub ResetSays : List Utterance → Option (List ℕ) → Cause → Type 0
-ResetSays turns None cause = MayLackPacket cause
-ResetSays turns (Some packet) cause = PacketSays turns packet cause
+ResetSays utterances None cause = MayLackPacket cause
+ResetSays utterances (Some packet) cause = PacketSays utterances packet cause
 
 abbrev pub WireResetAt : TranscriptLog → WireEvent → Type 0
 WireResetAt l (Reset e cause packet lost) = ResetSays (transcript_of e l) packet cause

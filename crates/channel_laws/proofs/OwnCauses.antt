@@ -14,7 +14,7 @@ use Rattle.ldc_packet.specs.declared.packet.Subtype.TheVariants.{Info, Ack, Nack
 use Rattle.ldc_queue.specs.Fragments.{Fragment}
 use Rattle.vio_tag.specs.declared.cause.Cause.{Cause}
 use Rattle.vio_tag.specs.declared.cause.Cause.TheVariants as the_cause
-use Rattle.channel_model.specs.WireEvent.{ByStep, giver}
+use Rattle.channel_laws.specs.WireEvent.{ByStep, giver}
 
 abbrev pub IsOwn : Cause → Type 0
 IsOwn cause = giver cause ≡ ByStep

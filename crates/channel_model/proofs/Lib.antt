@@ -1,3 +1,0 @@
-pub mod SameSayings
-pub mod OwnCauses
-pub mod OwnMessages
