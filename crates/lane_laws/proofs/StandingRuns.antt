@@ -135,4 +135,4 @@ pub once_lawful : (shape : Shape) (events : List DiskEvent) (s : LaneState) → 
 once_lawful shape events s sound run = lawful_by MayOfRequests OnceAt (λ l e may. may.once) (nothing_yet shape) events (requests_lawful shape events s sound run)
 
 pub turns_lawful : (shape : Shape) (events : List DiskEvent) (s : LaneState) → IsShape shape → Run LaneStep (fresh shape) events s → Lawful ServerRunsAt after (nothing_yet shape) events
-turns_lawful shape events s sound run = lawful_by MayOfRequests ServerRunsAt (λ l e may. may.utterances) (nothing_yet shape) events (requests_lawful shape events s sound run)
+turns_lawful shape events s sound run = lawful_by MayOfRequests ServerRunsAt (λ l e may. may.turns) (nothing_yet shape) events (requests_lawful shape events s sound run)

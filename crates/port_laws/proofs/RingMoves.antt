@@ -6,7 +6,7 @@ use Rattle.std.proofs.lemmas.List.{drop-drop}
 use Rattle.std.proofs.lemmas.Nat.{mod_below}
 use Rattle.std.proofs.lemmas.Option.{slice_get_within}
 use Rattle.std.proofs.Math.Nat.{add-mod_right}
-use Rattle.dring.proofs.Laps.{one_slot_front, one_turn, slot_cleared, slot_front, slot_reads_back}
+use Rattle.dring.proofs.Laps.{one_slot_front, one_lap, slot_cleared, slot_front, slot_reads_back}
 use Rattle.dring.specs.Slots.{free_state, slot_bytes}
 use Rattle.map_table.proofs.Putting.{length-cookies_bytes}
 use Rattle.vio_bytes.proofs.Putting.{length-put_at}
@@ -75,7 +75,7 @@ twice_stays memory middle new slot one two = record { bytes = two.bytes ∙ one.
 
 -- the other slots of one turn
 pub other_slot : (slots seen k j : ℕ) → seen ≤ k → k < seen + slots → seen ≤ j → j < seen + slots → j ≢ k → j % slots ≢ k % slots
-other_slot slots seen k j from until since before other = grind (arith, cases_lt, one_turn)
+other_slot slots seen k j from until since before other = grind (arith, cases_lt, one_lap)
 
 pub slot_within : (slots seen j : ℕ) → seen ≤ j → j < seen + slots → j % slots < slots
 slot_within slots seen j since before = mod_below j slots (omega (arith, since, before))
