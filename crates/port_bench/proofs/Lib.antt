@@ -1,1 +1,1 @@
-mod Shapes
+mod LaneShape

@@ -6,9 +6,10 @@ use net_lane::{End, NetLane, NetOut};
 use std::alloc::Global;
 use vio_bytes::NoMemory;
 
-/// The slots of each ring, and the packets for which a queue has room.
+/// The slots of each ring.
 const SLOTS: u32 = 64;
 
+/// The packets for which a queue has room.
 const ENTRIES: u32 = 64;
 
 /// More rounds than any frames between two settles take.
@@ -17,7 +18,7 @@ const ROUNDS: u32 = 100_000;
 /// The addresses of both ports.
 pub const ADDRESSES: [[u8; 6]; 2] = [[2, 0, 0, 0, 0, 1], [2, 0, 0, 0, 0, 2]];
 
-/// A port, and how many frames its ends were given at most.
+/// A port, and how many frames each of its ends was given at most.
 #[derive(Drop)]
 pub struct Port {
     lane: NetLane,
@@ -35,7 +36,7 @@ struct Round {
     taken: bool,
 }
 
-#[tactic(auto, using(crate::proofs::Shapes::of_64))]
+#[tactic(auto, using(crate::proofs::LaneShape::of_64))]
 impl Port {
     fn new(alloc: Global, address: [u8; 6]) -> Result<Port, NoMemory> {
         let lane = NetLane::new(alloc, address, SLOTS, ENTRIES)?;

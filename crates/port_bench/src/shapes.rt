@@ -1,14 +1,15 @@
 // Which frames are sent.
 
-ghost use Rattle.std.specs.Prelude.{◌≤◌, IfSome};
+ghost use Rattle.std.specs.Prelude.{◌≤◌};
 
 use crate::ports::{ADDRESSES, Ports};
 use std::alloc::Global;
 use vio_bytes::NoMemory;
 
-/// The fewest bytes of a frame, and the most.
+/// The fewest bytes of a frame.
 const LEAST: usize = 14;
 
+/// The most bytes of a frame.
 const MOST: usize = 1514;
 
 /// As many frames between one settle and the next.
