@@ -1,6 +1,7 @@
 // Two ports, and what carries frames from one's end at the switch to the other's.
 
 ghost use Rattle.std.specs.Prelude.{◌≤◌};
+ghost use Rattle.net_lane.specs.NetLaneState.{IsNetShape};
 
 use net_lane::{End, NetLane, NetOut};
 use std::alloc::Global;
@@ -15,8 +16,11 @@ const ENTRIES: u32 = 64;
 /// More rounds than any frames between two settles take.
 const ROUNDS: u32 = 100_000;
 
-/// The addresses of both ports.
-pub const ADDRESSES: [[u8; 6]; 2] = [[2, 0, 0, 0, 0, 1], [2, 0, 0, 0, 0, 2]];
+/// The first port's address.
+pub const FIRST: [u8; 6] = [2, 0, 0, 0, 0, 1];
+
+/// The second port's.
+pub const SECOND: [u8; 6] = [2, 0, 0, 0, 0, 2];
 
 /// A port, and how many frames each of its ends was given at most.
 #[derive(Drop)]
@@ -36,9 +40,10 @@ struct Round {
     taken: bool,
 }
 
-#[tactic(auto, using(crate::proofs::LaneShape::of_64))]
 impl Port {
-    fn new(alloc: Global, address: [u8; 6]) -> Result<Port, NoMemory> {
+    fn new(alloc: Global, address: [u8; 6]) -> Result<Port, NoMemory>
+        requires { IsNetShape (record { address = address; slots = 64; entries = 64 }) }
+    {
         let lane = NetLane::new(alloc, address, SLOTS, ENTRIES)?;
         Ok(Port { lane, given: 0 })
     }
@@ -78,13 +83,13 @@ pub struct Ports {
     second: Port,
 }
 
+#[tactic(auto, using(crate::proofs::LaneShape::of_first, crate::proofs::LaneShape::of_second))]
 impl Ports {
     /// Ports whose ends aren't configured yet.
     pub fn new(alloc: Global) -> Result<Ports, NoMemory> {
-        let [first, second] = ADDRESSES;
         Ok(Ports {
-            first: Port::new(alloc, first)?,
-            second: Port::new(alloc, second)?,
+            first: Port::new(alloc, FIRST)?,
+            second: Port::new(alloc, SECOND)?,
         })
     }
 

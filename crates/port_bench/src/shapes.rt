@@ -2,7 +2,7 @@
 
 ghost use Rattle.std.specs.Prelude.{◌≤◌};
 
-use crate::ports::{ADDRESSES, Ports};
+use crate::ports::{FIRST, Ports, SECOND};
 use std::alloc::Global;
 use vio_bytes::NoMemory;
 
@@ -57,9 +57,8 @@ fn frame(to: [u8; 6], from: [u8; 6]) -> [u8; MOST] {
 /// Sends so many frames, and tells how many were taken.
 pub fn run(alloc: Global, shape: Shape, count: u32) -> Result<u64, NoMemory> {
     let mut ports = Ports::new(alloc)?;
-    let [first, second] = ADDRESSES;
-    let there = frame(second, first);
-    let back = frame(first, second);
+    let there = frame(SECOND, FIRST);
+    let back = frame(FIRST, SECOND);
     let mut taken = ports.settle();
     for k in 0..count {
         if shape.both_ways && k % 2 == 1 {
