@@ -17,21 +17,21 @@ use Rattle.channel_laws.proofs.HandshakeCases.{RowSent, row_sent}
 use Rattle.channel_laws.proofs.LinkCases.{ControlPut, behind_part, behind_ready}
 use Rattle.channel_laws.proofs.Short.{short_within}
 use Rattle.channel_laws.proofs.UtteranceCases.{SaysLast}
-use Rattle.channel_laws.specs.Budget.{budget, budget_in, messages_left, one_more, one_owed, opening_left, owed_left}
+use Rattle.channel_laws.specs.Budget.{budget, budget_in, messages_left, one_more, one_owed, opening_left, owed_packets}
 use Rattle.channel_laws.specs.EndCore.{EndCore, holds}
 use Rattle.channel_laws.specs.EndStep.{EndAnew, EndSays, EndStays, EndWaits, Holding, Holds}
 use Rattle.channel_laws.specs.Standing.{EndStands}
 
 -- SUMS
-owed_held : (xs : List ℕ) (owed : Option Message) → 1 ≤ length xs → owed_left false xs owed ≡ 0
+owed_held : (xs : List ℕ) (owed : Option Message) → 1 ≤ length xs → owed_packets false xs owed ≡ 0
 owed_held [] owed some = absurd (omega (arith, some))
 owed_held (x ∷ xs) owed some = refl
 
-owed_beside : (xs : List ℕ) (owed : Option Message) → owed_left true xs owed ≡ one_owed owed
+owed_beside : (xs : List ℕ) (owed : Option Message) → owed_packets true xs owed ≡ one_owed owed
 owed_beside [] owed = refl
 owed_beside (x ∷ xs) owed = refl
 
-owed_same : (own : Bool) (xs ys : List ℕ) (owed : Option Message) → 1 ≤ length xs → 1 ≤ length ys → owed_left own xs owed ≡ owed_left own ys owed
+owed_same : (own : Bool) (xs ys : List ℕ) (owed : Option Message) → 1 ≤ length xs → 1 ≤ length ys → owed_packets own xs owed ≡ owed_packets own ys owed
 owed_same own xs ys owed some more = grind arith
 
 -- once its message was put: the next one was counted, and so were the messages of a session that opens
@@ -74,7 +74,7 @@ control_budget before next bytes n m put = grind arith
 
 -- with the message that is left, the handshake and the messages of the session
 up_budget : (held t : EndCore) (left : List ℕ) (h : Handshake) → held.link.phase ≡ phase.Established → t.link ≡ behind_part held.link → left ≡ drop 56 held.link.to_send → t.handshake ≡ h
-    → length left + 257 * (owed_left t.own left h.owed + one_more h.role h.phase) + 60 * (opening_left h.role h.phase + t.more) + 1 ≤ messages_left held → budget t + 1 ≤ budget held
+    → length left + 257 * (owed_packets t.own left h.owed + one_more h.role h.phase) + 60 * (opening_left h.role h.phase + t.more) + 1 ≤ messages_left held → budget t + 1 ≤ budget held
 up_budget held t left h at link is handshake less = grind arith
 
 ready_budget : (role : Role) (held t : EndCore) (turns : List Utterance) → EndStands role held turns → held.link.phase ≡ phase.OwesRdx → t.link ≡ behind_ready held.link
@@ -83,7 +83,7 @@ ready_budget role held t turns stands at link handshake more = grind arith
 
 last_budget : (held t : EndCore) (turns : List Utterance) (packet : List ℕ) (h : Handshake) → held.link.phase ≡ phase.Established → t.link ≡ behind_part held.link
     → SaysLast held.link turns packet → t.handshake ≡ h
-    → one_owed h.owed + one_more h.role h.phase ≤ owed_left held.own held.link.to_send held.handshake.owed + one_more held.handshake.role held.handshake.phase
+    → one_owed h.owed + one_more h.role h.phase ≤ owed_packets held.own held.link.to_send held.handshake.owed + one_more held.handshake.role held.handshake.phase
     → opening_left h.role h.phase + t.more ≤ opening_left held.handshake.role held.handshake.phase + held.more → budget t + 1 ≤ budget held
 last_budget held t turns packet h at link last handshake owed opening =
     up_budget held t [] h at link (sym (last_none held.link turns packet last)) handshake (omega (arith, last.some, owed, opening))
@@ -106,16 +106,16 @@ put_budget role held t turns packet opens stands most more own (PutMore at link 
       less,
       long,
       more not,
-      ap (λ (b : Bool). owed_left b (drop 56 held.link.to_send) held.handshake.owed) same ∙ owed_same held.own (drop 56 held.link.to_send) held.link.to_send held.handshake.owed left some,
+      ap (λ (b : Bool). owed_packets b (drop 56 held.link.to_send) held.handshake.owed) same ∙ owed_same held.own (drop 56 held.link.to_send) held.link.to_send held.handshake.owed left some,
     ))
 put_budget role held t turns packet opens stands most more own (PutOwn is at link last handshake not is_open) =
     last_budget held t turns packet held.handshake at link last handshake
-    (omega (arith, ap (λ (b : Bool). owed_left b held.link.to_send held.handshake.owed) is ∙ owed_beside held.link.to_send held.handshake.owed)) (omega (arith, more not))
+    (omega (arith, ap (λ (b : Bool). owed_packets b held.link.to_send held.handshake.owed) is ∙ owed_beside held.link.to_send held.handshake.owed)) (omega (arith, more not))
 put_budget role held t turns packet opens stands most more own (PutHandshake is at link last handshake flag is_open) =
     let sent = sent_less held.handshake (handshake_sent held.handshake) (opens_by_put held.handshake.role held.handshake.phase) held.more t.more most
     (λ not. more (flag ∙ not)) (row_sent held.handshake) in
     last_budget held t turns packet (handshake_sent held.handshake) at link last handshake
-    (omega (arith, sent.owed, ap (λ (b : Bool). owed_left b held.link.to_send held.handshake.owed) is ∙ owed_held held.link.to_send held.handshake.owed last.some)) sent.opening
+    (omega (arith, sent.owed, ap (λ (b : Bool). owed_packets b held.link.to_send held.handshake.owed) is ∙ owed_held held.link.to_send held.handshake.owed last.some)) sent.opening
 
 pub says_budget : (role : Role) (c t : EndCore) (turns : List Utterance) (packet : List ℕ) (opens : Bool) → EndStands role c turns → EndSays role c packet opens t → budget t + 1 ≤ budget c
 says_budget role c t turns packet opens stands says =

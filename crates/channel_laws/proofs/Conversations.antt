@@ -28,7 +28,7 @@ use Rattle.channel_laws.proofs.FewLost.{below_turn, few_begins, few_lost, few_lo
 use Rattle.channel_laws.proofs.LinkCases.{ControlPut, LinkHeard, behind_part, canonical_is, put_quiet, ready_loud}
 use Rattle.channel_laws.proofs.UtteranceCases.{SaysPart}
 use Rattle.channel_laws.specs.Budget.{budget}
-use Rattle.channel_laws.specs.Conversing.{AreFew, Converse, controls, live_budget, live_puts, live_takes, puts_left, queue_log, takes_left, unless, unnumbered}
+use Rattle.channel_laws.specs.Conversing.{FewAreLost, Converse, controls, live_budget, live_puts, live_takes, puts_left, queue_log, takes_left, unless, unnumbered}
 use Rattle.channel_laws.specs.EndCore.{EndCore, Hears}
 use Rattle.channel_laws.specs.EndStep.{EndAnew, EndHears, EndSays, EndStays, EndWaits, Holding, Holds}
 use Rattle.channel_laws.specs.Sides.{Sides, anew, goes_on, missed, other, put, shut, swapped, took}
@@ -233,7 +233,7 @@ missed_converse role s packet at_front c =
       to_theirs = record {
         left = omega (arith, left.1, c.to_theirs.left);
         queue = c.to_theirs.queue;
-        few = subst (λ (n : ℕ). AreFew c.lost_theirs (length s.theirs.waiting) (live_budget s.mine.state (budget s.mine.core)) (length (drop 1 s.mine.waiting))
+        few = subst (λ (n : ℕ). FewAreLost c.lost_theirs (length s.theirs.waiting) (live_budget s.mine.state (budget s.mine.core)) (length (drop 1 s.mine.waiting))
             (live_budget s.theirs.state (budget s.theirs.core)) n) (sym left.1) (few_peer_lost _ _ _ _ _ _ _ c.to_theirs.few shorter);
       };
     }
@@ -245,15 +245,15 @@ queue_shorter _ waiting = omega arith
 
 -- what may be lost for an end that begins, and for its peer; with as many packets without a number as before, or at most two
 joined_few : (e peer : ChannelState) (waiting beyond : List (List ℕ)) (lost theirs own new left now : ℕ)
-    → AreFew lost (length waiting) (live_budget peer theirs) (length beyond) (live_budget e own) left → theirs ≤ 34000 → new ≤ 1 → now ≤ 2
+    → FewAreLost lost (length waiting) (live_budget peer theirs) (length beyond) (live_budget e own) left → theirs ≤ 34000 → new ≤ 1 → now ≤ 2
     → (now ≤ left) ⊎ (e ≡ Up)
-    → AreFew (lost_behind e lost) (length (queue_behind e waiting)) (live_budget (peer_behind e peer) theirs) (length (queue_behind e beyond)) new now
+    → FewAreLost (lost_behind e lost) (length (queue_behind e waiting)) (live_budget (peer_behind e peer) theirs) (length (queue_behind e beyond)) new now
 joined_few e peer waiting beyond lost theirs own new left now f small few two or_up = grind arith
 
 peer_joined_few : (e peer : ChannelState) (waiting beyond : List (List ℕ)) (lost theirs own new left now : ℕ)
-    → AreFew lost (length waiting) (live_budget e own) (length beyond) (live_budget peer theirs) left → theirs ≤ 34000 → new ≤ 1 → now ≤ 2
+    → FewAreLost lost (length waiting) (live_budget e own) (length beyond) (live_budget peer theirs) left → theirs ≤ 34000 → new ≤ 1 → now ≤ 2
     → (now ≤ left) ⊎ (e ≡ Up)
-    → AreFew (lost_behind e lost) (length (queue_behind e waiting)) new (length (queue_behind e beyond)) (live_budget (peer_behind e peer) theirs) now
+    → FewAreLost (lost_behind e lost) (length (queue_behind e waiting)) new (length (queue_behind e beyond)) (live_budget (peer_behind e peer) theirs) now
 peer_joined_few e peer waiting beyond lost theirs own new left now f small few two or_up = grind arith
 
 -- the packets without a number that are left then: at most two, and as many as before where the end wasn't up

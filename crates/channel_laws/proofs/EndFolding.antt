@@ -40,7 +40,7 @@ use Rattle.channel_laws.proofs.Lifting.{EndsAll, ends_run}
 use Rattle.channel_laws.proofs.LinkCases.{LinkHeard, LinkPut, canonical_is, link_put, put_quiet, ready_loud}
 use Rattle.channel_laws.proofs.Sids.{loud_rdx, part_rdx, quiet_rdx, row_last, sent_last}
 use Rattle.channel_laws.proofs.UtteranceCases.{SaysLast, heard_none, heard_some, said_none, said_some}
-use Rattle.channel_laws.specs.Cuts.{Carries}
+use Rattle.channel_laws.specs.Cuts.{CarriesEither}
 use Rattle.channel_laws.specs.EndCore.{Begins, EndCore, EndMove, Fails, Hears, Renews, Says, Stays, Waits, fresh_end}
 use Rattle.channel_laws.specs.EndFold.{EndFolds, behind_decoded, behind_heard, behind_said, decoded_of, down_with, handshake_of, is_of_session, moved_by, phase_heard, sent_unless, up_if, up_with}
 use Rattle.channel_laws.specs.EndStep.{EndBegins, EndHears, EndSays, EndStep, IsOfSession}
@@ -223,14 +223,14 @@ says_folds role c t turns packet opens stands folds says = record {
         → t.handshake ≡ handshake_of role t.offer t.handshake.last_sid (Said_ packet ∷ turns)
     as_was keeps is = same_last role t c.offer last (Said_ packet ∷ turns) offered (keeps ∙ ap (λ (h : Handshake). h.last_sid) same) is
 
-    whole : SaysLast held.link turns packet → held.link.phase ≡ phase.Established → Carries held.own held.handshake (half_said turns ++ held.link.to_send)
+    whole : SaysLast held.link turns packet → held.link.phase ≡ phase.Established → CarriesEither held.own held.handshake (half_said turns ++ held.link.to_send)
     whole last_part est = holds_so.carries (holds_some held.link (ap is_established est) last_part.some)
 
-    own_is : (b : Bool) (bytes : List ℕ) → b ≡ true → Carries b held.handshake bytes → is_of_session bytes ≡ true
+    own_is : (b : Bool) (bytes : List ℕ) → b ≡ true → CarriesEither b held.handshake bytes → is_of_session bytes ≡ true
     own_is true bytes is carries = ap is_of_session carries.is ∙ own_session carries.message carries.body
     own_is false bytes is carries = false_is_true is
 
-    owed_is : (b : Bool) (bytes : List ℕ) → b ≡ false → Carries b held.handshake bytes → is_of_session bytes ≡ false
+    owed_is : (b : Bool) (bytes : List ℕ) → b ≡ false → CarriesEither b held.handshake bytes → is_of_session bytes ≡ false
     owed_is false bytes is carries = ap is_of_session carries.is ∙ owed_session carries.message (subst OwedIsShort carries.owed holds_so.handshake.owed)
     owed_is true bytes is carries = true_is_false is
 

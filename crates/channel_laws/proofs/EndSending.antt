@@ -25,7 +25,7 @@ use Rattle.channel_laws.proofs.EndStanding.{SameSending, hears_sending, held_sta
 use Rattle.channel_laws.proofs.MessagesHeld.{owed_held}
 use Rattle.channel_laws.proofs.Short.{some_bytes}
 use Rattle.channel_laws.specs.Blockage.{Blockage, Clear, EndSends, Stuck, StuckBefore, blockage_after, has_begun, hearing, is_stuck, is_stuck_with_own, left_if, left_of, owed_left, stuck}
-use Rattle.channel_laws.specs.Cuts.{Carries, CarriesOwed}
+use Rattle.channel_laws.specs.Cuts.{CarriesEither, CarriesOwed}
 use Rattle.channel_laws.specs.EndCore.{Begins, EndCore, EndMove, Fails, Hears, Renews, Says, Stays, Waits, holds}
 use Rattle.channel_laws.specs.EndStep.{EndHears, EndSays, EndStays, EndStep, Holding, Holds, HoldsOn, HoldsOwed, HoldsOwn, kind_of}
 use Rattle.channel_laws.specs.Standing.{EndStands}
@@ -206,7 +206,7 @@ own_again : (role : Role) (c : EndCore) (turns : List Utterance) (b : Blockage) 
     → c.own ≡ (c.is_open && is_stuck_with_own (stuck b) c.handshake.owed)
 own_again role c turns Clear stands sends held =
     let carries : CarriesOwed c.handshake.owed (half_said turns ++ c.link.to_send) =
-    subst (λ (x : Bool). Carries x c.handshake (half_said turns ++ c.link.to_send)) (sends.own held ∙ and_false c.is_open) (stands.carries held) in
+    subst (λ (x : Bool). CarriesEither x c.handshake (half_said turns ++ c.link.to_send)) (sends.own held ∙ and_false c.is_open) (stands.carries held) in
     sends.own held ∙ sym (ap (λ (o : Option Message). c.is_open && is_none o) carries.owed)
 own_again role c turns Stuck stands sends held = sends.own held
 own_again role c turns StuckBefore stands sends held = sends.own held

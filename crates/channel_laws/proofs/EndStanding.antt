@@ -31,7 +31,7 @@ use Rattle.channel_laws.proofs.HandshakeCases.{RowSent, RowTaken, row_sent}
 use Rattle.channel_laws.proofs.LinkCases.{ControlPut, LinkHeard, behind_part, behind_ready, link_heard}
 use Rattle.channel_laws.proofs.Short.{ComesShort, answered_short, message_comes, said_short, short_within}
 use Rattle.channel_laws.proofs.UtteranceCases.{SaysLast, SaysMore, SaysNothing}
-use Rattle.channel_laws.specs.Cuts.{Carries, Cuts, HoldsIts}
+use Rattle.channel_laws.specs.Cuts.{CarriesEither, Cuts, HoldsIts}
 use Rattle.channel_laws.specs.EndCore.{Begins, EndCore, EndMove, Fails, Hears, Renews, Says, Stays, Waits, fresh_end, holds}
 use Rattle.channel_laws.specs.EndStep.{EndBegins, EndHears, EndRenews, EndSays, EndStays, EndStep, Holding, Holds, HoldsOn, HoldsOwed, HoldsOwn, KeepsOwn}
 use Rattle.channel_laws.specs.LaneCore.{utterances_after}
@@ -101,7 +101,7 @@ open_up role c turns stands opened = grind arith
 
 offered_stands : (role : Role) (c held : EndCore) (turns : List Utterance) (message : Message) → EndStands role c turns → is_up c.link ≡ true → owes c.link ≡ false
     → length (canonical message) ≤ 256 → held.link ≡ offered (canonical message) c.link → held.handshake ≡ c.handshake → held.offer ≡ c.offer → held.is_open ≡ c.is_open
-    → held.more ≤ c.more → (holds held.link ≡ true → Carries held.own c.handshake (canonical message)) → EndStands role held turns
+    → held.more ≤ c.more → (holds held.link ≡ true → CarriesEither held.own c.handshake (canonical message)) → EndStands role held turns
 offered_stands role c held turns message stands up quiet long link handshake offer is_open more carries = grind arith
 
 pub held_stands : (role : Role) (c held : EndCore) (turns : List Utterance) (what : Holding) → EndStands role c turns → Holds c what held → EndStands role held turns
@@ -109,10 +109,10 @@ held_stands role c held turns HoldsOn stands still = subst (λ (x : EndCore). En
 held_stands role c held turns (HoldsOwed message) stands offers =
     offered_stands role c held turns message stands (owing_up role c turns message stands offers.owed) offers.quiet
     (short_within message (subst OwedIsShort offers.owed stands.handshake.owed)) offers.link offers.handshake offers.offer offers.is_open
-    offers.more (λ is. subst (λ (b : Bool). Carries b c.handshake (canonical message)) (sym (offers.own is)) (record { message = message; owed = offers.owed; is = refl }))
+    offers.more (λ is. subst (λ (b : Bool). CarriesEither b c.handshake (canonical message)) (sym (offers.own is)) (record { message = message; owed = offers.owed; is = refl }))
 held_stands role c held turns (HoldsOwn message) stands offers =
     offered_stands role c held turns message stands (open_up role c turns stands offers.opened) offers.quiet (omega (arith, offers.short)) offers.link offers.handshake offers.offer
-    offers.is_open offers.most (λ is. subst (λ (b : Bool). Carries b c.handshake (canonical message)) (sym offers.own) (record { message = message; body = offers.body; sid = offers.sid; opened = opened_phase c.handshake.phase (sym stands.opened ∙ offers.opened); is = refl }))
+    offers.is_open offers.most (λ is. subst (λ (b : Bool). CarriesEither b c.handshake (canonical message)) (sym offers.own) (record { message = message; body = offers.body; sid = offers.sid; opened = opened_phase c.handshake.phase (sym stands.opened ∙ offers.opened); is = refl }))
 
 -- A LINK that heard a packet keeps what it has to send
 pub record SameSending (k m : LinkState) : Type 0 where
@@ -178,7 +178,7 @@ open_declines h t message opens up taken = grind arith
 
 -- IT HEARS a packet
 -- while the handshake owes nothing the message is one of the session, of the same sid
-keeps_own : (own : Bool) (h g : Handshake) (bytes : List ℕ) → h.owed ≡ None → g.draft ≡ h.draft → g.phase ≡ h.phase → Carries own h bytes → Carries own g bytes
+keeps_own : (own : Bool) (h g : Handshake) (bytes : List ℕ) → h.owed ≡ None → g.draft ≡ h.draft → g.phase ≡ h.phase → CarriesEither own h bytes → CarriesEither own g bytes
 keeps_own false h g bytes none draft still carries = none_is_some (sym none ∙ carries.owed)
 keeps_own true h g bytes none draft still carries = record {
   message = carries.message;
@@ -248,8 +248,8 @@ hears_stands role c t turns packet opens stands hears = by_what took.what
             let declined = (open_declines c.handshake t.handshake message opens (opened_phase c.handshake.phase (sym stands.opened ∙ opened)) row).0 in
             let was : holds c.link ≡ true = keeps_holding c.link now same.left (stays ∙ sym up) is in
             let here = stands.carries was in
-            subst (λ (xs : List ℕ). Carries t.own t.handshake (half_said turns ++ xs)) (sym same.left)
-            (subst (λ (b : Bool). Carries b t.handshake (half_said turns ++ c.link.to_send)) (sym (hears.own was (ap holds took.link ∙ is)))
+            subst (λ (xs : List ℕ). CarriesEither t.own t.handshake (half_said turns ++ xs)) (sym same.left)
+            (subst (λ (b : Bool). CarriesEither b t.handshake (half_said turns ++ c.link.to_send)) (sym (hears.own was (ap holds took.link ∙ is)))
             (keeps_own c.own c.handshake t.handshake (half_said turns ++ c.link.to_send) hears.may.owed (ap (λ (x : Handshake). x.draft) declined) (ap (λ (x : Handshake). x.phase) declined) here))
 
 -- IT SAYS a packet: what was said of its message and what is left of it
@@ -353,8 +353,8 @@ says_stands role c t turns packet opens stands says = by_what (end_put role c t 
             → HoldsIts t.own (behind_part held.link) held.handshake (Said_ packet ∷ turns)
         more_carries at link more is =
             let was : holds held.link ≡ true = holds_some held.link (ap is_established at) (some_left (length held.link.to_send) more.long) in
-            subst (Carries t.own held.handshake) (sym (ap (λ (xs : List ℕ). xs ++ drop 56 held.link.to_send) more.half ∙ joined))
-            (subst (λ (b : Bool). Carries b held.handshake (half_said turns ++ held.link.to_send)) (sym (says.own was (ap holds link ∙ is))) (holds_so.carries was))
+            subst (CarriesEither t.own held.handshake) (sym (ap (λ (xs : List ℕ). xs ++ drop 56 held.link.to_send) more.half ∙ joined))
+            (subst (λ (b : Bool). CarriesEither b held.handshake (half_said turns ++ held.link.to_send)) (sym (says.own was (ap holds link ∙ is))) (holds_so.carries was))
     by_what (PutOwn own at link last handshake not is_open) =
         stands_so (behind_part held.link) held.handshake link handshake refl (part_of at) refl (last_cuts held.link turns packet last) holds_so.handshake
         (is_open ∙ holds_so.opened) (up_now (behind_part held.link) held.handshake (part_up at))

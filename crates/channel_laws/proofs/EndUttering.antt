@@ -28,7 +28,7 @@ use Rattle.channel_laws.proofs.EndStanding.{fresh_end_stands, held_stands, holds
 use Rattle.channel_laws.proofs.HandshakeCases.{AttributesAgreed, AttributesAsked, AttributesRefused, Declined, OneRingAgreed, Opened, PeerAgreed, ReadyAgreed, ReadyAsked, RingAgreed, RingAsked, RingRefused, RowSent, RowTaken, VersionAgreed, VersionAsked, VersionRefused, row_sent}
 use Rattle.channel_laws.proofs.Lifting.{EndsAll, ends_run}
 use Rattle.channel_laws.proofs.UtteranceCases.{SaysLast}
-use Rattle.channel_laws.specs.Cuts.{Carries}
+use Rattle.channel_laws.specs.Cuts.{CarriesEither}
 use Rattle.channel_laws.specs.EndCore.{Begins, EndCore, fresh_end, EndMove, Fails, Hears, Renews, Says as Says_, Stays, Waits}
 use Rattle.channel_laws.specs.EndStep.{EndHears, EndSays, EndStep, IsOfSession}
 use Rattle.channel_laws.specs.Grounds.{When, has_named, knows_sid, knows_version}
@@ -269,7 +269,7 @@ down_utters role h down none = grind arith
 own_says : (role : Role) (h : Handshake) (message : Message) → IsOfSession message.body → message.sid ≡ h.draft.sid → SaysByPhase role h.phase h.offer h.draft message
 own_says role h message of sid = grind arith
 
-carried_says : (role : Role) (own : Bool) (h : Handshake) (messages : List (List ℕ)) (bytes : List ℕ) → Utters role h messages → Carries own h bytes
+carried_says : (role : Role) (own : Bool) (h : Handshake) (messages : List (List ℕ)) (bytes : List ℕ) → Utters role h messages → CarriesEither own h bytes
     → SaysBytes role h.phase h.offer h.draft bytes
 carried_says role false h messages bytes utters carries =
     (carries.message, carries.is, subst (OwesSo role h.phase h.offer h.draft) carries.owed utters.owed)

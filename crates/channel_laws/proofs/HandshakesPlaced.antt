@@ -34,7 +34,7 @@ use Rattle.channel_laws.proofs.Lifting.{ActsKeep, BothStand}
 use Rattle.channel_laws.proofs.LinkPlaced.{first_links, links_keep, ready_at}
 use Rattle.channel_laws.proofs.UtteranceCases.{SaysLast}
 use Rattle.channel_laws.specs.Conversing.{Converse}
-use Rattle.channel_laws.specs.Cuts.{Carries, CarriesOwed, CarriesOwn}
+use Rattle.channel_laws.specs.Cuts.{CarriesEither, CarriesOwed, CarriesOwn}
 use Rattle.channel_laws.specs.EndCore.{EndCore}
 use Rattle.channel_laws.specs.EndStep.{EndAnew, EndHears, EndSays, Holding, Holds, IsOfSession}
 use Rattle.channel_laws.specs.LaneCore.{fresh_core}
@@ -195,14 +195,14 @@ put_handshakes asks answers role s t packet opens fits stands up says links at =
             let awaits : s.theirs.core.link.phase ≡ phase.AwaitsRdx = there ∙ ap (phase_at (other role)) place.1 ∙ ap (λ (r : Role). phase_at (other r) ModeAgreed) place.0 in
             true_is_false (sym their_now ∙ ap is_established awaits)
 
-    whole : SaysLast held.link s.mine.utterances packet → held.link.phase ≡ phase.Established → Carries held.own held.handshake (half_said s.mine.utterances ++ held.link.to_send)
+    whole : SaysLast held.link s.mine.utterances packet → held.link.phase ≡ phase.Established → CarriesEither held.own held.handshake (half_said s.mine.utterances ++ held.link.to_send)
     whole last_part est = held_stands_so.carries (holds_some held.link (ap is_established est) last_part.some)
 
-    carried_owed : (b : Bool) (bytes : List ℕ) → b ≡ false → Carries b held.handshake bytes → CarriesOwed held.handshake.owed bytes
+    carried_owed : (b : Bool) (bytes : List ℕ) → b ≡ false → CarriesEither b held.handshake bytes → CarriesOwed held.handshake.owed bytes
     carried_owed false bytes is carries = carries
     carried_owed true bytes is carries = true_is_false is
 
-    carried_own : (b : Bool) (bytes : List ℕ) → b ≡ true → Carries b held.handshake bytes → CarriesOwn held.handshake bytes
+    carried_own : (b : Bool) (bytes : List ℕ) → b ≡ true → CarriesEither b held.handshake bytes → CarriesOwn held.handshake bytes
     carried_own true bytes is carries = carries
     carried_own false bytes is carries = false_is_true is
 

@@ -35,7 +35,7 @@ use Rattle.channel_laws.proofs.LinkCases.{ControlGone, LinkHeard, LinkPut, ModeA
 use Rattle.channel_laws.proofs.UtteranceCases.{SaysPart, says_part}
 use Rattle.channel_laws.specs.EndCore.{EndCore}
 use Rattle.channel_laws.specs.EndStep.{EndAnew, EndHears, EndSays}
-use Rattle.channel_laws.specs.LinkPlaces.{AllNumbered, AnswerTaken, AtMost, BothUp, EachPart, HeardAt, IsPartOf, IsReady, LinkPlace, LinksAt, ModeAgreed, ModeAnswered, ModePut, ModeTaken, NothingPut, ReadyFirst, ReadyPut, SaidAt, VersionAnswered, VersionPut, VersionTaken, Waits, live_phase, mode_answer, mode_offer, phase_at, version_answer, version_offer}
+use Rattle.channel_laws.specs.LinkPlaces.{AllNumbered, AnswerTaken, AtMost, BothUp, EachPart, HeardInPlace, IsPartOf, IsReady, LinkPlace, LinksAt, ModeAgreed, ModeAnswered, ModePut, ModeTaken, NothingPut, ReadyFirst, ReadyPut, SaidInPlace, VersionAnswered, VersionPut, VersionTaken, Waits, live_phase, mode_answer, mode_offer, phase_at, version_answer, version_offer}
 use Rattle.channel_laws.specs.LaneCore.{fresh_core}
 use Rattle.channel_laws.specs.Sides.{Sides, anew, goes_on, missed, other, put, shut, sides_of, swapped, took}
 use Rattle.channel_laws.specs.Standing.{EndStands}
@@ -113,10 +113,10 @@ record PutPlace (role : Role) (place : LinkPlace) (bytes : List ℕ) (now : Link
   theirs : phase_at (other role) place ≡ phase_at (other role) next
   to_mine : (lossy : Bool) (waiting : List (List ℕ)) → Waits role lossy place waiting → Waits role lossy next waiting
   to_theirs : (lossy : Bool) (waiting : List (List ℕ)) → Waits (other role) lossy place waiting → Waits (other role) lossy next (waiting ++ bytes ∷ [])
-  said_mine : (packets : List (List ℕ)) → SaidAt role place packets → SaidAt role next (packets ++ numbered (bytes ∷ []))
-  said_theirs : (packets : List (List ℕ)) → SaidAt (other role) place packets → SaidAt (other role) next packets
-  heard_mine : (packets : List (List ℕ)) → HeardAt role place packets → HeardAt role next packets
-  heard_theirs : (packets : List (List ℕ)) → HeardAt (other role) place packets → HeardAt (other role) next packets
+  said_mine : (packets : List (List ℕ)) → SaidInPlace role place packets → SaidInPlace role next (packets ++ numbered (bytes ∷ []))
+  said_theirs : (packets : List (List ℕ)) → SaidInPlace (other role) place packets → SaidInPlace (other role) next packets
+  heard_mine : (packets : List (List ℕ)) → HeardInPlace role place packets → HeardInPlace role next packets
+  heard_theirs : (packets : List (List ℕ)) → HeardInPlace (other role) place packets → HeardInPlace (other role) next packets
 
 -- with one packet more
 all_more : (packets : List (List ℕ)) (bytes : List ℕ) → AllNumbered packets → is_numbered bytes ≡ true → AllNumbered (packets ++ bytes ∷ [])
@@ -227,7 +227,7 @@ up_waits : (role : Role) (place : LinkPlace) (lossy : Bool) (waiting : List (Lis
 up_waits role place lossy waiting bytes at has any = grind (arith, all_more)
 
 up_says : (role : Role) (place : LinkPlace) (packets : List (List ℕ)) (bytes : List ℕ) → phase.Established ≡ phase_at role place → IsPartOf bytes → is_numbered bytes ≡ true
-    → SaidAt role place packets → SaidAt role place (packets ++ numbered (bytes ∷ []))
+    → SaidInPlace role place packets → SaidInPlace role place (packets ++ numbered (bytes ∷ []))
 up_says role place packets bytes at part has any = grind (arith, parts_more)
 
 part_put : (role : Role) (place : LinkPlace) (bytes : List ℕ) (now : LinkPhase) → phase.Established ≡ phase_at role place → IsPartOf bytes → is_numbered bytes ≡ true
@@ -291,8 +291,8 @@ put_links role s t packet opens stands up says at =
       theirs = at.theirs ∙ goes.theirs;
       to_mine = goes.to_mine s.lossy s.mine.waiting at.to_mine;
       to_theirs = goes.to_theirs s.lossy s.theirs.waiting at.to_theirs;
-      said_mine = subst (SaidAt role goes.next) (sym (up_live s.mine.state (numbered_said s.mine.utterances ++ numbered (packet ∷ [])) up))
-          (goes.said_mine (numbered_said s.mine.utterances) (subst (SaidAt role at.place) (up_live s.mine.state (numbered_said s.mine.utterances) up) at.said_mine));
+      said_mine = subst (SaidInPlace role goes.next) (sym (up_live s.mine.state (numbered_said s.mine.utterances ++ numbered (packet ∷ [])) up))
+          (goes.said_mine (numbered_said s.mine.utterances) (subst (SaidInPlace role at.place) (up_live s.mine.state (numbered_said s.mine.utterances) up) at.said_mine));
       said_theirs = goes.said_theirs (live s.theirs.state (numbered_said s.theirs.utterances)) at.said_theirs;
       heard_mine = goes.heard_mine (live s.mine.state (numbered_heard s.mine.utterances)) at.heard_mine;
       heard_theirs = goes.heard_theirs (live s.theirs.state (numbered_heard s.theirs.utterances)) at.heard_theirs;
@@ -362,10 +362,10 @@ record TookPlace (role : Role) (place : LinkPlace) (lossy : Bool) (waiting : Lis
   theirs : phase_at (other role) place ≡ phase_at (other role) next
   to_mine : Waits role lossy next (drop 1 waiting)
   to_theirs : (peer_waiting : List (List ℕ)) → Waits (other role) lossy place peer_waiting → Waits (other role) lossy next peer_waiting
-  said_mine : (packets : List (List ℕ)) → SaidAt role place packets → SaidAt role next packets
-  said_theirs : (packets : List (List ℕ)) → SaidAt (other role) place packets → SaidAt (other role) next packets
-  heard_mine : (packets : List (List ℕ)) → HeardAt role place packets → HeardAt role next (packets ++ numbered (bytes ∷ []))
-  heard_theirs : (packets : List (List ℕ)) → HeardAt (other role) place packets → HeardAt (other role) next packets
+  said_mine : (packets : List (List ℕ)) → SaidInPlace role place packets → SaidInPlace role next packets
+  said_theirs : (packets : List (List ℕ)) → SaidInPlace (other role) place packets → SaidInPlace (other role) next packets
+  heard_mine : (packets : List (List ℕ)) → HeardInPlace role place packets → HeardInPlace role next (packets ++ numbered (bytes ∷ []))
+  heard_theirs : (packets : List (List ℕ)) → HeardInPlace (other role) place packets → HeardInPlace (other role) next packets
 
 took_place : (role : Role) (place : LinkPlace) (lossy : Bool) (waiting : List (List ℕ)) (k m : LinkState) (bytes : List ℕ) → k.phase ≡ phase_at role place → Waits role lossy place waiting
     → slice_get waiting 0 ≡ Some bytes → TakesBytes k bytes (Heard m) → LinkHeard k bytes m → TookPlace role place lossy waiting bytes m.phase
@@ -475,8 +475,8 @@ took_links role s t packet opens stands up first hears at =
       to_theirs = goes.to_theirs s.theirs.waiting at.to_theirs;
       said_mine = goes.said_mine (live s.mine.state (numbered_said s.mine.utterances)) at.said_mine;
       said_theirs = goes.said_theirs (live s.theirs.state (numbered_said s.theirs.utterances)) at.said_theirs;
-      heard_mine = subst (HeardAt role goes.next) (sym (up_live s.mine.state (numbered_heard s.mine.utterances ++ numbered (packet ∷ [])) up))
-          (goes.heard_mine (numbered_heard s.mine.utterances) (subst (HeardAt role at.place) (up_live s.mine.state (numbered_heard s.mine.utterances) up) at.heard_mine));
+      heard_mine = subst (HeardInPlace role goes.next) (sym (up_live s.mine.state (numbered_heard s.mine.utterances ++ numbered (packet ∷ [])) up))
+          (goes.heard_mine (numbered_heard s.mine.utterances) (subst (HeardInPlace role at.place) (up_live s.mine.state (numbered_heard s.mine.utterances) up) at.heard_mine));
       heard_theirs = goes.heard_theirs (live s.theirs.state (numbered_heard s.theirs.utterances)) at.heard_theirs;
     }
 

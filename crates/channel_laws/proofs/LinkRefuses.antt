@@ -22,7 +22,7 @@ use Rattle.channel_laws.proofs.TakenInOrder.{InOrder, part_early, part_turned, r
 use Rattle.channel_laws.proofs.NextPacket.{WasSaid, each_in, ready_in, was_said}
 use Rattle.channel_laws.proofs.PartsSaid.{PartsSaid}
 use Rattle.channel_laws.specs.Conversing.{Converse}
-use Rattle.channel_laws.specs.LinkPlaces.{BothUp, EachPart, HeardAt, LinkPlace, LinksAt, ModeAnswered, ModePut, ReadyFirst, ReadyPut, SaidAt, VersionAnswered, VersionPut, Waits, live_phase, mode_answer, mode_offer, phase_at, version_answer, version_offer}
+use Rattle.channel_laws.specs.LinkPlaces.{BothUp, EachPart, HeardInPlace, LinkPlace, LinksAt, ModeAnswered, ModePut, ReadyFirst, ReadyPut, SaidInPlace, VersionAnswered, VersionPut, Waits, live_phase, mode_answer, mode_offer, phase_at, version_answer, version_offer}
 use Rattle.channel_laws.specs.Resetting.{IsGapBehindLoss}
 use Rattle.channel_laws.specs.Sides.{Sides, other}
 
@@ -60,7 +60,7 @@ numbered_refuses lossy k turns said waiting packet cause to has takes turned = s
 
 -- BY THE PLACE of the links: one without a number is always taken
 at_place : (role : Role) (place : LinkPlace) (lossy : Bool) (k : LinkState) (turns : List Utterance) (said waiting : List (List ℕ)) (packet : List ℕ) (cause : Cause) → k.phase ≡ phase_at role place
-    → Waits role lossy place waiting → SaidAt (other role) place said → HeardAt role place (numbered_heard turns) → WayTo lossy k turns said waiting packet
+    → Waits role lossy place waiting → SaidInPlace (other role) place said → HeardInPlace role place (numbered_heard turns) → WayTo lossy k turns said waiting packet
     → TakesBytes k packet (Unheard cause) → IsGapBehindLoss lossy cause
 at_place Initiator VersionAnswered lossy k turns said waiting packet cause at waits peer_said heard to takes =
     let one : TheOne version_answer waiting packet = the_one lossy version_answer waiting packet waits to.first in
@@ -95,7 +95,7 @@ link_refuses role s packet cause converse links follows parts up first takes =
     let said = live s.theirs.state (numbered_said s.theirs.utterances) in
     at_place role links.place s.lossy s.mine.core.link s.mine.utterances said s.mine.waiting packet cause
     (sym (ap (λ (x : ChannelState). live_phase x (first_phase role) s.mine.core.link.phase) up) ∙ links.mine) links.to_mine links.said_theirs
-    (subst (λ (x : ChannelState). HeardAt role links.place (live x (numbered_heard s.mine.utterances))) up links.heard_mine)
+    (subst (λ (x : ChannelState). HeardInPlace role links.place (live x (numbered_heard s.mine.utterances))) up links.heard_mine)
     (record {
       lost = converse.lost_mine;
       follows = follows;

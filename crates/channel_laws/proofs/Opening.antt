@@ -20,7 +20,7 @@ use Rattle.vio_tag.specs.Spelling.{SpellsMessage, canonical, envelope_code}
 use Rattle.vio_handshake.specs.declared.handshake.Handshake.{Handshake}
 use Rattle.vio_handshake.specs.declared.handshake.Phase.{Phase}
 use Rattle.vio_handshake.specs.declared.handshake.Phase.TheVariants.{Attributes, Down, Open, OwnReady, OwnRing, PeerReady, PeerReadyTaken, PeerRing, PeerRingTaken, Version}
-use Rattle.channel_laws.specs.HandshakeOrder.{ComesUpBelow, EndsAs, FollowsRow, Hears, HearsControl, Line, MayEnd, Meets, Says, SaysControl, opening_lines, row, sid_in_bytes}
+use Rattle.channel_laws.specs.HandshakeOrder.{ComesUpBelow, EndsAs, FollowsRow, Hears, HearsControl, RowLine, MayEnd, Meets, Says, SaysControl, opening_lines, row, sid_in_bytes}
 use Rattle.channel_laws.specs.Sayings.{half_heard, half_said}
 use Rattle.channel_laws.proofs.HandshakeCases.{NothingFollows}
 use Rattle.channel_laws.proofs.UtteranceCases.{EndsBy}
@@ -41,11 +41,11 @@ link_left phase.OwesRdx = 7
 link_left phase.AwaitsRdx = 7
 link_left phase.Established = 6
 
-abbrev pub link_met : Role → LinkPhase → List Line
+abbrev pub link_met : Role → LinkPhase → List RowLine
 link_met role ph = drop (link_left ph) (opening_lines role)
 
 -- THE HANDSHAKE: the lines that are met once its own message of this phase is said
-abbrev pub met : Bool → Role → Phase → List Line
+abbrev pub met : Bool → Role → Phase → List RowLine
 met both Initiator Version = drop 5 (opening_lines Initiator)
 met both Initiator Attributes = drop 3 (opening_lines Initiator)
 met both Initiator OwnRing = drop 1 (opening_lines Initiator)
@@ -84,7 +84,7 @@ pub record IsLine (subtype envelope sid : ℕ) (message : Message) : Type 0 wher
   pub of_sid : message.sid % 4294967296 ≡ sid
   pub named : IsNoPlain message.body
 
-abbrev pub IsNext : List Line → ℕ → Message → Type 0
+abbrev pub IsNext : List RowLine → ℕ → Message → Type 0
 IsNext (Says subtype envelope ∷ lines) sid message = IsLine subtype envelope sid message
 IsNext _ sid message = ⊥
 
@@ -120,20 +120,20 @@ pub record EndCame (role : Role) (c : EndCore) (turns : List Utterance) : Type 0
   pub above : is_up c.link ≡ true → (c.handshake.phase ≡ Open) ⊎ HandshakeComes role c.handshake turns
 
 -- WHERE NO MESSAGE is among the lines any sid serves
-abbrev HasNoMessage : List Line → Type 0
+abbrev HasNoMessage : List RowLine → Type 0
 HasNoMessage [] = ⊤
 HasNoMessage (SaysControl packet ∷ lines) = HasNoMessage lines
 HasNoMessage (HearsControl packet ∷ lines) = HasNoMessage lines
 HasNoMessage (Says subtype envelope ∷ lines) = ⊥
 HasNoMessage (Hears subtype envelope ∷ lines) = ⊥
 
-any_line : (one other : ℕ) (line : Line) (lines : List Line) (turn : Utterance) (turns : List Utterance) → HasNoMessage (line ∷ lines) → Meets one line turn turns → Meets other line turn turns
+any_line : (one other : ℕ) (line : RowLine) (lines : List RowLine) (turn : Utterance) (turns : List Utterance) → HasNoMessage (line ∷ lines) → Meets one line turn turns → Meets other line turn turns
 any_line one other line lines turn turns none meets = grind arith
 
-other_lines : (line : Line) (lines : List Line) → HasNoMessage (line ∷ lines) → HasNoMessage lines
+other_lines : (line : RowLine) (lines : List RowLine) → HasNoMessage (line ∷ lines) → HasNoMessage lines
 other_lines line lines none = grind arith
 
-pub any_sid : (role : Role) (one other : ℕ) (lines : List Line) (turns : List Utterance) → HasNoMessage lines → FollowsRow role one lines turns → FollowsRow role other lines turns
+pub any_sid : (role : Role) (one other : ℕ) (lines : List RowLine) (turns : List Utterance) → HasNoMessage lines → FollowsRow role one lines turns → FollowsRow role other lines turns
 any_sid role one other [] [] none follows = tt
 any_sid role one other (line ∷ lines) [] none follows = absurd follows
 any_sid role one other [] (turn ∷ turns) none follows = (follows.0, any_sid role one other [] turns none follows.1)
@@ -142,17 +142,17 @@ any_sid role one other (line ∷ lines) (turn ∷ turns) none (inl meets) =
 any_sid role one other (line ∷ lines) (turn ∷ turns) none (inr aside) = inr (aside.0, any_sid role one other (line ∷ lines) turns none aside.1)
 
 -- WHAT STANDS ASIDE: what is heard once the link is up, a control packet that is heard, and a part that ends no message or a refusal
-pub hears_aside : (role : Role) (sid : ℕ) (lines : List Line) (turns : List Utterance) (bytes : List ℕ) → ComesUpBelow lines → FollowsRow role sid lines turns
+pub hears_aside : (role : Role) (sid : ℕ) (lines : List RowLine) (turns : List Utterance) (bytes : List ℕ) → ComesUpBelow lines → FollowsRow role sid lines turns
     → FollowsRow role sid lines (Heard bytes ∷ turns)
 hears_aside role sid [] turns bytes up follows = absurd up
 hears_aside role sid (line ∷ lines) turns bytes up follows = inr (inl up, follows)
 
-pub hears_control : (role : Role) (sid : ℕ) (lines : List Line) (turns : List Utterance) (bytes : List ℕ) → is_part bytes ≡ false → FollowsRow role sid lines turns
+pub hears_control : (role : Role) (sid : ℕ) (lines : List RowLine) (turns : List Utterance) (bytes : List ℕ) → is_part bytes ≡ false → FollowsRow role sid lines turns
     → FollowsRow role sid lines (Heard bytes ∷ turns)
 hears_control role sid [] turns bytes is follows = (inr is, follows)
 hears_control role sid (line ∷ lines) turns bytes is follows = inr (inr is, follows)
 
-pub says_aside : (role : Role) (sid : ℕ) (lines : List Line) (turns : List Utterance) (bytes : List ℕ) → ComesUpBelow lines → is_part bytes ≡ true
+pub says_aside : (role : Role) (sid : ℕ) (lines : List RowLine) (turns : List Utterance) (bytes : List ℕ) → ComesUpBelow lines → is_part bytes ≡ true
     → MayEnd (fragment_at bytes).stop (half_said turns ++ (fragment_at bytes).bytes) → FollowsRow role sid lines turns → FollowsRow role sid lines (Said bytes ∷ turns)
 says_aside role sid [] turns bytes up is may follows = absurd up
 says_aside role sid (line ∷ lines) turns bytes up is may follows = inr (inl (up, is, may), follows)
@@ -193,7 +193,7 @@ said_line turns packet message subtype envelope sid says is = record {
   of_sid = ap sid_in_bytes says.whole ∙ sid_reads message ∙ is.of_sid;
 }
 
-next_said : (role : Role) (lines : List Line) (sid : ℕ) (message : Message) (turns : List Utterance) (packet : List ℕ) → SaysWhole turns packet message → IsNext lines sid message
+next_said : (role : Role) (lines : List RowLine) (sid : ℕ) (message : Message) (turns : List Utterance) (packet : List ℕ) → SaysWhole turns packet message → IsNext lines sid message
     → FollowsRow role sid (drop 1 lines) turns → FollowsRow role sid lines (Said packet ∷ turns)
 next_said role (Says subtype envelope ∷ lines) sid message turns packet says next follows = inl (said_line turns packet message subtype envelope sid says next, follows)
 next_said role _ sid message turns packet says next follows = absurd next

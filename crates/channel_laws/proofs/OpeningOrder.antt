@@ -26,7 +26,7 @@ use Rattle.vio_handshake.specs.declared.handshake.Phase.TheVariants.{Open}
 use Rattle.vio_handshake.specs.declared.session.Offer.{Offer}
 use Rattle.vio_handshake.specs.Rules.{opens_by_put, put_in, handshake_sent, sid_fault}
 use Rattle.vio_handshake.specs.State.{handshake_up}
-use Rattle.channel_laws.specs.HandshakeOrder.{ComesUpBelow, Control, FollowsRow, HandshakeOrder, IsControlOf, IsVersNack, Line, MayEnd, RdxGiven, RtrAnswered, RtsAsked, Says as Says_, VersAgreed, VersOffer}
+use Rattle.channel_laws.specs.HandshakeOrder.{ComesUpBelow, Control, FollowsRow, HandshakeOrder, IsControlOf, IsVersNack, RowLine, MayEnd, RdxGiven, RtrAnswered, RtsAsked, Says as Says_, VersAgreed, VersOffer}
 use Rattle.channel_laws.specs.Sayings.{half_said}
 use Rattle.channel_laws.specs.TranscriptLog.{transcript_of}
 use Rattle.channel_laws.specs.WireEvent.{Sent as Sent_, Took as Took_}
@@ -44,7 +44,7 @@ use Rattle.channel_laws.proofs.LinkCases.{behind_part, ControlHeard, ControlPut,
 use Rattle.channel_laws.proofs.Opening.{EndCame, HandshakeComes, IsComing, IsNext, Owing, SaysWhole, Waiting, comes_up, hears_aside, hears_control, link_met, met, says_aside, sid_of}
 use Rattle.channel_laws.proofs.OpeningRows.{Comes_, GoesOn, Opens_, initiator_row, responder_row, sent_row}
 use Rattle.channel_laws.proofs.UtteranceCases.{SaysLast}
-use Rattle.channel_laws.specs.Cuts.{Carries, CarriesOwed, CarriesOwn}
+use Rattle.channel_laws.specs.Cuts.{CarriesEither, CarriesOwed, CarriesOwn}
 use Rattle.channel_laws.specs.EndCore.{Begins, EndCore, EndMove, Fails, Hears, Renews, Says, Stays, Waits, fresh_end}
 use Rattle.channel_laws.specs.EndStep.{EndHears, EndSays, EndStep}
 use Rattle.channel_laws.specs.Grounds.{When, knows_sid}
@@ -176,7 +176,7 @@ same_comes role h g turns now is goes (inr comes) = inr (subst (λ (x : Handshak
 heard_comes : (role : Role) (h : Handshake) (turns : List Utterance) (packet : List ℕ) → h.owed ≡ None → HandshakeComes role h turns → HandshakeComes role h (Heard packet ∷ turns)
 heard_comes role h turns packet none comes = grind (arith, hears_aside)
 
-up_behind : (lines : List Line) (sid : ℕ) (message : Message) → IsNext lines sid message → ComesUpBelow lines → ComesUpBelow (drop 1 lines)
+up_behind : (lines : List RowLine) (sid : ℕ) (message : Message) → IsNext lines sid message → ComesUpBelow lines → ComesUpBelow (drop 1 lines)
 up_behind (Says_ subtype envelope ∷ lines) sid message next up = up
 up_behind _ sid message next up = absurd next
 
@@ -185,7 +185,7 @@ part_comes : (role : Role) (h : Handshake) (turns : List Utterance) (packet : Li
     → HandshakeComes role h (Said packet ∷ turns)
 part_comes role h turns packet part stop comes = record { coming = comes.coming; stage = by_stage comes.stage }
   where
-    aside : (lines : List Line) → ComesUpBelow lines → FollowsRow role (sid_of h) lines turns → FollowsRow role (sid_of h) lines (Said packet ∷ turns)
+    aside : (lines : List RowLine) → ComesUpBelow lines → FollowsRow role (sid_of h) lines turns → FollowsRow role (sid_of h) lines (Said packet ∷ turns)
     aside lines up follows =
         says_aside role (sid_of h) lines turns packet up part (subst (λ (b : Bool). MayEnd b (half_said turns ++ (fragment_at packet).bytes)) (sym stop) tt) follows
 
@@ -295,11 +295,11 @@ hears_order role c t turns packet opens all hears = by_what took.what
         by_came (inr comes) = by_on role t opens now (link_up ∙ took_message.stays) (by_role role refl message took_message handshake.row handshake.sid comes)
 
 -- IT SAYS a packet
-carried_owed : (own : Bool) (h : Handshake) (bytes : List ℕ) → own ≡ false → Carries own h bytes → CarriesOwed h.owed bytes
+carried_owed : (own : Bool) (h : Handshake) (bytes : List ℕ) → own ≡ false → CarriesEither own h bytes → CarriesOwed h.owed bytes
 carried_owed false h bytes is carries = carries
 carried_owed true h bytes is carries = absurd (cc is)
 
-carried_own : (own : Bool) (h : Handshake) (bytes : List ℕ) → own ≡ true → Carries own h bytes → CarriesOwn h bytes
+carried_own : (own : Bool) (h : Handshake) (bytes : List ℕ) → own ≡ true → CarriesEither own h bytes → CarriesOwn h bytes
 carried_own true h bytes is carries = carries
 carried_own false h bytes is carries = absurd (cc is)
 
@@ -327,7 +327,7 @@ says_order role c t turns packet opens all says = by_what (end_put role c t turn
     link_up : t.link ≡ behind_part held.link → held.link.phase ≡ phase.Established → is_up t.link ≡ true
     link_up link at = ap is_up link ∙ ap is_established at
 
-    carried : SaysLast held.link turns packet → held.link.phase ≡ phase.Established → Carries held.own held.handshake (half_said turns ++ held.link.to_send)
+    carried : SaysLast held.link turns packet → held.link.phase ≡ phase.Established → CarriesEither held.own held.handshake (half_said turns ++ held.link.to_send)
     carried last at = stands.carries (holds_some held.link (ap is_established at) last.some)
 
     whole : (last : SaysLast held.link turns packet) → (message : Message) → half_said turns ++ held.link.to_send ≡ message_at.canonical message → SaysWhole turns packet message

@@ -27,7 +27,7 @@ use Rattle.channel_laws.specs.Conversing.{Converse}
 use Rattle.channel_laws.specs.EndCore.{EndCore, EndMove}
 use Rattle.channel_laws.specs.EndStep.{EndStep}
 use Rattle.channel_laws.specs.LaneCore.{CoreEvent, CoreFits, CoreStep, LaneCore, fresh_core, transcript_behind, utterances_after}
-use Rattle.channel_laws.specs.LinkPlaces.{AllNumbered, BothUp, EachPart, LinkPlace, LinksAt, ReadyFirst, SaidAt, HeardAt}
+use Rattle.channel_laws.specs.LinkPlaces.{AllNumbered, BothUp, EachPart, LinkPlace, LinksAt, ReadyFirst, SaidInPlace, HeardInPlace}
 use Rattle.channel_laws.specs.LinkPlaces as link
 use Rattle.channel_laws.specs.Sides.{Sides}
 use Rattle.channel_laws.specs.Standing.{EndStands}
@@ -173,12 +173,12 @@ unheard s converse at both whole up other_up parts long = record {
     ready : ReadyFirst (took ++ waits)
     ready =
         subst ReadyFirst (up_live s.mine.state (numbered_said s.mine.utterances) up ∙ put)
-        (subst (λ (p : LinkPlace). SaidAt Initiator p (live s.mine.state (numbered_said s.mine.utterances))) both at.said_mine)
+        (subst (λ (p : LinkPlace). SaidInPlace Initiator p (live s.mine.state (numbered_said s.mine.utterances))) both at.said_mine)
 
     some : 1 ≤ length took
     some =
         subst (λ (xs : List (List ℕ)). 1 ≤ length xs) (up_live s.theirs.state took other_up)
-        (subst (λ (p : LinkPlace). HeardAt Responder p (live s.theirs.state took)) both at.heard_theirs)
+        (subst (λ (p : LinkPlace). HeardInPlace Responder p (live s.theirs.state took)) both at.heard_theirs)
 
     many : length (fragments_in waits) ≡ length waits
     many = parts_many waits (ready_behind took waits ready some)

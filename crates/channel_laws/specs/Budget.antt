@@ -27,10 +27,10 @@ abbrev pub one_owed : Option Message → ℕ
 one_owed None = 0
 one_owed (Some message) = 1
 
-abbrev pub owed_left : Bool → List ℕ → Option Message → ℕ
-owed_left own [] owed = one_owed owed
-owed_left true (byte ∷ bytes) owed = one_owed owed
-owed_left false (byte ∷ bytes) owed = 0
+abbrev pub owed_packets : Bool → List ℕ → Option Message → ℕ
+owed_packets own [] owed = one_owed owed
+owed_packets true (byte ∷ bytes) owed = one_owed owed
+owed_packets false (byte ∷ bytes) owed = 0
 
 abbrev pub one_more : Role → Phase → ℕ
 one_more Initiator PeerRingTaken = 1
@@ -46,7 +46,7 @@ opening_left role _ = 0
 abbrev pub messages_left : EndCore → ℕ
 messages_left c =
     length c.link.to_send
-    + 257 * (owed_left c.own c.link.to_send c.handshake.owed + one_more c.handshake.role c.handshake.phase)
+    + 257 * (owed_packets c.own c.link.to_send c.handshake.owed + one_more c.handshake.role c.handshake.phase)
     + 60 * (opening_left c.handshake.role c.handshake.phase + c.more)
 
 abbrev pub budget : EndCore → ℕ

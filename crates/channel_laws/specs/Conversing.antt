@@ -59,13 +59,13 @@ controls Responder s = live_puts s.theirs.state s.theirs.core.link.phase + unnum
 
 -- So many were lost since the end last took one with a number. What waits for it, what its peer may put, what waits for the peer, what the
 -- end may put itself, and the packets without a number that it may still take, bound what can be lost until then.
-pub record AreFew (lost waiting theirs peer_waiting mine left : ℕ) : Type 0 where
+pub record FewAreLost (lost waiting theirs peer_waiting mine left : ℕ) : Type 0 where
   pub few : lost + waiting + theirs + 34001 * (peer_waiting + mine) + 1156068001 * left ≤ 3476908514
 
 pub record FewLost (role : Role) (s : Sides) (lost : ℕ) : Type 0 where
   pub left : controls role s ≤ 2
   pub queue : length s.mine.waiting ≤ 256
-  pub few : AreFew lost (length s.mine.waiting) (live_budget s.theirs.state (budget s.theirs.core)) (length s.theirs.waiting) (live_budget s.mine.state (budget s.mine.core))
+  pub few : FewAreLost lost (length s.mine.waiting) (live_budget s.theirs.state (budget s.theirs.core)) (length s.theirs.waiting) (live_budget s.mine.state (budget s.mine.core))
       (controls role s)
 
 -- the channel's log, as of an end A and its peer

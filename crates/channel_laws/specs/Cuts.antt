@@ -31,9 +31,9 @@ pub record CarriesOwn (h : Handshake) (bytes : List ℕ) : Type 0 where
   pub opened : h.phase ≡ Open
   pub is : bytes ≡ canonical message
 
-abbrev pub Carries : Bool → Handshake → List ℕ → Type 0
-Carries false h bytes = CarriesOwed h.owed bytes
-Carries true h bytes = CarriesOwn h bytes
+abbrev pub CarriesEither : Bool → Handshake → List ℕ → Type 0
+CarriesEither false h bytes = CarriesOwed h.owed bytes
+CarriesEither true h bytes = CarriesOwn h bytes
 
 abbrev pub HoldsIts : Bool → LinkState → Handshake → List Utterance → Type 0
-HoldsIts own k h utterances = holds k ≡ true → Carries own h (half_said utterances ++ k.to_send)
+HoldsIts own k h utterances = holds k ≡ true → CarriesEither own h (half_said utterances ++ k.to_send)

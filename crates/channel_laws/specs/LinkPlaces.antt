@@ -113,17 +113,17 @@ abbrev pub ReadyFirst : List (List ℕ) → Type 0
 ReadyFirst [] = ⊥
 ReadyFirst (packet ∷ packets) = IsReady packet × EachPart packets
 
-abbrev pub SaidAt : Role → LinkPlace → List (List ℕ) → Type 0
-SaidAt Initiator ReadyPut packets = ReadyFirst packets
-SaidAt Initiator BothUp packets = ReadyFirst packets
-SaidAt Initiator _ packets = packets ≡ []
-SaidAt Responder BothUp packets = EachPart packets
-SaidAt Responder _ packets = packets ≡ []
+abbrev pub SaidInPlace : Role → LinkPlace → List (List ℕ) → Type 0
+SaidInPlace Initiator ReadyPut packets = ReadyFirst packets
+SaidInPlace Initiator BothUp packets = ReadyFirst packets
+SaidInPlace Initiator _ packets = packets ≡ []
+SaidInPlace Responder BothUp packets = EachPart packets
+SaidInPlace Responder _ packets = packets ≡ []
 
-abbrev pub HeardAt : Role → LinkPlace → List (List ℕ) → Type 0
-HeardAt Initiator place packets = ⊤
-HeardAt Responder BothUp packets = 1 ≤ length packets
-HeardAt Responder _ packets = packets ≡ []
+abbrev pub HeardInPlace : Role → LinkPlace → List (List ℕ) → Type 0
+HeardInPlace Initiator place packets = ⊤
+HeardInPlace Responder BothUp packets = 1 ≤ length packets
+HeardInPlace Responder _ packets = packets ≡ []
 
 -- a phase counts where the end is up
 abbrev pub live_phase : ChannelState → LinkPhase → LinkPhase → LinkPhase
@@ -138,7 +138,7 @@ pub record LinksAt (role : Role) (s : Sides) : Type 0 where
   pub theirs : live_phase s.theirs.state (first_phase (other role)) s.theirs.core.link.phase ≡ phase_at (other role) place
   pub to_mine : Waits role s.lossy place s.mine.waiting
   pub to_theirs : Waits (other role) s.lossy place s.theirs.waiting
-  pub said_mine : SaidAt role place (live s.mine.state (numbered_said s.mine.utterances))
-  pub said_theirs : SaidAt (other role) place (live s.theirs.state (numbered_said s.theirs.utterances))
-  pub heard_mine : HeardAt role place (live s.mine.state (numbered_heard s.mine.utterances))
-  pub heard_theirs : HeardAt (other role) place (live s.theirs.state (numbered_heard s.theirs.utterances))
+  pub said_mine : SaidInPlace role place (live s.mine.state (numbered_said s.mine.utterances))
+  pub said_theirs : SaidInPlace (other role) place (live s.theirs.state (numbered_said s.theirs.utterances))
+  pub heard_mine : HeardInPlace role place (live s.mine.state (numbered_heard s.mine.utterances))
+  pub heard_theirs : HeardInPlace (other role) place (live s.theirs.state (numbered_heard s.theirs.utterances))

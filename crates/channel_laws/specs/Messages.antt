@@ -21,11 +21,11 @@ sid_of message = number_at 4 4 message
 abbrev pub seq_of : List ℕ → ℕ
 seq_of message = number_at 8 8 message
 
-abbrev pub start_of : List ℕ → ℕ
-start_of message = number_at 4 24 message
+abbrev pub start_slot_of : List ℕ → ℕ
+start_slot_of message = number_at 4 24 message
 
-abbrev pub end_of : List ℕ → ℕ
-end_of message = number_at 4 28 message
+abbrev pub end_slot_of : List ℕ → ℕ
+end_slot_of message = number_at 4 28 message
 
 -- DRING_DATA, INFO 1 or ACK 2
 abbrev pub is_range : ℕ → List ℕ → Bool

@@ -13,7 +13,7 @@ use Rattle.lane_kinds.proofs.Moving.{lanes_skip}
 use Rattle.lane_kinds.specs.Both.{OnFirst, Skips}
 use Rattle.lane_kinds.specs.Fronts.{SettleFront}
 use Rattle.lane_kinds.specs.LaneFronts.{fronts_of}
-use Rattle.lane_kinds.specs.Laws.{Ends, FrontsLead, Leads}
+use Rattle.lane_kinds.specs.Laws.{AnswersLead, FrontsLead, Leads}
 use Rattle.lane_kinds.specs.Settles.{GoesOn, SettlePart, entries_of_rounds}
 use Rattle.switch_laws.proofs.PortTurns.{turn_steps}
 use Rattle.switch_laws.specs.Ports.{ports}
@@ -60,7 +60,7 @@ skips = lanes_skip LaneStep event_at ports port_entries (λ j k event. refl) (λ
 pub disks_lead : Leads lanes (OnFirst (LanesMove 0))
 disks_lead = first_leads disks switch (LanesMove 0) moving.leads skips
 
-pub disks_end : Ends lanes (OnFirst (LanesMove 0))
+pub disks_end : AnswersLead lanes (OnFirst (LanesMove 0))
 disks_end = first_ends disks switch (LanesMove 0) moving.leads skips moving.ends
 
 disks_begin : FrontsLead lanes fronts (OnFirst (LanesMove 0))

@@ -14,7 +14,7 @@ use Rattle.lane_kinds.specs.Both.{BothHold, Two}
 use Rattle.lane_kinds.specs.Fronts.{SettleFront}
 use Rattle.lane_kinds.specs.LaneFronts.{RoundFront, fronts_of}
 use Rattle.lane_kinds.specs.Lanes.{EachOf, MakeRound}
-use Rattle.lane_kinds.specs.Laws.{Ends, FrontsLead, Leads}
+use Rattle.lane_kinds.specs.Laws.{AnswersLead, FrontsLead, Leads}
 use Rattle.lane_kinds.specs.Settles.{GoesOn, SettleRound, Settles, Settling, entries_of_rounds, most_rounds}
 use Rattle.lane_laws.specs.CalmEnds.{IsStep}
 use Rattle.port_model.specs.PortState.{PortState}
@@ -203,7 +203,7 @@ module _ (P : SettleEntry → Type 0) where
 
       -- with its answer, and with names of these lanes
       module _ (n m : ℕ) (names : NamesHave P n m) where
-        ends : Ends lanes (Over n m)
+        ends : AnswersLead lanes (Over n m)
         ends =
             both_ends_have P disks switch (SoManyDisks n) (SoManyPorts m) (ends_have P disk_kind disk_entries n names.of_disk names.answer)
             (ends_have P ports port_entries m names.of_port names.answer)

@@ -10,7 +10,7 @@ use Rattle.lane_kinds.proofs.LaneFronts.{lanes_each, of_both}
 use Rattle.lane_kinds.proofs.Leading.{part_leads}
 use Rattle.lane_kinds.specs.Both.{OnSecond}
 use Rattle.lane_kinds.specs.Lanes.{EachOf, EntryOf}
-use Rattle.lane_kinds.specs.Laws.{Ends, Leads}
+use Rattle.lane_kinds.specs.Laws.{AnswersLead, Leads}
 use Rattle.lane_kinds.specs.Settles.{SettlePart}
 use Rattle.port_model.specs.PortState.{OnLane, PortState, Receives}
 use Rattle.switch_laws.proofs.PortTurns.{silence, turn_steps}
@@ -30,7 +30,7 @@ leads =
     second_leads disks switch (Run Moves) (entries_lead ports port_entries Moves silence (λ w k s. tt) (λ k w event v at. at) (λ k w. refl) (λ w. refl))
     (lanes_leave Moves disk_kind disk_entries (λ k event w. refl) (λ k w. refl))
 
-ends : Ends lanes (OnSecond (Run Moves))
+ends : AnswersLead lanes (OnSecond (Run Moves))
 ends =
     second_ends disks switch (Run Moves) (entries_lead ports port_entries Moves silence (λ w k s. tt) (λ k w event v at. at) (λ k w. refl) (λ w. refl))
     (lanes_leave Moves disk_kind disk_entries (λ k event w. refl) (λ k w. refl))
@@ -56,7 +56,7 @@ own_leads = record {
       (fronts.ticks_each OwnEntry disk_kind disk_entries (λ k s. tt) 0 w.first m.first) (fronts.ticks_each OwnEntry ports port_entries (λ k s. tt) 0 w.second m.second);
 }
 
-own_ends : Ends lanes (λ w part v. EachOf OwnEntry part)
+own_ends : AnswersLead lanes (λ w part v. EachOf OwnEntry part)
 own_ends = record {
   answer = λ w. (tt, tt);
   names = λ r w part more is. first_each OwnEntry part more (subst (EachOf OwnEntry) (sym is)

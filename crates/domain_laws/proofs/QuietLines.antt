@@ -16,7 +16,7 @@ use Rattle.world_laws.proofs.PlainWorld.{fresh_rests, plain_world}
 use Rattle.world_laws.proofs.Regions.{IsFirstShape}
 use Rattle.world_laws.proofs.Undisturbed.{Stands}
 use Rattle.world_laws.specs.Plain.{Plain, untouched}
-use Rattle.world_laws.specs.Quiet.{IsFront}
+use Rattle.world_laws.specs.Quiet.{IsAtFront}
 use Rattle.world_laws.specs.Settle.{OfLane, SettleEntry, SettlePart, disks}
 use Rattle.world_laws.specs.Shown.{shown}
 use Rattle.world_laws.specs.World.{LaneMoves, OneMoves, WorldState, WorldStep}
@@ -125,7 +125,7 @@ lines_plain shape p w (line ∷ lines) v front rests quiet run well =
       rests = rest.rests;
     }
 
-pub quiet_lines : (shape : Shape) (image : ImageState) (first : List ℕ) (lines : List (Line × List SettleEntry)) (w : DomainState) → IsFront shape image first
+pub quiet_lines : (shape : Shape) (image : ImageState) (first : List ℕ) (lines : List (Line × List SettleEntry)) (w : DomainState) → IsAtFront shape image first
     → RunsQuietly shape image lines w → RunsPlainly shape first lines w
 quiet_lines shape image first lines w front runs =
     let disk : IsFirstShape shape = record { sound = front.sound; place = front.place } in

@@ -18,7 +18,7 @@ use Rattle.lane_kinds.specs.Fronts.{SettleFront}
 use Rattle.lane_kinds.specs.LaneCounts.{LaneTicks, mark_at}
 use Rattle.lane_kinds.specs.LaneFronts.{fronts_of}
 use Rattle.lane_kinds.specs.Lanes.{EachMarked, EachOf, IsAtRest}
-use Rattle.lane_kinds.specs.Laws.{Counts, Keeps}
+use Rattle.lane_kinds.specs.Laws.{CountsRounds, Keeps}
 use Rattle.lane_kinds.specs.Settles.{EndsWith, SettlePart, Settles}
 use Rattle.lane_kinds.specs.Stuck.{sum_over}
 use Rattle.port_model.specs.NetEndState.{NetSession}
@@ -65,7 +65,7 @@ last : (start : Lanes) (part : List SettleEntry) (behind : Lanes) (at : Settles 
 last start part behind at reached = ends_with lanes Stand keeps start part behind at (begins start reached)
 
 -- TICKS of each lane
-disk_counts : (k : ℕ) → Counts lanes (ticks_in k) (λ m. mark_at k 0 m.first)
+disk_counts : (k : ℕ) → CountsRounds lanes (ticks_in k) (λ m. mark_at k 0 m.first)
 disk_counts k =
     first_counts disks switch (ticks_in k) (mark_at k 0) (lanes_tick disk_kind disk_entries ticks disk_ticks k) (lanes_ignore ports port_entries (ticks k) (λ j event. refl) (λ j. refl))
 
@@ -78,7 +78,7 @@ port_ticking = record {
   answer = λ k. refl;
 }
 
-port_counts : (k : ℕ) → Counts lanes (port_ticks_in k) (λ m. mark_at k 0 m.second)
+port_counts : (k : ℕ) → CountsRounds lanes (port_ticks_in k) (λ m. mark_at k 0 m.second)
 port_counts k =
     second_counts disks switch (port_ticks_in k) (mark_at k 0) (lanes_tick ports port_entries port_ticks port_ticking k)
     (lanes_ignore disk_kind disk_entries (port_ticks k) (λ j event. refl) (λ j. refl)) refl

@@ -1,4 +1,4 @@
-// How what a settle over disks and ports made so far follows from what it had made a turn before, and what it comes to.
+// How what a settle over disks and ports made so far follows from what it had made a pass before, and what it comes to.
 
 ghost use Rattle.std.specs.Prelude.{◌≡◌, ℕ, true, false, Bool, ◌&&◌, ◌||◌, [], ◌∷◌, ◌++◌, ◌≤◌, ◌<◌, ◌+◌, List, length};
 ghost use Rattle.std.specs.Prelude.{Some, slice_get, slice_set};

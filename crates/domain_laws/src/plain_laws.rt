@@ -3,7 +3,7 @@
 ghost use Rattle.std.specs.Prelude.{ℕ, List};
 ghost use Rattle.disk_law.specs.ListState.{ImageState};
 ghost use Rattle.disk_model.specs.LaneState.{Shape};
-ghost use Rattle.world_laws.specs.Quiet.{IsFront};
+ghost use Rattle.world_laws.specs.Quiet.{IsAtFront};
 ghost use Rattle.world_laws.specs.Settle.{SettleEntry};
 ghost use Rattle.domain_laws.specs.Domain.{DomainState};
 ghost use Rattle.domain_laws.specs.Lines.{Line};
@@ -17,5 +17,5 @@ ghost use Rattle.domain_laws.specs.Quiet.{RunsPlainly, RunsQuietly};
 pub fn a_quiet_world_is_a_plain_list()
     ensures { (shape : Shape) (image : ImageState) (first : List ℕ) (lines : List (Line × List SettleEntry))
         (w : DomainState)
-        → IsFront shape image first → RunsQuietly shape image lines w → RunsPlainly shape first lines w }
+        → IsAtFront shape image first → RunsQuietly shape image lines w → RunsPlainly shape first lines w }
 {}

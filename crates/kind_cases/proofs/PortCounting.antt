@@ -10,7 +10,7 @@ use Rattle.lane_kinds.proofs.Stuck.{part_never}
 use Rattle.lane_kinds.specs.Both.{BothHold, BothStand, Two}
 use Rattle.lane_kinds.specs.LaneCounts.{LaneMoves, LaneTicks, LaneUnsticks, TickWaits, mark_at, once}
 use Rattle.lane_kinds.specs.Lanes.{EachMarked, EachOf, lanes_of, turn_entries}
-use Rattle.lane_kinds.specs.Laws.{Counts, Moves, Names, Unsticks}
+use Rattle.lane_kinds.specs.Laws.{CountsRounds, Moves, Names, Unsticks}
 use Rattle.lane_kinds.specs.Settles.{RunsOut, SettlePart, most_rounds}
 use Rattle.lane_kinds.specs.Stuck.{NeverThree, sum_over}
 use Rattle.kind_cases.proofs.PortLaws.{port_rests, turn_steps}
@@ -60,7 +60,7 @@ ticks = record { turn_steps = turn_steps; step = step; tick = λ k j s. refl; le
     step k j Tick own = absurd own
     step k j _ own = refl
 
-pub ticks_counted : (k : ℕ) → Counts two_switches (sum_over (port_ticks k)) (λ m. mark_at k 0 m.first)
+pub ticks_counted : (k : ℕ) → CountsRounds two_switches (sum_over (port_ticks k)) (λ m. mark_at k 0 m.first)
 ticks_counted k =
     first_counts (lanes_of ports of_ports) (lanes_of ports of_twins) (sum_over (port_ticks k)) (mark_at k 0) (lanes_tick ports of_ports port_ticks ticks k)
     (lanes_ignore ports of_twins (port_ticks k) (λ j event. refl) (λ j. refl))

@@ -9,7 +9,7 @@ use Rattle.lane_kinds.proofs.Moving.{lanes_end, lanes_lead, lanes_skip}
 use Rattle.lane_kinds.proofs.Standing.{ends_with}
 use Rattle.lane_kinds.specs.Both.{BothHold, BothStand, OnFirst, OnSecond, Two}
 use Rattle.lane_kinds.specs.Lanes.{AllMove, AreClean, EachMarked, EachOf, IsAtRest, Reads, lanes_of, sum_of}
-use Rattle.lane_kinds.specs.Laws.{Ends, Falls, Keeps, Leads}
+use Rattle.lane_kinds.specs.Laws.{AnswersLead, Falls, Keeps, Leads}
 use Rattle.lane_kinds.specs.Settles.{EndsWith, SettlePart, Settles, most_rounds}
 use Rattle.kind_cases.proofs.PortLaws.{port_bound, port_falls, port_rests, port_silence}
 use Rattle.kind_cases.specs.Ports.{WayHasRoom, IsClean, IsLossless, IsUnforged, Port, port_raises, port_remaining, ports}
@@ -84,7 +84,7 @@ ports_lead =
     first_leads (lanes_of ports of_ports) (lanes_of ports of_twins) (AllMove ports.Step said_port 0) (lanes_lead ports of_ports said_port port_reads port_silence)
     (lanes_skip ports.Step said_port ports of_twins (λ j k event. refl) (λ j k. refl))
 
-pub ports_end : Ends two_switches (OnFirst (AllMove ports.Step said_port 0))
+pub ports_end : AnswersLead two_switches (OnFirst (AllMove ports.Step said_port 0))
 ports_end =
     first_ends (lanes_of ports of_ports) (lanes_of ports of_twins) (AllMove ports.Step said_port 0) (lanes_lead ports of_ports said_port port_reads port_silence)
     (lanes_skip ports.Step said_port ports of_twins (λ j k event. refl) (λ j k. refl)) (lanes_end ports of_ports said_port port_reads port_silence)
@@ -94,7 +94,7 @@ twins_lead =
     second_leads (lanes_of ports of_ports) (lanes_of ports of_twins) (AllMove ports.Step said_twin 0) (lanes_lead ports of_twins said_twin twin_reads port_silence)
     (lanes_skip ports.Step said_twin ports of_ports (λ j k event. refl) (λ j k. refl))
 
-pub twins_end : Ends two_switches (OnSecond (AllMove ports.Step said_twin 0))
+pub twins_end : AnswersLead two_switches (OnSecond (AllMove ports.Step said_twin 0))
 twins_end =
     second_ends (lanes_of ports of_ports) (lanes_of ports of_twins) (AllMove ports.Step said_twin 0) (lanes_lead ports of_twins said_twin twin_reads port_silence)
     (lanes_skip ports.Step said_twin ports of_ports (λ j k event. refl) (λ j k. refl)) (lanes_end ports of_twins said_twin twin_reads port_silence) refl

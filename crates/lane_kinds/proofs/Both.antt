@@ -5,7 +5,7 @@ use Rattle.runs.specs.Run.{Run}
 use Rattle.lane_kinds.proofs.Stuck.{sum_both}
 use Rattle.lane_kinds.proofs.Sums.{and_left, and_right, both_lower, both_unless, or_left, or_right}
 use Rattle.lane_kinds.specs.Both.{BothHold, BothStand, BothStep, Ignores, OnFirst, OnSecond, Skips, Two, both}
-use Rattle.lane_kinds.specs.Laws.{Counts, Ends, Falls, Keeps, Leads, Moves, Names, Unsticks}
+use Rattle.lane_kinds.specs.Laws.{CountsRounds, AnswersLead, Falls, Keeps, Leads, Moves, Names, Unsticks}
 use Rattle.lane_kinds.specs.Rounds.{Rounds}
 use Rattle.lane_kinds.specs.Settles.{EndsWith}
 use Rattle.lane_kinds.specs.Stuck.{sum_over}
@@ -109,7 +109,7 @@ module _ {W V M N R Q E : Type 0} (K : Rounds W M R E) (L : Rounds V N Q E) wher
     pub first_leads : Leads (both K L) (OnFirst To)
     first_leads = grind arith
 
-    module _ (ends : Ends K To) where
+    module _ (ends : AnswersLead K To) where
       names_lead : (r : Two R Q) (w : Two W V) (part more : List E) → Within part (K.names r.first w.first) ⊎ Beyond part more (K.names r.first w.first) (L.names r.second w.second)
           → To w.first part w.first
       names_lead r w part more (inl at) = ends.names r.first w.first part at.rest at.is
@@ -118,7 +118,7 @@ module _ {W V M N R Q E : Type 0} (K : Rounds W M R E) (L : Rounds V N Q E) wher
           (laws.both w.first w.first w.first (K.names r.first w.first) at.rest (ends.names r.first w.first (K.names r.first w.first) [] (append-nil (K.names r.first w.first)))
           (others.names r.second w.second at.rest more at.second_is w.first))
 
-      pub first_ends : Ends (both K L) (OnFirst To)
+      pub first_ends : AnswersLead (both K L) (OnFirst To)
       first_ends = record {
         answer = λ w. ends.answer w.first;
         names = λ r w part more is. names_lead r w part more (front_of_two part more (K.names r.first w.first) (L.names r.second w.second) is);
@@ -135,7 +135,7 @@ module _ {W V M N R Q E : Type 0} (K : Rounds W M R E) (L : Rounds V N Q E) wher
           (others.ticks w.first m.first w.second) (laws.ticks w.second m.second v.second ticks.of_second);
     }
 
-    module _ (ends : Ends L To) (one_answer : K.settled ≡ L.settled) where
+    module _ (ends : AnswersLead L To) (one_answer : K.settled ≡ L.settled) where
       names_lead_second : (r : Two R Q) (w : Two W V) (part more : List E)
           → Within part (K.names r.first w.first) ⊎ Beyond part more (K.names r.first w.first) (L.names r.second w.second) → To w.second part w.second
       names_lead_second r w part more (inl at) = others.names r.first w.first part at.rest at.is w.second
@@ -144,18 +144,18 @@ module _ {W V M N R Q E : Type 0} (K : Rounds W M R E) (L : Rounds V N Q E) wher
           (laws.both w.second w.second w.second (K.names r.first w.first) at.rest
           (others.names r.first w.first (K.names r.first w.first) [] (append-nil (K.names r.first w.first)) w.second) (ends.names r.second w.second at.rest more at.second_is))
 
-      pub second_ends : Ends (both K L) (OnSecond To)
+      pub second_ends : AnswersLead (both K L) (OnSecond To)
       second_ends = record {
         answer = λ w. subst (λ (x : E). To w.second (x ∷ []) w.second) (sym one_answer) (ends.answer w.second);
         names = λ r w part more is. names_lead_second r w part more (front_of_two part more (K.names r.first w.first) (L.names r.second w.second) is);
       }
 
   -- COUNTS of the one, which ignore the other
-  pub first_counts : (count : List E → ℕ) (mark : M → ℕ) → Counts K count mark → Ignores L count → Counts (both K L) count (λ m. mark m.first)
+  pub first_counts : (count : List E → ℕ) (mark : M → ℕ) → CountsRounds K count mark → Ignores L count → CountsRounds (both K L) count (λ m. mark m.first)
   first_counts count mark laws others = grind (arith, none_of_two)
 
   -- and of the other
-  pub second_counts : (count : List E → ℕ) (mark : N → ℕ) → Counts L count mark → Ignores K count → K.settled ≡ L.settled → Counts (both K L) count (λ m. mark m.second)
+  pub second_counts : (count : List E → ℕ) (mark : N → ℕ) → CountsRounds L count mark → Ignores K count → K.settled ≡ L.settled → CountsRounds (both K L) count (λ m. mark m.second)
   second_counts count mark laws others one_answer = grind (arith, none_of_two)
 
   -- AN END OF THE ONE that finds no room, where entries of the other are none of it

@@ -7,7 +7,7 @@ use Rattle.lane_kinds.specs.Both.{AllRound, AllTicks, FrontBehind, FrontOfFirst,
 use Rattle.lane_kinds.specs.Fronts.{Fronts}
 use Rattle.lane_kinds.specs.LaneFronts.{fronts_of}
 use Rattle.lane_kinds.specs.Lanes.{AllMove, EachOf, EachStep, Entries, LaneKind, happened}
-use Rattle.lane_kinds.specs.Laws.{Counts, FrontsCount, FrontsLead, FrontsUnstick, Leads, Unsticks}
+use Rattle.lane_kinds.specs.Laws.{CountsRounds, FrontsCount, FrontsLead, FrontsUnstick, Leads, Unsticks}
 use Rattle.lane_kinds.specs.Rounds.{Rounds}
 use Rattle.lane_kinds.specs.Stuck.{sum_over}
 
@@ -67,7 +67,7 @@ module _ {W V M N R Q E : Type 0} (K : Rounds W M R E) (L : Rounds V N Q E) (F :
     second_most n fronts all others w part v (inl at) = least (count part) n (others.round w.first part v.first at.front)
     second_most n fronts all others w part v (inr at) = grind (arith, second_least, sum_is)
 
-    pub first_fronts_count : (mark : M → ℕ) → Counts K count mark → FrontsCount F count mark → IgnoresFronts G count → FrontsCount (both_fronts K F G) count (λ (m : Two M N). mark m.first)
+    pub first_fronts_count : (mark : M → ℕ) → CountsRounds K count mark → FrontsCount F count mark → IgnoresFronts G count → FrontsCount (both_fronts K F G) count (λ (m : Two M N). mark m.first)
     first_fronts_count mark laws fronts others = record { round = first_most 0 laws.round fronts.round others; ticks = ticks }
       where
         ticks : (w : Two W V) (m : Two M N) (part : List E) (v : Two W V)

@@ -1,9 +1,9 @@
--- Counts over the part of a settle: what only ticks add is what the marks say; and each round that goes on moves
+-- CountsRounds over the part of a settle: what only ticks add is what the marks say; and each round that goes on moves
 -- something.
 use Rattle.std.proofs.Common.{◌≡◌, ℕ, ◌+◌, ◌≤◌, Bool, List, [], ◌∷◌, length, arith}
 use Rattle.runs.specs.Run.{Run}
 use Rattle.lane_kinds.specs.Fronts.{Fronts, SettleFront}
-use Rattle.lane_kinds.specs.Laws.{Counts, FrontsCount, Moves}
+use Rattle.lane_kinds.specs.Laws.{CountsRounds, FrontsCount, Moves}
 use Rattle.lane_kinds.specs.Rounds.{Rounds}
 use Rattle.lane_kinds.specs.Settles.{GoesOn, RunsOut, SettlePart, SettleRound, Settles, Settling, TicksBehind, entries_of_rounds, most_rounds}
 
@@ -22,7 +22,7 @@ none_counted n m is = omega (arith, is)
 first_part : (all a b : ℕ) → all ≡ a + b → all ≤ 0 → a ≤ 0
 first_part all a b sum none = omega (arith, sum, none)
 
-module _ {W M R E : Type 0} (K : Rounds W M R E) (count : List E → ℕ) (mark : M → ℕ) (laws : Counts K count mark) where
+module _ {W M R E : Type 0} (K : Rounds W M R E) (count : List E → ℕ) (mark : M → ℕ) (laws : CountsRounds K count mark) where
   count_nil : count [] ≤ 0
   count_nil = none_counted (count []) (count []) (laws.both [] [])
 

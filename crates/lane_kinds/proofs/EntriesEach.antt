@@ -9,7 +9,7 @@ use Rattle.lane_kinds.specs.Both.{BothHold, Two, both, both_fronts}
 use Rattle.lane_kinds.specs.Fronts.{Fronts}
 use Rattle.lane_kinds.specs.LaneFronts.{fronts_of}
 use Rattle.lane_kinds.specs.Lanes.{AllMove, EachOf, EachStep, Entries, IsSilent, LaneKind, Reads, happened, lanes_of, left_names, round_entries, tick_entries}
-use Rattle.lane_kinds.specs.Laws.{Ends, FrontsLead, Leads}
+use Rattle.lane_kinds.specs.Laws.{AnswersLead, FrontsLead, Leads}
 use Rattle.lane_kinds.specs.Rounds.{Rounds}
 
 -- A FRONT of entries each of which has it
@@ -72,7 +72,7 @@ module _ {S V E : Type 0} (P : E → Type 0) (K : LaneKind S V) (N : Entries V E
     few : (many : ℕ) → many ≡ n → 0 + many ≤ n
     few many long = omega (arith, long)
 
-    pub ends_have : Ends (lanes_of K N) To
+    pub ends_have : AnswersLead (lanes_of K N) To
     ends_have = record {
       answer = λ w long. ((answer, tt), long);
       names = λ r w part more is long. (
@@ -98,8 +98,8 @@ module _ {W V M N R Q E : Type 0} (P : E → Type 0) (K : Rounds W M R E) (L : R
       pub both_fronts_have : FrontsLead (both K L) (both_fronts K F G) Both
       both_fronts_have = grind (arith, two_have)
 
-  module _ (first : Ends K (HaveEach Stands P)) (second : Ends L (HaveEach Others P)) where
-    pub both_ends_have : Ends (both K L) Both
+  module _ (first : AnswersLead K (HaveEach Stands P)) (second : AnswersLead L (HaveEach Others P)) where
+    pub both_ends_have : AnswersLead (both K L) Both
     both_ends_have = record {
       answer = λ w at. ((first.answer w.first at.of_first).0, at);
       names = λ r w part more is at. (

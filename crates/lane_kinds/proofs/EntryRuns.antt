@@ -9,7 +9,7 @@ use Rattle.lane_kinds.proofs.LaneFronts.{of_both}
 use Rattle.lane_kinds.proofs.Moving.{one_more, one_steps, same_lanes}
 use Rattle.lane_kinds.specs.Both.{Skips}
 use Rattle.lane_kinds.specs.Lanes.{EachOf, Entries, EntryOf, IsSilent, LaneKind, MakeTurns, StepOf, TickAll, TicksIf, gets_tick, lanes_of, left_names, round_entries, tick_entries, turn_entries}
-use Rattle.lane_kinds.specs.Laws.{Ends, Leads}
+use Rattle.lane_kinds.specs.Laws.{AnswersLead, Leads}
 
 -- NUMBERS
 still_within : (k n m : ℕ) → k < n → m ≡ n → k < m
@@ -131,7 +131,7 @@ module _ {S V E : Type 0} (K : LaneKind S V) (N : Entries V E) (Step : List S �
     ticks = λ w m v ticks. ticks_run 0 [] w m v refl ticks;
   }
 
-  pub entries_end : Ends (lanes_of K N) (Run Step)
+  pub entries_end : AnswersLead (lanes_of K N) (Run Step)
   entries_end = record {
     answer = λ w. (w, answer w, refl);
     names = λ r w part more is. leaving_runs Step part (front_leaves Step part more (left_names K N 0 r w) is (names_each K N (Leaves Step) left 0 r w)) w;

@@ -9,7 +9,7 @@ use Rattle.lane_kinds.proofs.Sums.{and_left}
 use Rattle.lane_kinds.specs.Both.{AllRound, AllTicks, FrontBehind, FrontOfFirst, Two, both, both_fronts}
 use Rattle.lane_kinds.specs.LaneFronts.{RoundFront, TickFront, fronts_of}
 use Rattle.lane_kinds.specs.Lanes.{EachOf, EachStep, Entries, LaneKind, lanes_of}
-use Rattle.lane_kinds.specs.Laws.{Ends, FrontsLeadWhere, LeadsWhere}
+use Rattle.lane_kinds.specs.Laws.{AnswersLead, FrontsLeadWhere, LeadsWhere}
 use Rattle.lane_kinds.specs.Rounds.{Rounds}
 
 -- THOSE THAT ARE KEPT
@@ -132,7 +132,7 @@ module _ {S V T X E : Type 0} (K : LaneKind S V) (N : Entries V E) (L : LaneKind
       first_fronts_where = record { round = round_front; ticks = ticks_front }
 
     -- THE ANSWER, and names
-    module _ (ends : Ends One To) where
+    module _ (ends : AnswersLead One To) where
       own_names : (r : List (List V)) (w : List S) → EachOf (IsKept keep) (One.names r w)
       own_names r w = names_each K N (IsKept keep) says.own_left 0 r w
 
@@ -148,7 +148,7 @@ module _ {S V T X E : Type 0} (K : LaneKind S V) (N : Entries V E) (L : LaneKind
           (of_same (IsDropped keep) (at.rest ++ more) (Other.names r.second w.second) at.second_is (names_each L O (IsDropped keep) says.other_left 0 r.second w.second))))
           (ends.names r.first w.first all [] (append-nil all))
 
-      pub first_ends_where : Ends All FirstTo
+      pub first_ends_where : AnswersLead All FirstTo
       first_ends_where = record {
         answer = λ w. as_kept w.first w.first (N.settled ∷ []) (N.settled ∷ []) (ap (λ (c : Bool). put_if c N.settled []) says.answer) (ends.answer w.first);
         names = λ r w part more is. names_to r w part more (front_of_two part more (One.names r.first w.first) (Other.names r.second w.second) is);

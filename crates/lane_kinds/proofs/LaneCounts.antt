@@ -1,4 +1,4 @@
--- Counts over the part of a settle of a list of lanes: what moves, ticks, how often an end finds no room; and the
+-- CountsRounds over the part of a settle of a list of lanes: what moves, ticks, how often an end finds no room; and the
 -- names of those left over.
 use Rattle.std.proofs.Common.{◌≡◌, ℕ, ◌+◌, ◌≤◌, ◌<◌, Bool, true, false, List, [], ◌∷◌, ◌++◌, length, refl, sym, ap, ◌∙◌, arith}
 use Rattle.std.proofs.lemmas.Bool.{eqb-true}
@@ -9,7 +9,7 @@ use Rattle.lane_kinds.proofs.Stuck.{sum_both}
 use Rattle.lane_kinds.specs.Both.{Ignores}
 use Rattle.lane_kinds.specs.LaneCounts.{LaneMoves, LaneTicks, LaneUnsticks, TickWaits, mark_at, once}
 use Rattle.lane_kinds.specs.Lanes.{EachMarked, EachStep, Entries, LaneKind, LaneRests, MakeRound, MakeTurns, StepOf, TickAll, TicksIf, all_calm, are_still, gets_tick, lanes_of, left_names, marked, round_entries, some_tick, tick_entries, turn_entries, unmarked}
-use Rattle.lane_kinds.specs.Laws.{Counts, Moves, Names, Unsticks}
+use Rattle.lane_kinds.specs.Laws.{CountsRounds, Moves, Names, Unsticks}
 use Rattle.lane_kinds.specs.Stuck.{sum_over}
 use Rattle.runs.specs.Run.{Run}
 
@@ -141,7 +141,7 @@ module _ {S V E : Type 0} (K : LaneKind S V) (N : Entries V E) (ticks : ℕ → 
   answer_is : (n : ℕ) → n ≡ 0 → n + 0 ≡ 0
   answer_is n none = omega (arith, none)
 
-  pub lanes_tick : (k : ℕ) → Counts (lanes_of K N) (sum_over (ticks k)) (mark_at k 0)
+  pub lanes_tick : (k : ℕ) → CountsRounds (lanes_of K N) (sum_over (ticks k)) (mark_at k 0)
   lanes_tick k = grind (arith, sum_both, round_none, ticks_mark, none_marked, mark_most, answer_is, names_none)
 
 -- AN END THAT FINDS NO ROOM

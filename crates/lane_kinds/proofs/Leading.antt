@@ -4,7 +4,7 @@ use Rattle.std.specs.Prelude.{⊤}
 use Rattle.runs.specs.Run.{Run}
 use Rattle.lane_kinds.proofs.Standing.{goes_on, rounds_stand}
 use Rattle.lane_kinds.specs.Fronts.{Fronts, NamesFront, QuietFront, SettleFront}
-use Rattle.lane_kinds.specs.Laws.{Ends, FrontsLead, FrontsLeadWhere, Leads, LeadsWhere}
+use Rattle.lane_kinds.specs.Laws.{AnswersLead, FrontsLead, FrontsLeadWhere, Leads, LeadsWhere}
 use Rattle.lane_kinds.specs.Rounds.{Rounds}
 use Rattle.lane_kinds.specs.Settles.{GoesOn, RunsOut, SettlePart, SettleRound, Settles, Settling, TicksBehind, begin, entries_of_rounds, most_rounds}
 
@@ -32,14 +32,14 @@ module _ {W M R E : Type 0} (K : Rounds W M R E) (Stands : W → M → Type 0) (
       subst (λ (l : List E). To start l behind) (sym at.is)
       (laws.both start behind behind (entries_of_rounds at.rounds ++ K.leaves at.steps) (K.settled ∷ []) (before_answer start part behind stands at) (answer behind))
 
-  out_leads : Ends K To → (start : W) (part : List E) (behind : W) → Stands start (K.unmarked start) → RunsOut K start part behind → To start part behind
+  out_leads : AnswersLead K To → (start : W) (part : List E) (behind : W) → Stands start (K.unmarked start) → RunsOut K start part behind → To start part behind
   out_leads ends start part behind stands out =
       subst (λ (l : List E). To start l behind) (sym out.is)
       (laws.both start behind behind (entries_of_rounds (out.rounds ++ out.last ∷ [])) (K.names out.last.steps behind)
       (subst (To start (entries_of_rounds (out.rounds ++ out.last ∷ []))) (sym out.lanes) (stand_lead (begin K start) (out.rounds ++ out.last ∷ []) out.now stands out.run))
       (ends.names out.last.steps behind (K.names out.last.steps behind) [] (append-nil (K.names out.last.steps behind))))
 
-  pub part_stands : Ends K To → (start : W) (part : List E) (behind : W) → Stands start (K.unmarked start) → SettlePart K start part behind → To start part behind
+  pub part_stands : AnswersLead K To → (start : W) (part : List E) (behind : W) → Stands start (K.unmarked start) → SettlePart K start part behind → To start part behind
   part_stands ends start part behind stands (inl at) = settles_lead ends.answer start part behind stands at
   part_stands ends start part behind stands (inr out) = out_leads ends start part behind stands out
 
@@ -57,7 +57,7 @@ module _ {W M R E : Type 0} (K : Rounds W M R E) (Stands : W → M → Type 0) (
         (laws.both start at.now.lanes behind (entries_of_rounds at.rounds) at.later (stand_lead (begin K start) at.rounds at.now stands at.run)
         (later_leads at.rounds at.now (most_rounds K start) (length at.rounds) at.later behind (rounds_stand K Stands laws.keeps (begin K start) at.rounds at.now at.run stands) named at.front))
 
-    pub front_stands : Ends K To → (start : W) (part : List E) (behind : W) → Stands start (K.unmarked start) → SettleFront K F start part behind → To start part behind
+    pub front_stands : AnswersLead K To → (start : W) (part : List E) (behind : W) → Stands start (K.unmarked start) → SettleFront K F start part behind → To start part behind
     front_stands ends start part behind stands given = grind (arith, front_by)
 
     -- of rounds that haven't run out
@@ -78,14 +78,14 @@ module _ {W M R E : Type 0} (K : Rounds W M R E) (To : W → List E → W → Ty
   pub steps_lead : (start : W) (part : List E) (behind : W) (at : Settles K start part behind) → To start (entries_of_rounds at.rounds ++ K.leaves at.steps) behind
   steps_lead start part behind at = before_answer K Always To always start part behind tt at
 
-  pub part_leads : Ends K To → (start : W) (part : List E) (behind : W) → SettlePart K start part behind → To start part behind
+  pub part_leads : AnswersLead K To → (start : W) (part : List E) (behind : W) → SettlePart K start part behind → To start part behind
   part_leads ends start part behind settle = part_stands K Always To always ends start part behind tt settle
 
   module _ (F : Fronts W M E) (fronts : FrontsLead K F To) where
     fronts_always : FrontsLeadWhere K F Always To
     fronts_always = grind arith
 
-    pub front_leads : Ends K To → (start : W) (part : List E) (behind : W) → SettleFront K F start part behind → To start part behind
+    pub front_leads : AnswersLead K To → (start : W) (part : List E) (behind : W) → SettleFront K F start part behind → To start part behind
     front_leads ends start part behind at = front_stands K Always To always F fronts_always ends start part behind tt at
 
     pub few_lead : (start : W) (part : List E) (behind : W) (at : SettleFront K F start part behind) → length at.rounds < most_rounds K start → To start part behind

@@ -7,7 +7,7 @@ use Rattle.runs.specs.Run.{Run, run_append}
 use Rattle.lane_kinds.proofs.Lanes.{other_test}
 use Rattle.lane_kinds.specs.Both.{Skips}
 use Rattle.lane_kinds.specs.Lanes.{AllMove, AllStep, EachOf, Entries, GivesNothing, IsSilent, LaneKind, MakeTurns, Reads, StepOf, TickAll, TicksIf, all_calm, gets_tick, happened, lanes_of, left_names, own_or, round_entries, tick_entries, turn_entries}
-use Rattle.lane_kinds.specs.Laws.{Ends, Leads}
+use Rattle.lane_kinds.specs.Laws.{AnswersLead, Leads}
 
 pub happened_both : {V E : Type 0} (said : ℕ → E → List V) (j : ℕ) (before behind : List E) → happened said j (before ++ behind) ≡ happened said j before ++ happened said j behind
 happened_both said j [] behind = refl
@@ -183,7 +183,7 @@ module _ {S V E : Type 0} (K : LaneKind S V) (N : Entries V E) (said : ℕ → E
     ticks = λ w m v ticks. ticks_move 0 [] w m v refl ticks;
   }
 
-  pub lanes_end : Ends (lanes_of K N) (AllMove K.Step said 0)
+  pub lanes_end : AnswersLead (lanes_of K N) (AllMove K.Step said 0)
   lanes_end = record {
     answer = λ w. nothing_move K.Step said 0 w (N.settled ∷ []) (λ j. append-nil (said j N.settled) ∙ reads.of_answer j);
     names = λ r w part more is. nothing_move K.Step said 0 w part (λ j. front_none K.Step said j part more (left_names K N 0 r w) is (names_none j 0 r w));

@@ -41,7 +41,7 @@ pub record LeadsWhere {W M R E : Type 0} (K : Rounds W M R E) (Stands : W → M 
   pub ticks : (w : W) (m : M) (r : R) (v u : W) → Stands w m → K.Makes w r v → K.quiet r ≡ true → K.Ticks v m u → To w (K.leaves r ++ K.ticks_leave v m) u
 
 -- and the answer leads nowhere, nor do names, or the first of them
-pub record Ends {W M R E : Type 0} (K : Rounds W M R E) (To : W → List E → W → Type 0) : Type 0 where
+pub record AnswersLead {W M R E : Type 0} (K : Rounds W M R E) (To : W → List E → W → Type 0) : Type 0 where
   pub answer : (w : W) → To w (K.settled ∷ []) w
   pub names : (r : R) (w : W) (part more : List E) → part ++ more ≡ K.names r w → To w part w
 
@@ -55,7 +55,7 @@ pub record FrontsLeadWhere {W M R E : Type 0} (K : Rounds W M R E) (F : Fronts W
 
 -- A COUNT over entries: rounds, names and the answer add nothing to it, and ticks as much as to the marks, which are
 -- one at most
-pub record Counts {W M R E : Type 0} (K : Rounds W M R E) (count : List E → ℕ) (mark : M → ℕ) : Type 0 where
+pub record CountsRounds {W M R E : Type 0} (K : Rounds W M R E) (count : List E → ℕ) (mark : M → ℕ) : Type 0 where
   pub both : (one two : List E) → count (one ++ two) ≡ count one + count two
   pub round : (w : W) (r : R) (v : W) → K.Makes w r v → count (K.leaves r) ≤ 0
   pub ticks : (w : W) (m : M) (v : W) → K.Ticks w m v → count (K.ticks_leave w m) + mark m ≡ mark (K.marked w m)

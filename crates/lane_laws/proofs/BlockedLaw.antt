@@ -20,7 +20,7 @@ use Rattle.lane_laws.specs.ChannelEnds.{client_core}
 use Rattle.lane_laws.specs.DiskLog.{DiskLog}
 use Rattle.lane_laws.specs.OrderLaws.{HasToPut}
 use Rattle.lane_laws.specs.RuleFacts.{ClientMay}
-use Rattle.lane_laws.specs.Sound.{InOrder}
+use Rattle.lane_laws.specs.Sound.{SessionInOrder}
 use Rattle.lane_laws.specs.WorkLaws.{client_handshake, server_handshake}
 use Rattle.channel_laws.proofs.EndSending.{calm_up, sends_some}
 use Rattle.lane_laws.proofs.ClientPutCounting.{OwnInfo, own_info}
@@ -58,7 +58,7 @@ client_left s l true told own some =
     let grounded = told.grounded in
     let info : OwnInfo s.client (half_said l.transcript.client ++ s.client.link.to_send) =
     own_info s.client l.transcript.client s.client.session refl own grounded.knows.counted.client.holds in
-    let order : InOrder (length s.client.pending) info.session =
+    let order : SessionInOrder (length s.client.pending) info.session =
     in_order (length s.client.pending) s.client.session info.session info.is grounded.knows.all.sound.counts in
     more_published s l info.session grounded info.is (order.own info.announcing)
 client_left s l false told own some =

@@ -35,7 +35,7 @@ use Rattle.lane_laws.proofs.Sharing.{in_order, infos_few}
 use Rattle.lane_laws.specs.Budget.{infos_left, one_if}
 use Rattle.lane_laws.specs.ChannelEnds.{client_core}
 use Rattle.lane_laws.specs.RuleFacts.{ClientMay}
-use Rattle.lane_laws.specs.Sound.{ClientSound, InOrder}
+use Rattle.lane_laws.specs.Sound.{ClientSound, SessionInOrder}
 
 -- IT BEGINS
 pub client_begins : (s t : ClientState) → t ≡ joined_client s → EndBegins (client_core s) (client_core t)
@@ -164,7 +164,7 @@ holds_says s message sound quiet owed = record {
 holds_announces : (s : ClientState) (session : ClientSession) → ClientSound s → owes s.link ≡ false → s.handshake.owed ≡ None → s.session ≡ Some session
     → session.announced < session.published → HoldsTo s (announcing session (holding (announcement s session) s))
 holds_announces s session sound quiet owed is more =
-    let counts : InOrder (length s.pending) session = in_order (length s.pending) s.session session is sound.counts in
+    let counts : SessionInOrder (length s.pending) session = in_order (length s.pending) s.session session is sound.counts in
     let infos : infos_left s.slots s.session ≡ (session.acked + s.slots) - (session.announced + one_if session.announcing) = ap (infos_left s.slots) is in
     let fewer : one_if session.announcing ≤ 1 = one_or session.announcing in
     record {

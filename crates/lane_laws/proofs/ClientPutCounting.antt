@@ -26,7 +26,7 @@ use Rattle.lane_laws.proofs.RangesSaid.{said_one, said_range}
 use Rattle.lane_laws.proofs.Sharing.{in_order}
 use Rattle.lane_laws.specs.Counted.{ClientCounted, ClientHolds, acked_of, announced_of, infos_of, range_count, range_sum}
 use Rattle.lane_laws.specs.LaneRests.{ClientRests, ClientUtters}
-use Rattle.lane_laws.specs.Sound.{ClientSound, InOrder}
+use Rattle.lane_laws.specs.Sound.{ClientSound, SessionInOrder}
 
 -- THE LOG counts what is said
 abbrev pub SameButSaid : Option ClientSession → Option ClientSession → Type 0
@@ -113,7 +113,7 @@ pub own_counting : (shape : Shape) (c : ClientState) (turns : List Utterance) (p
 own_counting shape c turns packet sid done k sound own last counted =
     let info = own_info c turns c.session refl own counted.holds in
     let s = info.session in
-    let order : InOrder (length c.pending) s = in_order (length c.pending) c.session s info.is sound.counts in
+    let order : SessionInOrder (length c.pending) s = in_order (length c.pending) c.session s info.is sound.counts in
     let some : s.announced < s.published = order.own info.announcing in
     let most : s.published ≤ s.announced + c.slots = omega (arith, order.published, order.completed, order.acked, sound.pending) in
     let behind : Option ClientSession = Some (record s { announced = s.published; infos = s.infos + 1; announcing = false }) in

@@ -13,7 +13,7 @@ use Rattle.lane_laws.proofs.EndsWorking.{works_lawful}
 use Rattle.lane_laws.proofs.FramesLost.{lost_lawful}
 use Rattle.lane_laws.proofs.LaneChannel.{heard_lawful, said_lawful}
 use Rattle.lane_laws.proofs.TickLaw.{tick_lawful}
-use Rattle.lane_laws.proofs.StandingRuns.{admission_lawful, once_lawful, turns_lawful}
+use Rattle.lane_laws.proofs.StandingRuns.{admission_lawful, once_lawful, runs_lawful}
 use Rattle.lane_laws.proofs.TableRuns.{answers_lawful, table_lawful}
 use Rattle.lane_laws.proofs.LaneResets.{gaps_lawful, resets_lawful}
 use Rattle.lane_laws.proofs.NearOrder.{near_lawful}
@@ -37,7 +37,7 @@ may_stand shape events event more = record {
   admission = lawful_last admission_lawful more;
   once = lawful_last once_lawful more;
   carries = lawful_last carries_lawful more;
-  turns = lawful_last turns_lawful more;
+  runs = lawful_last runs_lawful more;
   works = lawful_last works_lawful more;
   numbers = lawful_last numbers_lawful more;
   order = lawful_last order_lawful more;

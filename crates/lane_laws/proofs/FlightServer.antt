@@ -16,7 +16,7 @@ use Rattle.lane_laws.proofs.RemainingServerPuts.{ServerFalls}
 use Rattle.lane_laws.proofs.RemainingServerSteps.{few_pieces, moves_less, stores_less}
 use Rattle.lane_laws.proofs.Ruling.{server_may}
 use Rattle.lane_laws.proofs.ServerTaken.{ServerTook}
-use Rattle.lane_laws.specs.Budget.{range_left}
+use Rattle.lane_laws.specs.Budget.{range_packets}
 use Rattle.lane_laws.specs.Remaining.{pieces_left, server_packets}
 use Rattle.lane_laws.specs.RemainingSteps.{ServerHeard}
 use Rattle.lane_laws.specs.RuleFacts.{ServerMay}
@@ -49,14 +49,14 @@ pub server_takes_flies : (most : ℕ) (s t : ServerState) (turns : List Utteranc
 server_takes_flies most s t turns packet opens turn took = record { packets = turn_packets most s t turn; pieces = same_pieces s t (took_work s t turns packet opens took) }
 
 -- ITS WORK
-works_flies : (s : ServerState) (session : Option ServerSession) (work : Option Work) → range_left session ≡ range_left s.session → (FewPieces s.work → FewPieces work)
+works_flies : (s : ServerState) (session : Option ServerSession) (work : Option Work) → range_packets session ≡ range_packets s.session → (FewPieces s.work → FewPieces work)
     → ServerFlies 0 0 s (record s { session = session; work = work })
 works_flies s session work range pieces = grind arith
 
 pub server_fetches_flies : (s : ServerState) (at : Seen) (reach : Reach) (slot : ℕ) (bytes : List ℕ) (t : ServerState) (new : List ℕ) → ServerFetches s at reach slot bytes t new → ServerFlies 0 0 s t
 server_fetches_flies s at reach slot bytes t new step =
     let may : ServerMay s at (Fetches step.session) = subst (ServerMay s at) step.rule (server_may s at) in
-    subst (ServerFlies 0 0 s) (sym step.is) (works_flies s _ _ (ap range_left (sym may.1)) (λ few. few_pieces (slot_says.disk_desc_of bytes) s.blocks))
+    subst (ServerFlies 0 0 s) (sym step.is) (works_flies s _ _ (ap range_packets (sym may.1)) (λ few. few_pieces (slot_says.disk_desc_of bytes) s.blocks))
 
 pub server_moves_flies : (s : ServerState) (at : Seen) (reach : Reach) (unit : ℕ) (why : Option CopyFault) (t : ServerState) (new : List ℕ) → ServerMoves s at reach unit why t new → ServerFlies 0 0 s t
 server_moves_flies s at reach unit why t new step = grind (arith, server_may, moves_less)

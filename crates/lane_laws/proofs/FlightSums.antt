@@ -10,8 +10,8 @@ use Rattle.channel_laws.specs.WireLog.{WireLog, lossy_behind}
 use Rattle.disk_model.specs.ClientState.{ClientState}
 use Rattle.disk_model.specs.ServerState.{ServerState}
 use Rattle.lane_laws.proofs.FlightServer.{FewPieces}
-use Rattle.lane_laws.specs.Budget.{infos_begun}
-use Rattle.lane_laws.specs.Counted.{one_where, range_count}
+use Rattle.lane_laws.specs.Budget.{infos_begun, one_if}
+use Rattle.lane_laws.specs.Counted.{range_count}
 use Rattle.lane_laws.specs.Remaining.{client_packets, server_packets}
 
 -- an end that isn't up counts as one that begins
@@ -24,7 +24,7 @@ live_count Resetting first now = first
 -- client heard and how many INFO it began
 abbrev pub FewFly : ChannelState → ChannelState → ℕ → ℕ → Bool → ℕ → ℕ → ℕ → ℕ → Type 0
 FewFly x y to_a to_b lossy client server answers infos =
-    to_a + to_b + live_count x 9 client + live_count y 8 server + live_count x 0 answers + one_where lossy ≤ 17 + live_count x 0 infos
+    to_a + to_b + live_count x 9 client + live_count y 8 server + live_count x 0 answers + one_if lossy ≤ 17 + live_count x 0 infos
 
 pub record Flight (w : WireLog) (c : ClientState) (v : ServerState) (turns : List Utterance) : Type 0 where
   pub few : FewFly w.wire.end_a w.wire.end_b (length w.wire.to_a) (length w.wire.to_b) w.lossy (client_packets c) (server_packets v) (range_count 2 (heard turns)) (infos_begun c.session)

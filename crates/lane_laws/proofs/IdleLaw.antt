@@ -20,7 +20,7 @@ use Rattle.disk_model.specs.DiskEvent.{DiskEvent, OnWire}
 use Rattle.disk_model.specs.LaneState.{LaneState}
 use Rattle.disk_model.specs.LaneStep.{EndOnWire, LaneStep}
 use Rattle.lane_laws.proofs.Sharing.{in_order}
-use Rattle.lane_laws.specs.Sound.{InOrder}
+use Rattle.lane_laws.specs.Sound.{SessionInOrder}
 use Rattle.lane_laws.proofs.Counting.{of_client}
 use Rattle.lane_laws.proofs.IdleRules.{ServerIdles, client_idles, server_idles}
 use Rattle.lane_laws.proofs.RuleTests.{ClientIdles}
@@ -46,7 +46,7 @@ idle_client s l grounded idles =
     let of = of_client s.client.session session l.work.done l.work.client is grounded.knows.counted.client.agrees in
     let both : Some of.counts ≡ Some c = sym of.is ∙ has in
     let same : of.counts ≡ c = some_same both in
-    let order : InOrder (length s.client.pending) session =
+    let order : SessionInOrder (length s.client.pending) session =
     in_order (length s.client.pending) s.client.session session is grounded.knows.all.sound.counts in
     let stand = grounded.knows.all.stands.requests in
     let acked = not_below session.completed session.acked (idles.rests.completed session is) in

@@ -18,10 +18,10 @@ use Rattle.lane_laws.proofs.FlightRuns.{InFlight}
 use Rattle.lane_laws.proofs.FlightSums.{FewFly}
 use Rattle.lane_laws.proofs.Speaking.{run_rests}
 use Rattle.lane_laws.proofs.LifeBound.{RequestsLeft, by_sessions}
-use Rattle.lane_laws.specs.Budget.{infos_begun}
-use Rattle.lane_laws.specs.Counted.{one_where, range_count}
+use Rattle.lane_laws.specs.Budget.{infos_begun, one_if}
+use Rattle.lane_laws.specs.Counted.{range_count}
 use Rattle.lane_laws.specs.LaneTranscripts.{transcript_behind}
-use Rattle.lane_laws.specs.Remaining.{absent, asked_by, client_left, client_packets, life, remaining, second_life, server_left, server_packets}
+use Rattle.lane_laws.specs.Remaining.{absent, asked_remaining, client_remaining, client_packets, life, remaining, second_life, server_remaining, server_packets}
 use Rattle.lane_laws.proofs.HeardFront.{unheard_client}
 use Rattle.lane_laws.proofs.OneSession.{client_in_session}
 use Rattle.channel_laws.proofs.Sessions.{open_heard}
@@ -51,13 +51,13 @@ record Facts (x y : ChannelState) (a b : ℕ) (lossy : Bool) (c : ClientState) (
   both : x ≡ Up → y ≡ Up → RequestsLeft c.session v.session v.work (length c.pending) answers
 
 abbrev Most : ChannelState → ChannelState → ℕ → ℕ → Bool → ClientState → ServerState → Type 0
-Most x y a b lossy c v = absent x + absent y + a + b + client_left x (asked_by y v) c + server_left y v + 3 * one_where lossy ≤ 36 + 16 * length c.pending
+Most x y a b lossy c v = absent x + absent y + a + b + client_remaining x (asked_remaining y v) c + server_remaining y v + 3 * one_if lossy ≤ 36 + 16 * length c.pending
 
 most_in : (x y : ChannelState) (a b : ℕ) (lossy : Bool) (c : ClientState) (v : ServerState) (answers : ℕ) → Facts x y a b lossy c v answers → Most x y a b lossy c v
 most_in x y a b lossy c v answers facts = grind arith
 
 life_most : (shape : Shape) (events : List DiskEvent) (s : LaneState) → IsShape shape → Run LaneStep (fresh shape) events s → s.wire.forged ≡ false
-    → life s.wire.wire s.client s.server + 3 * one_where s.wire.lossy ≤ 36 + 16 * length s.client.pending
+    → life s.wire.wire s.client s.server + 3 * one_if s.wire.lossy ≤ 36 + 16 * length s.client.pending
 life_most shape events s sound run clean =
     let transcript = (log_of after (nothing_yet shape) events).transcript in
     let flight : InFlight s transcript.client = run_flight shape events s sound run clean in
@@ -69,7 +69,7 @@ life_most shape events s sound run clean =
     })
 
 -- WHAT REMAINS
-by_lossy : (lossy : Bool) (life pending : ℕ) → life + 3 * one_where lossy ≤ 36 + 16 * pending → life + second_life lossy pending ≤ 69 + 32 * pending
+by_lossy : (lossy : Bool) (life pending : ℕ) → life + 3 * one_if lossy ≤ 36 + 16 * pending → life + second_life lossy pending ≤ 69 + 32 * pending
 by_lossy true life pending most = omega (arith, most)
 by_lossy false life pending most = omega (arith, most)
 
@@ -77,7 +77,7 @@ pub remains_most : (shape : Shape) (events : List DiskEvent) (s : LaneState) →
     → remaining s ≤ 69 + 32 * length s.client.pending
 remains_most shape events s sound run clean = by_lossy s.wire.lossy (life s.wire.wire s.client s.server) (length s.client.pending) (life_most shape events s sound run clean)
 
-by_whole : (lossy : Bool) (life pending : ℕ) → lossy ≡ false → life + 3 * one_where lossy ≤ 36 + 16 * pending → life + second_life lossy pending ≤ 36 + 16 * pending
+by_whole : (lossy : Bool) (life pending : ℕ) → lossy ≡ false → life + 3 * one_if lossy ≤ 36 + 16 * pending → life + second_life lossy pending ≤ 36 + 16 * pending
 by_whole true life pending whole most = absurd (cc whole)
 by_whole false life pending whole most = omega (arith, most)
 

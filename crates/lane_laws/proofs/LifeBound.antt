@@ -28,7 +28,7 @@ use Rattle.lane_laws.specs.Budget.{infos_begun, one_if, one_range}
 use Rattle.lane_laws.specs.Counted.{InServerOrder, NothingAsked, RangeStands, ServerOrder, acked_of, announced_of, infos_of, range_count, range_sum}
 use Rattle.lane_laws.specs.LaneTranscripts.{transcript_behind}
 use Rattle.lane_laws.specs.Remaining.{asked_in, requests_left, serving_left, total, unfinished, work_left}
-use Rattle.lane_laws.specs.Sound.{InOrder}
+use Rattle.lane_laws.specs.Sound.{SessionInOrder}
 use Rattle.channel_laws.proofs.Apart.{true_is_false}
 use Rattle.lane_laws.proofs.ServerPutCounting.{work_most}
 
@@ -103,7 +103,7 @@ both_open shape events s c v sound run clean up_a up_b is_c is_v pieces =
     let transcript : l.transcript ≡ transcript_behind events = transcript_is (nothing_yet shape) events in
     let front_b : IsFront (heard l.transcript.server) (said l.transcript.client) = subst (λ (t : TranscriptLog). IsFront (heard t.server) (said t.client)) (sym transcript) (heard_messages shape events s B sound run clean up_b) in
     let front_a : IsFront (heard l.transcript.client) (said l.transcript.server) = subst (λ (t : TranscriptLog). IsFront (heard t.client) (said t.server)) (sym transcript) (heard_messages shape events s A sound run clean up_a) in
-    let order : InOrder (length s.client.pending) c = in_order (length s.client.pending) s.client.session c is_c knows.all.sound.counts in
+    let order : SessionInOrder (length s.client.pending) c = in_order (length s.client.pending) s.client.session c is_c knows.all.sound.counts in
     let announced : c.announced ≡ range_sum slots 1 (said l.transcript.client) = sym (ap announced_of is_c) ∙ knows.counted.client.announced in
     let acked : c.acked ≡ range_sum slots 2 (heard l.transcript.client) = sym (ap acked_of is_c) ∙ knows.counted.client.acked in
     let infos : c.infos ≡ range_count 1 (said l.transcript.client) = sym (ap infos_of is_c) ∙ knows.counted.client.infos in
@@ -136,7 +136,7 @@ client_alone shape events s c sound run clean up_a is_c is_v =
     let knows : Knows s l = run_knows shape events s sound run in
     let transcript : l.transcript ≡ transcript_behind events = transcript_is (nothing_yet shape) events in
     let front_a : IsFront (heard l.transcript.client) (said l.transcript.server) = subst (λ (t : TranscriptLog). IsFront (heard t.client) (said t.server)) (sym transcript) (heard_messages shape events s A sound run clean up_a) in
-    let order : InOrder (length s.client.pending) c = in_order (length s.client.pending) s.client.session c is_c knows.all.sound.counts in
+    let order : SessionInOrder (length s.client.pending) c = in_order (length s.client.pending) s.client.session c is_c knows.all.sound.counts in
     let announced : c.announced ≡ range_sum slots 1 (said l.transcript.client) = sym (ap announced_of is_c) ∙ knows.counted.client.announced in
     let acked : c.acked ≡ range_sum slots 2 (heard l.transcript.client) = sym (ap acked_of is_c) ∙ knows.counted.client.acked in
     let infos : c.infos ≡ range_count 1 (said l.transcript.client) = sym (ap infos_of is_c) ∙ knows.counted.client.infos in

@@ -25,7 +25,7 @@ use Rattle.disk_model.specs.ServerState.{ServerSession, Work}
 use Rattle.channel_laws.specs.TranscriptLog.{TranscriptLog}
 use Rattle.channel_laws.specs.WireLog.{WireLog}
 use Rattle.lane_laws.specs.WorkLog.{ClientCounts, ServerCounts, length_in, one_in}
-use Rattle.channel_laws.specs.Messages.{end_of, is_range, range_if, seq_of, start_of}
+use Rattle.channel_laws.specs.Messages.{end_slot_of, is_range, range_if, seq_of, start_slot_of}
 use Rattle.channel_laws.proofs.HandshakesPlaced.{up_or}
 use Rattle.channel_laws.proofs.Sessions.{open_heard}
 use Rattle.lane_laws.proofs.AckedFinished.{same_ranges}
@@ -38,7 +38,7 @@ use Rattle.lane_laws.proofs.RangesTold.{EachSaid, IsApart, IsData, IsEither, cod
 use Rattle.lane_laws.proofs.ServerCounting.{wraps_more}
 use Rattle.lane_laws.specs.Counted.{ServerOrder, range_count, range_sum}
 use Rattle.lane_laws.specs.LaneTranscripts.{transcript_behind}
-use Rattle.lane_laws.specs.OnTheWay.{NameAll, OnTheWay, SeqsFrom, WaitsOrLost, answered_by, asked_by, expected_by, ranges_behind}
+use Rattle.lane_laws.specs.OnTheWay.{NameAll, OnTheWay, SeqsFrom, WaitsOrLost, answered_count, asked_count, expected_by, ranges_behind}
 use Rattle.lane_laws.specs.ChannelEnds.{client_core}
 use Rattle.channel_laws.proofs.NextPacket.{none_of}
 
@@ -51,12 +51,12 @@ data_is : (r : Role) (slots sid count sum : ℕ) (bytes : List ℕ) → IsData r
 data_is Initiator slots sid count sum bytes is = ap (is_range 1) is.bytes_are ∙ is_data 1 sid Info is.seq sid (sum % slots) is.end is.state refl
 data_is Responder slots sid count sum bytes is = ap (is_range 2) is.bytes_are ∙ is_data 2 sid Ack is.seq sid (sum % slots) is.end is.state refl
 
-data_begins : (r : Role) (slots sid count sum : ℕ) (bytes : List ℕ) → slots ≤ 256 → (is : IsData r slots sid count sum bytes) → start_of bytes ≡ sum % slots
+data_begins : (r : Role) (slots sid count sum : ℕ) (bytes : List ℕ) → slots ≤ 256 → (is : IsData r slots sid count sum bytes) → start_slot_of bytes ≡ sum % slots
 data_begins r slots sid count sum bytes few is = grind (arith, start_is)
 
-data_ends : (r : Role) (slots sid count sum : ℕ) (bytes : List ℕ) → slots ≤ 256 → (is : IsData r slots sid count sum bytes) → end_of bytes ≡ is.end
+data_ends : (r : Role) (slots sid count sum : ℕ) (bytes : List ℕ) → slots ≤ 256 → (is : IsData r slots sid count sum bytes) → end_slot_of bytes ≡ is.end
 data_ends r slots sid count sum bytes few is =
-    let ends = is.ends in ap end_of is.bytes_are ∙ end_is (subtype_of r) sid is.seq sid (sum % slots) is.end is.state (omega (arith, ends, few))
+    let ends = is.ends in ap end_slot_of is.bytes_are ∙ end_is (subtype_of r) sid is.seq sid (sum % slots) is.end is.state (omega (arith, ends, few))
 
 not_one : (b : Bool) (bytes : List ℕ) → range_if b bytes ≡ None → b ≡ false
 not_one true bytes none = absurd (cc none)
@@ -73,12 +73,12 @@ one_named r slots count sum most bytes rest few (inl data_of) behind =
     let is = data_of.2 in
     let added = length_in slots (range_if (is_range (code_of r) bytes) bytes) in
     let test : is_range (code_of r) bytes ≡ true = data_is r slots data_of.0 count sum bytes is in
-    let spans : added ≡ range_length slots (start_of bytes) (end_of bytes) = ap (λ (b : Bool). length_in slots (range_if b bytes)) test in
-    let ends : end_of bytes ≡ is.end = data_ends r slots data_of.0 count sum bytes few is in
+    let spans : added ≡ range_length slots (start_slot_of bytes) (end_slot_of bytes) = ap (λ (b : Bool). length_in slots (range_if b bytes)) test in
+    let ends : end_slot_of bytes ≡ is.end = data_ends r slots data_of.0 count sum bytes few is in
     subst (λ (b : Bool). NameAll slots sum (sum + (added + most)) (cond b (bytes ∷ rest) rest)) (sym test) (
       data_begins r slots data_of.0 count sum bytes few is,
       omega (arith, ends, is.ends),
-      same_names slots (sum + added) (sum + range_length slots (start_of bytes) (end_of bytes)) (sum + added + most) (sum + (added + most)) rest
+      same_names slots (sum + added) (sum + range_length slots (start_slot_of bytes) (end_slot_of bytes)) (sum + added + most) (sum + (added + most)) rest
           (ap (λ (n : ℕ). sum + n) spans) (omega arith) behind,
     )
 one_named r slots count sum most bytes rest few (inr apart) behind =
@@ -128,8 +128,8 @@ all_named slots r messages few each = grind (arith, names_said)
 one_past : (slots subtype from to sum : ℕ) (b : Bool) (bytes : List ℕ) (rest behind : List (List ℕ)) → ((n : ℕ) → NameAll slots n to rest → NameAll slots (n + sum) to behind)
     → NameAll slots from to (cond b (bytes ∷ rest) rest) → NameAll slots (from + (length_in slots (range_if b bytes) + sum)) to behind
 one_past slots subtype from to sum true bytes rest behind past names =
-    same_names slots (from + range_length slots (start_of bytes) (end_of bytes) + sum) (from + (range_length slots (start_of bytes) (end_of bytes) + sum)) to to behind (omega arith) refl
-    (past (from + range_length slots (start_of bytes) (end_of bytes)) names.2)
+    same_names slots (from + range_length slots (start_slot_of bytes) (end_slot_of bytes) + sum) (from + (range_length slots (start_slot_of bytes) (end_slot_of bytes) + sum)) to to behind (omega arith) refl
+    (past (from + range_length slots (start_slot_of bytes) (end_slot_of bytes)) names.2)
 one_past slots subtype from to sum false bytes rest behind past names =
     same_names slots (from + sum) (from + (0 + sum)) to to behind (omega arith) refl (past from names)
 
@@ -174,8 +174,8 @@ behind_seqs seq taken told front seqs is =
 
 -- THE SERVER'S PLACE is counted by what it heard and said
 record PlaceIs (slots : ℕ) (o : Option ServerSession) (q : Option ServerCounts) (turns : List Utterance) : Type 0 where
-  asked : range_sum slots 1 (heard turns) ≡ asked_by q
-  answered : range_sum slots 2 (said turns) ≡ answered_by q
+  asked : range_sum slots 1 (heard turns) ≡ asked_count q
+  answered : range_sum slots 2 (said turns) ≡ answered_count q
   seq : wrapped (range_count 1 (heard turns) + 1) ≡ expected_by o
 
 place_is : (slots : ℕ) (o : Option ServerSession) (w : Option Work) (q : Option ServerCounts) (turns : List Utterance) → ServerOrder slots o q turns → ServerAgrees o w q → PlaceIs slots o q turns
@@ -233,12 +233,12 @@ on_the_way shape events s k sound run clean is up =
     up_b up_a stream.to_a (λ calm. (converses.whole calm).0) in
     record {
       server_up = ap (λ (w : WireLog). w.wire.end_b) (sym wire) ∙ up_b;
-      infos = subst (λ (x : Shape). NameAll x.slots (asked_by l.work.server) k.announced (ranges_behind 1 (said l.transcript.client) (heard l.transcript.server))) (sym shape_is)
-          (behind_names shape.slots 1 (asked_by l.work.server) (range_sum shape.slots 1 (said l.transcript.client)) k.announced (heard l.transcript.server) (said l.transcript.client) front_b
+      infos = subst (λ (x : Shape). NameAll x.slots (asked_count l.work.server) k.announced (ranges_behind 1 (said l.transcript.client) (heard l.transcript.server))) (sym shape_is)
+          (behind_names shape.slots 1 (asked_count l.work.server) (range_sum shape.slots 1 (said l.transcript.client)) k.announced (heard l.transcript.server) (said l.transcript.client) front_b
           (all_named shape.slots Initiator (said l.transcript.client) sound.most_slots asks) place.asked (sym (counts.announced ∙ client.announced)));
       seqs = behind_seqs (expected_by s.server.session) (heard l.transcript.server) (said l.transcript.client) front_b (seqs_said shape.slots 0 0 (said l.transcript.client) asks) place.seq;
-      acks = subst (λ (x : Shape). NameAll x.slots k.acked (answered_by l.work.server) (ranges_behind 2 (said l.transcript.server) (heard l.transcript.client))) (sym shape_is)
-          (behind_names shape.slots 2 k.acked (range_sum shape.slots 2 (said l.transcript.server)) (answered_by l.work.server) (heard l.transcript.client) (said l.transcript.server) front_a
+      acks = subst (λ (x : Shape). NameAll x.slots k.acked (answered_count l.work.server) (ranges_behind 2 (said l.transcript.server) (heard l.transcript.client))) (sym shape_is)
+          (behind_names shape.slots 2 k.acked (range_sum shape.slots 2 (said l.transcript.server)) (answered_count l.work.server) (heard l.transcript.client) (said l.transcript.server) front_a
           (all_named shape.slots Responder (said l.transcript.server) sound.most_slots answers) (sym (counts.acked ∙ client.acked)) place.answered);
       to_server = subst (λ (w : WireLog). WaitsOrLost (numbered_said l.transcript.client) (numbered_heard l.transcript.server) (numbered w.wire.to_b) w.lossy) wire
           (subst (λ (t : TranscriptLog). WaitsOrLost (numbered_said t.client) (numbered_heard t.server) (numbered s.wire.wire.to_b) s.wire.lossy) transcript to_b);

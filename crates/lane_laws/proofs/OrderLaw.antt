@@ -25,7 +25,7 @@ use Rattle.disk_model.specs.ServerStep.{ServerFails}
 use Rattle.channel_laws.specs.Blockage.{Clear}
 use Rattle.lane_laws.specs.DiskLog.{DiskLog}
 use Rattle.lane_laws.specs.OrderLaws.{HasAnswered, HasCompleted, HasPublished, OrderAt, OwesNothing, PublishesAt, PutsAt, ServesAt, TakesAt}
-use Rattle.lane_laws.specs.Sound.{InOrder}
+use Rattle.lane_laws.specs.Sound.{SessionInOrder}
 use Rattle.lane_laws.specs.WorkLog.{ClientCounts}
 use Rattle.lane_laws.proofs.BlockedLaw.{Told, client_to_put, server_to_put}
 use Rattle.channel_laws.proofs.EndSending.{calm_up, not_stuck, sends_some}
@@ -53,7 +53,7 @@ completed_in_log s l grounded all =
     let of = of_client s.client.session session l.work.done l.work.client is grounded.knows.counted.client.agrees in
     let both : Some of.counts ≡ Some c = sym of.is ∙ has in
     let same : of.counts ≡ c = some_same both in
-    let order : InOrder (length s.client.pending) session =
+    let order : SessionInOrder (length s.client.pending) session =
     in_order (length s.client.pending) s.client.session session is grounded.knows.all.sound.counts in
     let acked = not_below session.completed session.acked (all session is) in
     subst (λ (k : ClientCounts). l.work.done ≡ k.base + k.acked) same (omega (arith, of.agree.completed, of.agree.acked, acked, order.completed)))
@@ -128,7 +128,7 @@ published_in_log s l held told nothing is =
     let of = of_client s.client.session session l.work.done l.work.client there grounded.knows.counted.client.agrees in
     let both : Some of.counts ≡ Some c = sym of.is ∙ has in
     let same : of.counts ≡ c = some_same both in
-    let order : InOrder (length s.client.pending) session =
+    let order : SessionInOrder (length s.client.pending) session =
     in_order (length s.client.pending) s.client.session session there grounded.knows.all.sound.counts in
     let stand = grounded.knows.all.stands.requests in
     let all = published_by s l (client.client_rule s.client (at_client s)) held told nothing refl is (client_may s.client (at_client s)) session there clear in

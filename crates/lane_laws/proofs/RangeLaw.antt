@@ -21,7 +21,7 @@ use Rattle.lane_laws.proofs.ServerSpeaking.{server_holds_link}
 use Rattle.lane_laws.specs.DiskLog.{DiskLog}
 use Rattle.channel_laws.specs.Blockage.{Blockage, Clear}
 use Rattle.lane_laws.specs.EndLog.{ident_of, range_in_work, state_of}
-use Rattle.channel_laws.specs.Messages.{end_of, ended_by, range_ended, range_in, seq_of, sid_of, start_of}
+use Rattle.channel_laws.specs.Messages.{end_slot_of, ended_by, range_ended, range_in, seq_of, sid_of, start_slot_of}
 use Rattle.lane_laws.specs.WorkLaws.{Acknowledges, AcknowledgesRange, Announces, AsksFor, HearsNoOther, IfRange, NamesOwn, NamesRing, OfClientRange, OfServerRange, RangesAt, client_handshake, server_handshake}
 use Rattle.lane_laws.specs.WorkLog.{ClientCounts, ServerCounts}
 use Rattle.disk_model.specs.ClientPutting.{client_holds, client_kind, is_announcing}
@@ -71,7 +71,7 @@ use Rattle.channel_laws.specs.HandshakeFits.{OwedFits}
 use Rattle.channel_laws.proofs.MessagesHeld.{owed_held}
 use Rattle.lane_laws.proofs.Speaking.{server_blocked_rests, server_holds_owed}
 use Rattle.lane_laws.specs.LaneRests.{ClientRests, ServerRests}
-use Rattle.lane_laws.specs.Sound.{ClientSound, InOrder}
+use Rattle.lane_laws.specs.Sound.{ClientSound, SessionInOrder}
 use Rattle.lane_laws.proofs.Counting.{OfClient, OfServer, of_client, of_server, slot_of_count}
 
 -- A PACKET that ends a range, and one that ends none
@@ -94,8 +94,8 @@ record SaysRange (k : ℕ) (turns : List Utterance) (packet bytes : List ℕ) (s
   of_ring : ident_of bytes ≡ ident % 2 ^ 64
   range : range_ended k (half_said turns) packet ≡ Some bytes
   numbered : seq_of bytes ≡ seq
-  starts : start_of bytes ≡ start
-  ends : end_of bytes ≡ end
+  starts : start_slot_of bytes ≡ start
+  ends : end_slot_of bytes ≡ end
   states : state_of bytes ≡ state % 256
 
 says_range : (k n : ℕ) (s : Subtype) (seq ident start end state : ℕ) (link : LinkState) (turns : List Utterance) (packet : List ℕ) → subtype_code s ≡ k → seq < 2 ^ 64 → start < 2 ^ 32 → end < 2 ^ 32
@@ -138,7 +138,7 @@ announces l packet held info stand sound counted last =
     let session = info.session in
     let of : OfClient session l.work.done l.work.client = of_client held.session session l.work.done l.work.client info.is counted.agrees in
     let c = of.counts in
-    let order : InOrder (length held.pending) session = in_order (length held.pending) held.session session info.is sound.counts in
+    let order : SessionInOrder (length held.pending) session = in_order (length held.pending) held.session session info.is sound.counts in
     let some : session.announced < session.published = order.own info.announcing in
     let few : session.published ≤ session.announced + held.slots = omega (arith, order.published, order.completed, order.acked, sound.pending) in
     let wide : 1 ≤ held.slots = omega (arith, some, few) in
@@ -150,8 +150,8 @@ announces l packet held info stand sound counted last =
     let begun : start < 2 ^ 32 = omega (arith, mod_below session.announced held.slots wide, sound.slots) in
     let ended_small : end < 2 ^ 32 = omega (arith, below, sound.slots) in
     let says = says_range 1 held.handshake.draft.sid Info seq held.handshake.draft.ident_own start end 1 held.link l.transcript.client packet refl (omega arith) begun ended_small info.bytes_are last in
-    let spans : range_length l.shape.slots (start_of bytes) (end_of bytes) ≡ session.published - session.announced =
-    ap (λ (x : ℕ). range_length l.shape.slots x (end_of bytes)) says.starts ∙ ap (λ (x : ℕ). range_length l.shape.slots start x) says.ends
+    let spans : range_length l.shape.slots (start_slot_of bytes) (end_slot_of bytes) ≡ session.published - session.announced =
+    ap (λ (x : ℕ). range_length l.shape.slots x (end_slot_of bytes)) says.starts ∙ ap (λ (x : ℕ). range_length l.shape.slots start x) says.ends
     ∙ ap (λ (n : ℕ). range_length n start end) (sym counted.slots) ∙ range_turns held.slots session.announced session.published some few in
     if_some (range_ended 1 (half_said l.transcript.client) packet) _ bytes says.range
     (in_client l.work.client c (λ (k : ClientCounts). Announces l k bytes) of.is (record {
@@ -282,8 +282,8 @@ answers l packet held shaken sound in_work a counted last =
     let begun : range.start < 2 ^ 32 = omega (arith, stands.1, sound.most_slots) in
     let ended : range.end < 2 ^ 32 = omega (arith, stands.2, sound.most_slots) in
     let says = says_range 2 held.handshake.draft.sid Ack range.seq held.handshake.draft.ident_peer range.start range.end range.state held.link turns packet refl stands.4 begun ended a.bytes_are last in
-    let spans : range_length slots (start_of bytes) (end_of bytes) ≡ range_length slots range.start range.end =
-    ap (λ (x : ℕ). range_length slots x (end_of bytes)) says.starts ∙ ap (λ (x : ℕ). range_length slots range.start x) says.ends in
+    let spans : range_length slots (start_slot_of bytes) (end_slot_of bytes) ≡ range_length slots range.start range.end =
+    ap (λ (x : ℕ). range_length slots x (end_slot_of bytes)) says.starts ∙ ap (λ (x : ℕ). range_length slots range.start x) says.ends in
     if_some (range_ended 2 (half_said turns) packet) _ bytes says.range
     (in_server l.work.server c (λ (d : ServerCounts). AcknowledgesRange slots turns (server_handshake l) d bytes) of.is (record {
       names = names_own held.handshake (server_handshake l) bytes (λ (h : Handshake). h.draft.ident_peer) shaken says.of_session says.of_ring;

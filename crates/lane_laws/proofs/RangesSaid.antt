@@ -11,7 +11,7 @@ use Rattle.vio_tag.specs.Form.{HasForm, IsWellFormed}
 use Rattle.vio_tag.specs.Spelling.{SpellsMessage, canonical, envelope_at, envelope_code, subtype_at}
 use Rattle.vio_handshake.specs.declared.handshake.Phase.{Phase}
 use Rattle.vio_bytes.specs.Place.{big_bytes, number_at}
-use Rattle.channel_laws.specs.Messages.{end_of, is_range, range_if, range_in, seq_of, sid_of, start_of}
+use Rattle.channel_laws.specs.Messages.{end_slot_of, is_range, range_if, range_in, seq_of, sid_of, start_slot_of}
 use Rattle.lane_laws.specs.EndLog.{ident_of, state_of}
 use Rattle.lane_laws.specs.WorkLog.{length_in, one_in}
 use Rattle.dring.specs.Slots.{range_length}
@@ -105,11 +105,11 @@ same_seq : (s : Subtype) (n seq ident start end state : ℕ) → seq_of (range_b
 unfolding canonical simple
 same_seq s n seq ident start end state = refl
 
-same_start : (s : Subtype) (n seq ident start end state : ℕ) → start_of (range_bytes s n seq ident start end state) ≡ start_of (canonical (simple s 0 start 0))
+same_start : (s : Subtype) (n seq ident start end state : ℕ) → start_slot_of (range_bytes s n seq ident start end state) ≡ start_slot_of (canonical (simple s 0 start 0))
 unfolding canonical simple
 same_start s n seq ident start end state = refl
 
-same_end : (s : Subtype) (n seq ident start end state : ℕ) → end_of (range_bytes s n seq ident start end state) ≡ end_of (canonical (simple s 0 0 end))
+same_end : (s : Subtype) (n seq ident start end state : ℕ) → end_slot_of (range_bytes s n seq ident start end state) ≡ end_slot_of (canonical (simple s 0 0 end))
 unfolding canonical simple
 same_end s n seq ident start end state = refl
 
@@ -123,11 +123,11 @@ pub seq_is : (s : Subtype) (n seq ident start end state : ℕ) → seq < 2 ^ 64 
 seq_is s n seq ident start end state small =
     same_seq s n seq ident start end state ∙ sym (simple_spells s seq 0 0 small (omega arith) (omega arith)).body.0
 
-pub start_is : (s : Subtype) (n seq ident start end state : ℕ) → start < 2 ^ 32 → start_of (range_bytes s n seq ident start end state) ≡ start
+pub start_is : (s : Subtype) (n seq ident start end state : ℕ) → start < 2 ^ 32 → start_slot_of (range_bytes s n seq ident start end state) ≡ start
 start_is s n seq ident start end state small =
     same_start s n seq ident start end state ∙ sym (simple_spells s 0 start 0 (omega arith) small (omega arith)).body.2
 
-pub end_is : (s : Subtype) (n seq ident start end state : ℕ) → end < 2 ^ 32 → end_of (range_bytes s n seq ident start end state) ≡ end
+pub end_is : (s : Subtype) (n seq ident start end state : ℕ) → end < 2 ^ 32 → end_slot_of (range_bytes s n seq ident start end state) ≡ end
 end_is s n seq ident start end state small =
     same_end s n seq ident start end state ∙ sym (simple_spells s 0 0 end (omega arith) (omega arith) small).body.3
 

@@ -18,7 +18,7 @@ use Rattle.disk_model.specs.LaneState.{LaneState, Shape, fresh, near_disturbed}
 use Rattle.disk_model.specs.LaneStep.{CallsReset, EndOnWire, LaneStep, ResetBy}
 use Rattle.disk_model.specs.ServerState.{ServerState, joined_server, restarted_server}
 use Rattle.lane_laws.proofs.RemainingLane.{begun_server, joined_a, joined_b, left}
-use Rattle.lane_laws.specs.Remaining.{asked_in, remaining, server_left}
+use Rattle.lane_laws.specs.Remaining.{asked_in, remaining, server_remaining}
 use Rattle.lane_laws.specs.ChannelEnds.{client_core, server_core}
 
 -- both ends stand by their roles
@@ -35,7 +35,7 @@ begins_a : (w : Wire) (lossy : Bool) (c : ClientState) (v : ServerState) (turns 
 begins_a w lossy c v turns stands up = grind arith
 
 -- THE SERVER is reset, which was up
-begins_b : (w : Wire) (lossy : Bool) (c : ClientState) (u : ServerState) → server_left Up u ≡ 16 → asked_in u.session ≡ 0 → w.end_b ≡ Up
+begins_b : (w : Wire) (lossy : Bool) (c : ClientState) (u : ServerState) → server_remaining Up u ≡ 16 → asked_in u.session ≡ 0 → w.end_b ≡ Up
     → left (joined_b w.end_b w) (lossy_behind w.end_b lossy) c u ≡ 35 + 16 * length c.pending
 begins_b w lossy c u begun none up = grind arith
 
@@ -58,7 +58,7 @@ client_called : (s : LaneState) (cause : Cause) (packet : Option (List ℕ)) (lo
     → CallsReset s (record s { client = joined_client s.client }) cause A packet lost t → remaining t ≡ 35 + 16 * length s.client.pending
 client_called s cause packet lost t transcript stand up calls = search (begins_is, begins_a)
 
-server_called : (s : LaneState) (u : ServerState) (cause : Cause) (packet : Option (List ℕ)) (lost : ℕ) (t : LaneState) → server_left Up u ≡ 16 → asked_in u.session ≡ 0
+server_called : (s : LaneState) (u : ServerState) (cause : Cause) (packet : Option (List ℕ)) (lost : ℕ) (t : LaneState) → server_remaining Up u ≡ 16 → asked_in u.session ≡ 0
     → s.wire.wire.end_b ≡ Up → CallsReset s (record s { server = u }) cause B packet lost t → remaining t ≡ 35 + 16 * length s.client.pending
 server_called s u cause packet lost t begun none up calls = search (begins_is, begins_b)
 

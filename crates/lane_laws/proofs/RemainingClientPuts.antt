@@ -28,9 +28,9 @@ use Rattle.lane_laws.proofs.Ruling.{client_may}
 use Rattle.lane_laws.proofs.Sharing.{in_order}
 use Rattle.lane_laws.specs.Budget.{infos_begun, one_if}
 use Rattle.lane_laws.specs.ChannelEnds.{client_core}
-use Rattle.lane_laws.specs.Remaining.{client_left, client_packets, requests_left, total}
+use Rattle.lane_laws.specs.Remaining.{client_remaining, client_packets, requests_left, total}
 use Rattle.lane_laws.specs.RuleFacts.{ClientMay}
-use Rattle.lane_laws.specs.Sound.{ClientSound, CountsInOrder, InOrder}
+use Rattle.lane_laws.specs.Sound.{ClientSound, CountsInOrder, SessionInOrder}
 use Rattle.lane_laws.proofs.Requesting.{got_below}
 
 -- WHAT ITS SESSION HAS LEFT, where the server was asked for so many requests
@@ -52,7 +52,7 @@ pub record ClientFalls (put by : ℕ) (s t : ClientState) : Type 0 where
 -- what remains at a client that is up falls by so much
 pub record ClientLowers (by : ℕ) (s t : ClientState) : Type 0 where
   pub pending : length t.pending ≤ length s.pending
-  pub lowers : (asked : ℕ) → client_left Up asked t + by ≤ client_left Up asked s
+  pub lowers : (asked : ℕ) → client_remaining Up asked t + by ≤ client_remaining Up asked s
 
 pub falls_lower : (put by : ℕ) (s t : ClientState) → ClientFalls put by s t → ClientLowers (2 * put + by) s t
 falls_lower put by s t falls = grind arith
@@ -156,7 +156,7 @@ pub publishes_falls : (s : ClientState) (at : Seen) (memory : List ℕ) (id : �
 publishes_falls s at memory id t new sound step =
     let may : ClientMay s at (Publishes step.session step.request) = subst (ClientMay s at) step.rule (client_may s at) in
     let session : ClientSession = step.session in
-    let counts : InOrder (length s.pending) session = in_order (length s.pending) s.session session may.1 sound.counts in
+    let counts : SessionInOrder (length s.pending) session = in_order (length s.pending) s.session session may.1 sound.counts in
     let some = got_below s.pending (session.published - session.completed) step.request may.2 in
     record {
       own = 0;

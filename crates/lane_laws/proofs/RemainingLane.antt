@@ -27,7 +27,7 @@ use Rattle.lane_laws.proofs.ServerSpeaking.{server_holds_up}
 use Rattle.lane_laws.specs.Agreement.{ServerAgrees}
 use Rattle.lane_laws.specs.ChannelEnds.{client_core, server_core}
 use Rattle.lane_laws.specs.DiskLog.{DiskLog}
-use Rattle.lane_laws.specs.Remaining.{life, remaining, second_life, server_left, server_packets}
+use Rattle.lane_laws.specs.Remaining.{life, remaining, second_life, server_remaining, server_packets}
 use Rattle.lane_laws.specs.RemainingSteps.{CountsFit, IsPutOrJoined, IsWork, TakesNothing}
 use Rattle.lane_laws.specs.RuleFacts.{ClientMay, ServerMay}
 use Rattle.lane_laws.specs.WorkLog.{ServerCounts}
@@ -56,7 +56,7 @@ server_puts_one w lossy c v u packet up lower = grind (arith, length-append)
 pub begun_answers : (v : ServerState) (turns : List Utterance) → EndStands Responder (server_core v) turns → server_packets (joined_server v) ≡ 8
 begun_answers v turns stands = search
 
-pub begun_server : (v : ServerState) (turns : List Utterance) → EndStands Responder (server_core v) turns → server_left Up (joined_server v) ≡ 16
+pub begun_server : (v : ServerState) (turns : List Utterance) → EndStands Responder (server_core v) turns → server_remaining Up (joined_server v) ≡ 16
 begun_server v turns stands = omega (arith, begun_answers v turns stands)
 
 abbrev pub joined_a : ChannelState → Wire → Wire

@@ -14,12 +14,12 @@ use Rattle.channel_laws.specs.Standing.{EndStands}
 use Rattle.lane_laws.proofs.ServerSpeaking.{server_holds_link}
 use Rattle.lane_laws.proofs.ServerMoves.{server_says, server_waits}
 use Rattle.lane_laws.specs.ChannelEnds.{server_core}
-use Rattle.lane_laws.specs.Remaining.{asked_in, server_left, server_packets, serving_left}
+use Rattle.lane_laws.specs.Remaining.{asked_in, server_remaining, server_packets, serving_left}
 
 -- what remains at a server that is up falls by so much, and it was asked for what it was
 pub record ServerLowers (by : ℕ) (s t : ServerState) : Type 0 where
   pub asked : asked_in t.session ≡ asked_in s.session
-  pub lowers : server_left Up t + by ≤ server_left Up s
+  pub lowers : server_remaining Up t + by ≤ server_remaining Up s
 
 -- it put so many packets, and works on what it did
 pub record ServerFalls (put : ℕ) (s t : ServerState) : Type 0 where

@@ -10,21 +10,21 @@ use Rattle.channel_laws.specs.PacketsLeft.{packets_left}
 use Rattle.lane_laws.proofs.RuleTests.{TakesFree}
 use Rattle.lane_laws.proofs.ServerAnswers.{opened_or}
 use Rattle.lane_laws.proofs.ServerTaken.{ServerAsked, ServerTook}
-use Rattle.lane_laws.specs.Budget.{one_range, range_left}
+use Rattle.lane_laws.specs.Budget.{one_range, range_packets}
 use Rattle.lane_laws.specs.ChannelEnds.{server_core}
 use Rattle.lane_laws.specs.Remaining.{asked_in, server_packets, serving_left, unfinished, work_left}
 use Rattle.lane_laws.specs.RemainingSteps.{ServerIsAsked, ServerHeard}
 use Rattle.lane_laws.proofs.ServerMoves.{answers_less}
 
-packets_most : (s t : ServerState) (ranges : ℕ) → packets_left (server_core t) ≤ packets_left (server_core s) → range_left t.session ≡ ranges → server_packets t ≤ server_packets s + ranges
-packets_most s t ranges packets is = omega (arith, packets, is, answers_less (holds t.link && is_none t.handshake.owed) (range_left t.session))
+packets_most : (s t : ServerState) (ranges : ℕ) → packets_left (server_core t) ≤ packets_left (server_core s) → range_packets t.session ≡ ranges → server_packets t ≤ server_packets s + ranges
+packets_most s t ranges packets is = omega (arith, packets, is, answers_less (holds t.link && is_none t.handshake.owed) (range_packets t.session))
 
-no_range : (o : Option ServerSession) → ((session : ServerSession) → o ≡ Some session → session.range ≡ None) → range_left o ≡ 0
+no_range : (o : Option ServerSession) → ((session : ServerSession) → o ≡ Some session → session.range ≡ None) → range_packets o ≡ 0
 no_range None none = refl
 no_range (Some session) none = ap one_range (none session refl)
 
 -- its session may open by it, where it had none
-opened_range : (b : Bool) (o : Option ServerSession) → range_left o ≡ 0 → range_left (opened_or b o) ≡ 0
+opened_range : (b : Bool) (o : Option ServerSession) → range_packets o ≡ 0 → range_packets (opened_or b o) ≡ 0
 opened_range true o none = refl
 opened_range false o none = none
 
@@ -81,12 +81,12 @@ pub server_turns : (most : ℕ) (s t : ServerState) (turns : List Utterance) (pa
     → (opens ≡ true → (s.session ≡ None) × (s.work ≡ None))
     → (ServerAsked s turns packet t opens → (asked_in s.session < asked_in t.session) × (asked_in t.session ≤ most)) → ServerTook s turns packet t opens → ServerHeard most s t
 server_turns most s t turns packet opens free packets opened asks (inl part) = inl (record {
-  packets = omega (arith, packets_most s t 0 packets (ap (λ (v : ServerState). range_left v.session) part.is ∙ no_range s.session free.range));
+  packets = omega (arith, packets_most s t 0 packets (ap (λ (v : ServerState). range_packets v.session) part.is ∙ no_range s.session free.range));
   asked = ap (λ (v : ServerState). asked_in v.session) part.is;
   serving = omega (arith, ap (λ (v : ServerState). serving_left v.work v.session) part.is);
 })
 server_turns most s t turns packet opens free packets opened asks (inr (inl handshakes)) = inl (record {
-  packets = omega (arith, packets_most s t 0 packets (ap (λ (v : ServerState). range_left v.session) handshakes.is ∙ opened_range opens s.session (no_range s.session free.range)));
+  packets = omega (arith, packets_most s t 0 packets (ap (λ (v : ServerState). range_packets v.session) handshakes.is ∙ opened_range opens s.session (no_range s.session free.range)));
   asked = ap (λ (v : ServerState). asked_in v.session) handshakes.is ∙ opened_asked opens s.session (λ now. (opened now).0);
   serving = omega (
     arith,
@@ -97,4 +97,4 @@ server_turns most s t turns packet opens free packets opened asks (inr (inl hand
 server_turns most s t turns packet opens free packets opened asks (inr (inr asked)) =
     let now = ap (λ (v : ServerState). v.session) asked.is in
     inr (asked_for most s t asked.info.session (behind_ask s asked.info.session asked.info.range) asked.info.session_is now refl (ap (λ (v : ServerState). v.work) asked.is)
-    (packets_most s t 1 packets (ap range_left now)) (asks asked))
+    (packets_most s t 1 packets (ap range_packets now)) (asks asked))

@@ -32,7 +32,7 @@ use Rattle.lane_laws.specs.RingAgreed.{InRing, ring_in}
 use Rattle.lane_laws.specs.CompletesSlot.{CompletesSlot}
 use Rattle.lane_laws.specs.RingSlots.{HoldsIssued, IdStands, IdsStand, InWork, RingHolds, RingOf, SlotStands, WorkStands}
 use Rattle.lane_laws.specs.RuleFacts.{ClientMay}
-use Rattle.lane_laws.specs.Sound.{CountsInOrder, InOrder}
+use Rattle.lane_laws.specs.Sound.{CountsInOrder, SessionInOrder}
 
 -- the descriptor in work isn't in a slot that changes
 work_other : (r : RingOf) (ring : List SlotLog) (o : Option ServerCounts) (k : ℕ) (e : SlotLog) → ((d : ServerCounts) → InWork r ring d → d.finished % r.slots ≢ k)
@@ -53,7 +53,7 @@ pub record Publishing (s : LaneState) (l : DiskLog) (id : ℕ) (session : Client
   pub since : l.work.done ≤ id
   pub turn : k.base + k.published < l.work.done + l.shape.slots
 
-pub in_order : (s : LaneState) (l : DiskLog) (session : ClientSession) → Known s l → s.client.session ≡ Some session → InOrder (length s.client.pending) session
+pub in_order : (s : LaneState) (l : DiskLog) (session : ClientSession) → Known s l → s.client.session ≡ Some session → SessionInOrder (length s.client.pending) session
 in_order s l session known is = subst (CountsInOrder (length s.client.pending)) is known.sound.counts
 
 pub publishing : (s : LaneState) (l : DiskLog) (id : ℕ) (session : ClientSession) (request : Request) → Known s l → s.client.session ≡ Some session

@@ -8,7 +8,7 @@ use Rattle.ldc_queue.specs.Transcript.{Heard as Heard_, Said, Utterance}
 use Rattle.vio_tag.specs.declared.message.MsgBody.TheVariants.{DringData}
 use Rattle.vio_tag.specs.Spelling.{SpellsBody, envelope_code}
 use Rattle.lane_laws.proofs.Speaking.{server_holds_owed}
-use Rattle.lane_laws.specs.EndLog.{answered_by, asked_by, range_in_work, range_of}
+use Rattle.lane_laws.specs.EndLog.{range_answered, range_asked, range_in_work, range_of}
 use Rattle.channel_laws.specs.EndPuts.{ComesUp, EndsOwn, EndsHandshake, Goes, PutKind}
 use Rattle.channel_laws.specs.Messages.{ended_by, is_range, range_if, range_in}
 use Rattle.channel_laws.specs.Sayings.{half_heard, half_said}
@@ -42,12 +42,12 @@ RangeIs session turns = ranged session ≡ range_in_work turns
 -- IT TAKES A PACKET: a range that it is asked for is in its work from then on
 heard_same : (turns : List Utterance) (packet : List ℕ) (ended : Option (List ℕ)) → ended_by (half_heard turns) packet ≡ ended → range_in 1 ended ≡ None → range_in_work turns ≡ range_in_work (Heard_ packet ∷ turns)
 heard_same turns packet ended is none =
-    sym (ap (λ (o : Option (List ℕ)). asked_by (range_in 1 o) (range_in_work turns)) is ∙ ap (λ (o : Option (List ℕ)). asked_by o (range_in_work turns)) none)
+    sym (ap (λ (o : Option (List ℕ)). range_asked (range_in 1 o) (range_in_work turns)) is ∙ ap (λ (o : Option (List ℕ)). range_asked o (range_in_work turns)) none)
 
 heard_range : (turns : List Utterance) (packet bytes : List ℕ) → ended_by (half_heard turns) packet ≡ Some bytes → range_in 1 (Some bytes) ≡ Some bytes
     → Some (range_of bytes) ≡ range_in_work (Heard_ packet ∷ turns)
 heard_range turns packet bytes is range =
-    sym (ap (λ (o : Option (List ℕ)). asked_by (range_in 1 o) (range_in_work turns)) is ∙ ap (λ (o : Option (List ℕ)). asked_by o (range_in_work turns)) range)
+    sym (ap (λ (o : Option (List ℕ)). range_asked (range_in 1 o) (range_in_work turns)) is ∙ ap (λ (o : Option (List ℕ)). range_asked o (range_in_work turns)) range)
 
 same_fields : (range : SlotRange) (ident : ℕ) (bytes : List ℕ) → SpellsBody bytes (DringData range.seq ident range.start range.end range.state) → range ≡ range_of bytes
 same_fields range ident bytes fields = grind arith
@@ -75,11 +75,11 @@ server_takes_so s t turns packet opens rests is (inr (inr asks)) =
 -- IT PUTS A PACKET: with its answer its range is done
 said_same : (turns : List Utterance) (packet : List ℕ) (ended : Option (List ℕ)) → ended_by (half_said turns) packet ≡ ended → range_in 2 ended ≡ None → range_in_work turns ≡ range_in_work (Said packet ∷ turns)
 said_same turns packet ended is none =
-    sym (ap (λ (o : Option (List ℕ)). answered_by (range_in 2 o) (range_in_work turns)) is ∙ ap (λ (o : Option (List ℕ)). answered_by o (range_in_work turns)) none)
+    sym (ap (λ (o : Option (List ℕ)). range_answered (range_in 2 o) (range_in_work turns)) is ∙ ap (λ (o : Option (List ℕ)). range_answered o (range_in_work turns)) none)
 
 said_range : (turns : List Utterance) (packet bytes : List ℕ) → ended_by (half_said turns) packet ≡ Some bytes → is_range 2 bytes ≡ true → None ≡ range_in_work (Said packet ∷ turns)
 said_range turns packet bytes is range =
-    sym (ap (λ (o : Option (List ℕ)). answered_by (range_in 2 o) (range_in_work turns)) is ∙ ap (λ (b : Bool). answered_by (range_if b bytes) (range_in_work turns)) range)
+    sym (ap (λ (o : Option (List ℕ)). range_answered (range_in 2 o) (range_in_work turns)) is ∙ ap (λ (b : Bool). range_answered (range_if b bytes) (range_in_work turns)) range)
 
 answered_none : (o : Option ServerSession) → ranged (answered o) ≡ None
 answered_none None = refl

@@ -45,7 +45,7 @@ use Rattle.lane_laws.proofs.RuleTests.{TakesFree}
 use Rattle.lane_laws.proofs.ServerAnswers.{Answers, comes_to, goes_by, heard_on, opened_or}
 use Rattle.lane_laws.proofs.ServerSpeaking.{range_few}
 use Rattle.channel_laws.proofs.Short.{some_bytes}
-use Rattle.lane_laws.specs.Budget.{one_range, range_left}
+use Rattle.lane_laws.specs.Budget.{one_range, range_packets}
 use Rattle.lane_laws.specs.ChannelEnds.{answers_to_begin, server_core}
 use Rattle.lane_laws.specs.RuleFacts.{ServerMay, ServerSays}
 
@@ -159,8 +159,8 @@ server_comes s k take hears =
 offers_same : (s t : ServerState) → t.blocks ≡ s.blocks → t.slots ≡ s.slots → server_offer t.blocks t.slots ≡ server_offer s.blocks s.slots
 offers_same s t blocks slots = ap (λ (n : ℕ). server_offer n t.slots) blocks ∙ ap (λ (n : ℕ). server_offer s.blocks n) slots
 
-answers_most : (b : Bool) (session : Option ServerSession) → answers_to_begin b (range_left session) ≤ 256
-answers_most b session = omega (arith, answers_less b (range_left session), range_few session)
+answers_most : (b : Bool) (session : Option ServerSession) → answers_to_begin b (range_packets session) ≤ 256
+answers_most b session = omega (arith, answers_less b (range_packets session), range_few session)
 
 pub server_hears : (s : ServerState) (at : Seen) (packet : List ℕ) (t : ServerState) (opens : Bool) → server_rule s at ≡ Takes packet → ServerTakes s packet (GoesOn t opens)
     → EndHears Responder (server_core s) packet opens (server_core t)
@@ -225,8 +225,8 @@ holds_owed s message quiet owed = record {
     own = λ up. and_owed (not (is_empty (canonical message))) s.handshake.owed message owed;
     more = omega (
       arith,
-      answers_owed (holds s.link) s.handshake.owed message (range_left s.session) owed,
-      answers_owed (holds (offered (canonical message) s.link)) s.handshake.owed message (range_left s.session) owed,
+      answers_owed (holds s.link) s.handshake.owed message (range_packets s.session) owed,
+      answers_owed (holds (offered (canonical message) s.link)) s.handshake.owed message (range_packets s.session) owed,
     );
   };
 }
@@ -234,12 +234,12 @@ holds_owed s message quiet owed = record {
 holds_answer : (s : ServerState) (range : SlotRange) (session : ServerSession) → owes s.link ≡ false → s.handshake.owed ≡ None → s.session ≡ Some session
     → session.range ≡ Some range → HoldsTo s (holding (answer s range) s)
 holds_answer s range session quiet owed is ranged =
-    let before : answers_to_begin (holds s.link && is_none s.handshake.owed) (range_left s.session) ≡ range_left s.session =
-    answers_free (holds s.link) (is_none s.handshake.owed) (range_left s.session) (quiet_holds s.link quiet) in
-    let one : range_left s.session ≡ 1 = ap range_left is ∙ ap one_range ranged in
+    let before : answers_to_begin (holds s.link && is_none s.handshake.owed) (range_packets s.session) ≡ range_packets s.session =
+    answers_free (holds s.link) (is_none s.handshake.owed) (range_packets s.session) (quiet_holds s.link quiet) in
+    let one : range_packets s.session ≡ 1 = ap range_packets is ∙ ap one_range ranged in
     let link : LinkState = offered (canonical (answer s range)) s.link in
-    let less : answers_to_begin (holds link && is_none s.handshake.owed) (range_left s.session) ≤ range_left s.session =
-    answers_less (holds link && is_none s.handshake.owed) (range_left s.session) in
+    let less : answers_to_begin (holds link && is_none s.handshake.owed) (range_packets s.session) ≤ range_packets s.session =
+    answers_less (holds link && is_none s.handshake.owed) (range_packets s.session) in
     record {
       what = HoldsOwn (answer s range);
       holds = record {
@@ -256,8 +256,8 @@ holds_answer s range session quiet owed is ranged =
         own = and_free (canonical (answer s range)) s.handshake.owed (some_bytes (answer s range)) owed;
         most = omega (arith, before, less);
         more = λ up.
-            (let begun : answers_to_begin (holds link && is_none s.handshake.owed) (range_left s.session) ≡ 0 =
-            answers_begun (holds link) s.handshake.owed (range_left s.session) (holds_some link up (some_bytes (answer s range))) owed in
+            (let begun : answers_to_begin (holds link && is_none s.handshake.owed) (range_packets s.session) ≡ 0 =
+            answers_begun (holds link) s.handshake.owed (range_packets s.session) (holds_some link up (some_bytes (answer s range))) owed in
             omega (arith, before, one, begun));
       };
     }
@@ -289,25 +289,25 @@ put_own_in phase.Established v false at long up still = ap (λ (b : Bool). is_no
 put_own_in _ v last at short up still = true_is_false (sym up ∙ ap is_established at)
 
 abbrev left_in : LinkPhase → ServerState → ℕ
-left_in ph v = answers_to_begin (holds (behind_put v.link) && is_none (behind_in ph v).owed) (range_left (session_behind (kind_in ph v.link (is_none v.handshake.owed)) v.session))
+left_in ph v = answers_to_begin (holds (behind_put v.link) && is_none (behind_in ph v).owed) (range_packets (session_behind (kind_in ph v.link (is_none v.handshake.owed)) v.session))
 
 abbrev left_by : Bool → ServerState → ℕ
 left_by last v =
     answers_to_begin (holds (behind_put v.link) && is_none (handshake_behind (ending last (is_none v.handshake.owed)) v.handshake).owed)
-    (range_left (session_behind (ending last (is_none v.handshake.owed)) v.session))
+    (range_packets (session_behind (ending last (is_none v.handshake.owed)) v.session))
 
 abbrev left_now : ServerState → ℕ
-left_now v = answers_to_begin (holds v.link && is_none v.handshake.owed) (range_left v.session)
+left_now v = answers_to_begin (holds v.link && is_none v.handshake.owed) (range_packets v.session)
 
 last_left : (v : ServerState) (owed : Option Message) → v.handshake.owed ≡ owed
-    → answers_to_begin (holds (behind_put v.link) && is_none (handshake_behind (ending true (is_none owed)) v.handshake).owed) (range_left (session_behind (ending true (is_none owed)) v.session))
+    → answers_to_begin (holds (behind_put v.link) && is_none (handshake_behind (ending true (is_none owed)) v.handshake).owed) (range_packets (session_behind (ending true (is_none owed)) v.session))
     ≤ left_now v
 last_left v owed is = grind (arith, answers_less)
 
 parts_left : (v : ServerState) (last : Bool) → v.link.phase ≡ phase.Established → nat_le (length v.link.to_send) 56 ≡ last → left_by last v ≤ left_now v
 parts_left v true at short = last_left v v.handshake.owed refl
 parts_left v false at long =
-    answers_later (holds (behind_put v.link)) (holds v.link) (is_none v.handshake.owed) (range_left v.session)
+    answers_later (holds (behind_put v.link)) (holds v.link) (is_none v.handshake.owed) (range_packets v.session)
     (holds_some (behind_put v.link) (ap (λ (p : LinkPhase). is_established (phase_behind_put p)) at)
     (subst (λ (bytes : List ℕ). 1 ≤ length bytes) (sym (ap (λ (p : LinkPhase). left_behind_put p v.link.to_send) at))
     (omega (arith, leb-false (length v.link.to_send) 56 long, length-drop 56 v.link.to_send))))
@@ -361,7 +361,7 @@ pub server_same : (s t : ServerState) → t ≡ s → Stays s t
 server_same s t is = subst (Stays s) (sym is) (record { link = refl; handshake = refl; offer = refl; is_open = refl; own = refl; more = omega arith })
 
 -- its session and its work change, and not its range
-works_on : (s : ServerState) (session : Option ServerSession) (work : Option Work) → is_some session ≡ is_some s.session → range_left session ≡ range_left s.session
+works_on : (s : ServerState) (session : Option ServerSession) (work : Option Work) → is_some session ≡ is_some s.session → range_packets session ≡ range_packets s.session
     → Stays s (record s { session = session; work = work })
 works_on s session work opened range = grind arith
 
@@ -369,7 +369,7 @@ pub server_fetched : (s : ServerState) (at : Seen) (r : Reach) (slot : ℕ) (byt
 server_fetched s at r slot bytes t new step =
     let may : ServerMay s at (Fetches step.session) = subst (ServerMay s at) step.rule (server_may s at) in
     subst (Stays s) (sym step.is) (works_on s (Some (record step.session { descs = wrapped (step.session.descs + 1) }))
-    (Some (record { bytes = bytes; progress = first_progress s.blocks (slot_says.disk_desc_of bytes) })) (ap is_some (sym may.1)) (ap range_left (sym may.1)))
+    (Some (record { bytes = bytes; progress = first_progress s.blocks (slot_says.disk_desc_of bytes) })) (ap is_some (sym may.1)) (ap range_packets (sym may.1)))
 
 pub server_moved : (s : ServerState) (at : Seen) (r : Reach) (unit : ℕ) (fault : Option CopyFault) (t : ServerState) (new : List ℕ) → ServerMoves s at r unit fault t new → Stays s t
 server_moved s at r unit fault t new step = subst (Stays s) (sym step.is) (works_on s s.session (Some (record step.work { progress = step.next })) refl refl)

@@ -5,14 +5,14 @@ use Rattle.channel_laws.specs.Seeing.{Seen}
 use Rattle.disk_model.specs.ServerPutting.{server_holds}
 use Rattle.disk_model.specs.ServerRule.{ServerRule}
 use Rattle.disk_model.specs.ServerState.{ServerSession, ServerState, SlotRange}
-use Rattle.lane_laws.specs.Budget.{one_range, range_left}
+use Rattle.lane_laws.specs.Budget.{one_range, range_packets}
 use Rattle.lane_laws.specs.RuleFacts.{ServerMay}
 
 range_one : (range : Option SlotRange) → one_range range ≤ 1
 range_one None = omega arith
 range_one (Some range) = omega arith
 
-pub range_few : (session : Option ServerSession) → range_left session ≤ 1
+pub range_few : (session : Option ServerSession) → range_packets session ≤ 1
 range_few None = omega arith
 range_few (Some s) = range_one s.range
 

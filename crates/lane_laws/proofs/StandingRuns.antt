@@ -85,7 +85,7 @@ invariant_step s l event t stands step =
       requests = behind.requests;
     }
 
--- WHERE AN EVENT MAY STAND: what comes of a request, completions, and turns
+-- WHERE AN EVENT MAY STAND: what comes of a request, completions, and whether the server runs
 asks_may : (s : LaneState) (l : DiskLog) (request : Admitted) (t : ClientState) → LaneInvariant s l → ClientAdmits s.client request t → Admits l request
 asks_may s l request t stands admits = grind (arith, pending_is)
 
@@ -134,5 +134,5 @@ admission_lawful shape events s sound run =
 pub once_lawful : (shape : Shape) (events : List DiskEvent) (s : LaneState) → IsShape shape → Run LaneStep (fresh shape) events s → Lawful OnceAt after (nothing_yet shape) events
 once_lawful shape events s sound run = lawful_by MayOfRequests OnceAt (λ l e may. may.once) (nothing_yet shape) events (requests_lawful shape events s sound run)
 
-pub turns_lawful : (shape : Shape) (events : List DiskEvent) (s : LaneState) → IsShape shape → Run LaneStep (fresh shape) events s → Lawful ServerRunsAt after (nothing_yet shape) events
-turns_lawful shape events s sound run = lawful_by MayOfRequests ServerRunsAt (λ l e may. may.turns) (nothing_yet shape) events (requests_lawful shape events s sound run)
+pub runs_lawful : (shape : Shape) (events : List DiskEvent) (s : LaneState) → IsShape shape → Run LaneStep (fresh shape) events s → Lawful ServerRunsAt after (nothing_yet shape) events
+runs_lawful shape events s sound run = lawful_by MayOfRequests ServerRunsAt (λ l e may. may.runs) (nothing_yet shape) events (requests_lawful shape events s sound run)

@@ -24,7 +24,7 @@ use Rattle.lane_laws.proofs.RulesFree.{ServerFree, server_free}
 use Rattle.lane_laws.proofs.RuleTests.{ServesFree}
 use Rattle.lane_laws.proofs.Sharing.{in_order}
 use Rattle.lane_laws.specs.RuleFacts.{ClientMay}
-use Rattle.lane_laws.specs.Sound.{InOrder}
+use Rattle.lane_laws.specs.Sound.{SessionInOrder}
 use Rattle.channel_laws.proofs.LinkResets.{other_number}
 use Rattle.lane_laws.proofs.Counting.{OfClient, OfServer, of_client, of_server, slot_of_count}
 pub use Rattle.lane_laws.proofs.LaneViews.{at_client, at_server}
@@ -50,7 +50,7 @@ publishes s t l at id grounded step =
     let stand = grounded.knows.all.stands.requests in
     let of : OfClient step.session l.work.done l.work.client =
     of_client s.client.session step.session l.work.done l.work.client open_one grounded.knows.counted.client.agrees in
-    let order : InOrder (length s.client.pending) step.session =
+    let order : SessionInOrder (length s.client.pending) step.session =
     in_order (length s.client.pending) s.client.session step.session open_one grounded.knows.all.sound.counts in
     let within = got_below s.client.pending (step.session.published - step.session.completed) step.request may.2 in
     in_client l.work.client of.counts (MayPublish l id) of.is (record {

@@ -21,6 +21,6 @@ abbrev pub one_range : Option SlotRange → ℕ
 one_range None = 0
 one_range (Some range) = 1
 
-abbrev pub range_left : Option ServerSession → ℕ
-range_left None = 0
-range_left (Some s) = one_range s.range
+abbrev pub range_packets : Option ServerSession → ℕ
+range_packets None = 0
+range_packets (Some s) = one_range s.range

@@ -10,7 +10,7 @@ use Rattle.disk_model.specs.DiskEvent.{DiskEvent, OnWire, Stopped, Switches}
 use Rattle.disk_model.specs.LaneState.{LaneState}
 use Rattle.disk_model.specs.Offering.{client_offer, server_offer}
 use Rattle.disk_model.specs.ServerState.{ServerState}
-use Rattle.lane_laws.specs.Budget.{infos_left, range_left}
+use Rattle.lane_laws.specs.Budget.{infos_left, range_packets}
 
 -- the messages of a client's session are its INFO: the link's is one where it announces
 abbrev pub client_core : ClientState → EndCore
@@ -36,7 +36,7 @@ server_core v = record {
   offer = server_offer v.blocks v.slots;
   is_open = is_some v.session;
   own = not (is_empty v.link.to_send) && is_none v.handshake.owed;
-  more = answers_to_begin (holds v.link && is_none v.handshake.owed) (range_left v.session);
+  more = answers_to_begin (holds v.link && is_none v.handshake.owed) (range_packets v.session);
 }
 
 abbrev pub core_of : LaneState → LaneCore

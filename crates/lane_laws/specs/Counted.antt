@@ -28,10 +28,6 @@ abbrev pub range_count : ℕ → List (List ℕ) → ℕ
 range_count subtype [] = 0
 range_count subtype (message ∷ messages) = one_in (range_in subtype (Some message)) + range_count subtype messages
 
-abbrev pub one_where : Bool → ℕ
-one_where true = 1
-one_where false = 0
-
 -- THE CLIENT: where it announces, what was put of a message and what is left of it are the INFO that does
 abbrev pub ClientHolds : ClientState → List Utterance → Type 0
 ClientHolds c utterances =

@@ -8,7 +8,7 @@ use Rattle.vio_tag.specs.Spelling.{canonical}
 use Rattle.channel_laws.specs.Blockage.{Blockage, left_of, owed_left}
 use Rattle.disk_model.specs.ClientPutting.{announcement}
 use Rattle.disk_model.specs.ClientState.{ClientSession, ClientState}
-use Rattle.channel_laws.specs.Messages.{end_of, range_ended, seq_of, start_of}
+use Rattle.channel_laws.specs.Messages.{end_slot_of, range_ended, seq_of, start_slot_of}
 use Rattle.channel_laws.specs.Sayings.{half_heard, half_said}
 use Rattle.disk_model.specs.ServerRule.{answer}
 use Rattle.disk_model.specs.ServerState.{ServerSession, ServerState, SlotRange}
@@ -23,20 +23,20 @@ abbrev pub state_of : List ℕ → ℕ
 state_of message = number_at 1 32 message
 
 abbrev pub range_of : List ℕ → SlotRange
-range_of message = record { seq = seq_of message; start = start_of message; end = end_of message; state = state_of message }
+range_of message = record { seq = seq_of message; start = start_slot_of message; end = end_slot_of message; state = state_of message }
 
-abbrev pub asked_by : Option (List ℕ) → Option SlotRange → Option SlotRange
-asked_by None range = range
-asked_by (Some message) range = Some (range_of message)
+abbrev pub range_asked : Option (List ℕ) → Option SlotRange → Option SlotRange
+range_asked None range = range
+range_asked (Some message) range = Some (range_of message)
 
-abbrev pub answered_by : Option (List ℕ) → Option SlotRange → Option SlotRange
-answered_by None range = range
-answered_by (Some message) range = None
+abbrev pub range_answered : Option (List ℕ) → Option SlotRange → Option SlotRange
+range_answered None range = range
+range_answered (Some message) range = None
 
 abbrev pub range_in_work : List Utterance → Option SlotRange
 range_in_work [] = None
-range_in_work (Said packet ∷ utterances) = answered_by (range_ended 2 (half_said utterances) packet) (range_in_work utterances)
-range_in_work (Heard packet ∷ utterances) = asked_by (range_ended 1 (half_heard utterances) packet) (range_in_work utterances)
+range_in_work (Said packet ∷ utterances) = range_answered (range_ended 2 (half_said utterances) packet) (range_in_work utterances)
+range_in_work (Heard packet ∷ utterances) = range_asked (range_ended 1 (half_heard utterances) packet) (range_in_work utterances)
 
 abbrev pub infos_heard : List Utterance → ℕ
 infos_heard [] = 0

@@ -35,7 +35,7 @@ pub record May (l : DiskLog) (event : DiskEvent) : Type 0 where
   pub admission : AdmissionAt l event
   pub once : OnceAt l event
   pub carries : CarriesAt l event
-  pub turns : ServerRunsAt l event
+  pub runs : ServerRunsAt l event
   -- work
   pub works : WorksAt l event
   pub numbers : WorkNumbersAt l event

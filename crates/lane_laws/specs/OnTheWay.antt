@@ -7,7 +7,7 @@ use Rattle.ldc_queue.specs.Numbered.{numbered}
 use Rattle.ldc_queue.specs.Transcript.{numbered_heard, numbered_said}
 use Rattle.lane_laws.specs.DiskLog.{DiskLog}
 use Rattle.disk_model.specs.LaneState.{LaneState}
-use Rattle.channel_laws.specs.Messages.{end_of, is_range, seq_of, start_of}
+use Rattle.channel_laws.specs.Messages.{end_slot_of, is_range, seq_of, start_slot_of}
 use Rattle.channel_laws.specs.Ranges.{wrapped}
 use Rattle.dring.specs.Slots.{range_length}
 use Rattle.channel_laws.specs.Sayings.{heard, said}
@@ -22,7 +22,7 @@ ranges_behind subtype told taken = filter (is_range subtype) (drop (length taken
 abbrev pub NameAll : ℕ → ℕ → ℕ → List (List ℕ) → Type 0
 NameAll slots from to [] = from ≡ to
 NameAll slots from to (message ∷ messages) =
-    (start_of message ≡ from % slots) × (end_of message < slots) × NameAll slots (from + range_length slots (start_of message) (end_of message)) to messages
+    (start_slot_of message ≡ from % slots) × (end_slot_of message < slots) × NameAll slots (from + range_length slots (start_slot_of message) (end_slot_of message)) to messages
 
 -- their seq go up by one
 abbrev pub SeqsFrom : ℕ → List (List ℕ) → Type 0
@@ -30,13 +30,13 @@ SeqsFrom seq [] = ⊤
 SeqsFrom seq (message ∷ messages) = (seq_of message ≡ seq) × SeqsFrom (wrapped (seq + 1)) messages
 
 -- THE SERVER'S PLACE: for how many it was asked, and the seq that it expects; before its session is open for none, and the first
-abbrev pub asked_by : Option ServerCounts → ℕ
-asked_by None = 0
-asked_by (Some d) = d.asked
+abbrev pub asked_count : Option ServerCounts → ℕ
+asked_count None = 0
+asked_count (Some d) = d.asked
 
-abbrev pub answered_by : Option ServerCounts → ℕ
-answered_by None = 0
-answered_by (Some d) = d.answered
+abbrev pub answered_count : Option ServerCounts → ℕ
+answered_count None = 0
+answered_count (Some d) = d.answered
 
 abbrev pub expected_by : Option ServerSession → ℕ
 expected_by None = 1
@@ -50,8 +50,8 @@ pub record WaitsOrLost (put taken waiting : List (List ℕ)) (lossy : Bool) : Ty
 
 pub record OnTheWay (s : LaneState) (l : DiskLog) (k : ClientCounts) : Type 0 where
   pub server_up : l.wire.wire.end_b ≡ Up
-  pub infos : NameAll l.shape.slots (asked_by l.work.server) k.announced (ranges_behind 1 (said l.transcript.client) (heard l.transcript.server))
+  pub infos : NameAll l.shape.slots (asked_count l.work.server) k.announced (ranges_behind 1 (said l.transcript.client) (heard l.transcript.server))
   pub seqs : SeqsFrom (expected_by s.server.session) (ranges_behind 1 (said l.transcript.client) (heard l.transcript.server))
-  pub acks : NameAll l.shape.slots k.acked (answered_by l.work.server) (ranges_behind 2 (said l.transcript.server) (heard l.transcript.client))
+  pub acks : NameAll l.shape.slots k.acked (answered_count l.work.server) (ranges_behind 2 (said l.transcript.server) (heard l.transcript.client))
   pub to_server : WaitsOrLost (numbered_said l.transcript.client) (numbered_heard l.transcript.server) (numbered l.wire.wire.to_b) l.wire.lossy
   pub to_client : WaitsOrLost (numbered_said l.transcript.server) (numbered_heard l.transcript.client) (numbered l.wire.wire.to_a) l.wire.lossy

@@ -64,20 +64,20 @@ serving_left work (Some s) = work_left (unfinished s) work
 abbrev pub client_sum : ℕ → ℕ → Option ClientSession → ℕ → ℕ
 client_sum packets pending session asked = 2 * packets + requests_left pending session + 12 * (total pending session - asked)
 
-abbrev pub client_left : ChannelState → ℕ → ClientState → ℕ
-client_left Up asked c = client_sum (client_packets c) (length c.pending) c.session asked
-client_left Down asked c = 18 + 4 * length c.pending + 12 * (length c.pending - asked)
-client_left Resetting asked c = 18 + 4 * length c.pending + 12 * (length c.pending - asked)
+abbrev pub client_remaining : ChannelState → ℕ → ClientState → ℕ
+client_remaining Up asked c = client_sum (client_packets c) (length c.pending) c.session asked
+client_remaining Down asked c = 18 + 4 * length c.pending + 12 * (length c.pending - asked)
+client_remaining Resetting asked c = 18 + 4 * length c.pending + 12 * (length c.pending - asked)
 
-abbrev pub server_left : ChannelState → ServerState → ℕ
-server_left Up v = 2 * server_packets v + serving_left v.work v.session
-server_left Down v = 16
-server_left Resetting v = 16
+abbrev pub server_remaining : ChannelState → ServerState → ℕ
+server_remaining Up v = 2 * server_packets v + serving_left v.work v.session
+server_remaining Down v = 16
+server_remaining Resetting v = 16
 
-abbrev pub asked_by : ChannelState → ServerState → ℕ
-asked_by Up v = asked_in v.session
-asked_by Down v = 0
-asked_by Resetting v = 0
+abbrev pub asked_remaining : ChannelState → ServerState → ℕ
+asked_remaining Up v = asked_in v.session
+asked_remaining Down v = 0
+asked_remaining Resetting v = 0
 
 abbrev pub absent : ChannelState → ℕ
 absent Up = 0
@@ -88,7 +88,7 @@ absent Resetting = 1
 abbrev pub life : Wire → ClientState → ServerState → ℕ
 life w c v =
     absent w.end_a + absent w.end_b + length w.to_a + length w.to_b
-    + client_left w.end_a (asked_by w.end_b v) c + server_left w.end_b v
+    + client_remaining w.end_a (asked_remaining w.end_b v) c + server_remaining w.end_b v
 
 -- where a packet was lost the ends may have to begin once more
 abbrev pub second_life : Bool → ℕ → ℕ

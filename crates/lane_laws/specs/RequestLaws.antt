@@ -39,13 +39,13 @@ OnceAt l _ = ⊤
 abbrev pub carried_count : ℕ → Request → ℕ
 carried_count status request = if status == 0 then given_count request else 0
 
-pub record Carries (w : WorkLog) (id status : ℕ) (bytes : List ℕ) : Type 0 where
+pub record CarriesCount (w : WorkLog) (id status : ℕ) (bytes : List ℕ) : Type 0 where
   pub request : Request
   pub accepted : slice_get w.issued id ≡ Some request
   pub long : length bytes ≡ carried_count status request
 
 abbrev pub CarriesAt : DiskLog → DiskEvent → Type 0
-CarriesAt l (Works (Done id operation status bytes)) = Carries l.work id status bytes
+CarriesAt l (Works (Done id operation status bytes)) = CarriesCount l.work id status bytes
 CarriesAt l _ = ⊤
 
 -- A SERVER THAT RUNS: it makes a step or is reset or stopped only where it runs, and is started, or has nothing done to it, only where it is

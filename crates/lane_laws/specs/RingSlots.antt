@@ -1,6 +1,6 @@
 -- The slots of a client's ring in its memory: what the log of the ring says of each, in numbers and in bytes.
 use Rattle.std.specs.Prelude.{◌≡◌, ℕ, ◌+◌, ◌-◌, ◌%◌, ◌^◌, ◌<◌, ◌≤◌, List, [], ◌∷◌, length, replicate, Option, Some, None, slice_get, slice_index, ⊤}
-use Rattle.dring.specs.Slots.{free_state, slot_bytes}
+use Rattle.dring.specs.Slots.{accepted_state, done_state, free_state, ready_state, slot_bytes}
 use Rattle.vdisk_msg.specs.declared.request.Request.{Request}
 use Rattle.vdisk_msg.specs.Descriptor as slot_says
 use Rattle.vdisk_msg.specs.Pieces.{Finishes, Moves, Piece, Stores}
@@ -24,13 +24,13 @@ pub record HoldsIssued (r : RingOf) (slot id state status : ℕ) (bytes : List �
   pub status_fits : status < 2 ^ 32
   pub bytes_are : bytes ≡ slot_says.canonical (record (descriptor_of id request slot r.slots) { state = state; status = status })
 
--- THE BYTES of a slot: READY 2, ACCEPTED 3, DONE 4 with its status; of a free one its state alone
+-- THE BYTES of a slot: READY, ACCEPTED, DONE with its status; of a free one its state alone
 abbrev pub SlotHolds : RingOf → ℕ → SlotLog → List ℕ → Type 0
 SlotHolds r slot Zeros bytes = bytes ≡ replicate 128 0
 SlotHolds r slot Free bytes = slice_index bytes 0 ≡ free_state
-SlotHolds r slot (Ready id) bytes = HoldsIssued r slot id 2 0 bytes
-SlotHolds r slot (Accepted id) bytes = HoldsIssued r slot id 3 0 bytes
-SlotHolds r slot (Done id status) bytes = HoldsIssued r slot id 4 status bytes
+SlotHolds r slot (Ready id) bytes = HoldsIssued r slot id ready_state 0 bytes
+SlotHolds r slot (Accepted id) bytes = HoldsIssued r slot id accepted_state 0 bytes
+SlotHolds r slot (Done id status) bytes = HoldsIssued r slot id done_state status bytes
 
 pub record RingHolds (r : RingOf) (ring : List SlotLog) (memory : List ℕ) : Type 0 where
   pub long : length ring ≡ r.slots

@@ -22,7 +22,7 @@ pub record SlotOf (base announced published finished descs j : ℕ) (is : SlotLo
   pub published_ready : announced ≤ j → j < published → is ≡ Ready (base + j)
   pub free : published ≤ j → is ≡ Free
 
--- those of one turn from the first request that isn't done
+-- those of one lap from the first request that isn't done
 pub record SlotsOf (slots done base announced published finished descs : ℕ) (ring : List SlotLog) : Type 0 where
   pub done_first : done ≤ base + finished
   pub finished_first : finished ≤ descs

@@ -4,7 +4,7 @@ use Rattle.disk_model.specs.ClientPutting.{is_announcing}
 use Rattle.disk_model.specs.ClientState.{ClientSession, ClientState}
 
 -- THE COUNTS of a client's session stand in this order, over so many pending requests
-pub record InOrder (pending : ℕ) (s : ClientSession) : Type 0 where
+pub record SessionInOrder (pending : ℕ) (s : ClientSession) : Type 0 where
   pub completed : s.completed ≤ s.acked
   pub acked : s.acked ≤ s.announced
   pub announced : s.announced ≤ s.published
@@ -13,7 +13,7 @@ pub record InOrder (pending : ℕ) (s : ClientSession) : Type 0 where
 
 abbrev pub CountsInOrder : ℕ → Option ClientSession → Type 0
 CountsInOrder pending None = ⊤
-CountsInOrder pending (Some s) = InOrder pending s
+CountsInOrder pending (Some s) = SessionInOrder pending s
 
 -- What its channel doesn't see of a client: its ring holds what is pending, its counts stand in order, and what its link holds is an INFO that
 -- isn't wholly put.

@@ -31,4 +31,4 @@ pub record LaneInvariant (s : LaneState) (l : DiskLog) : Type 0 where
 pub record MayOfRequests (l : DiskLog) (event : DiskEvent) : Type 0 where
   pub admission : AdmissionAt l event
   pub once : OnceAt l event
-  pub turns : ServerRunsAt l event
+  pub runs : ServerRunsAt l event

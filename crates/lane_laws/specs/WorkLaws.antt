@@ -32,7 +32,7 @@ use Rattle.channel_laws.specs.Ranges.{wrapped}
 use Rattle.dring.specs.Slots.{done_state, range_length, ready_state}
 use Rattle.channel_laws.specs.Blockage.{Clear}
 use Rattle.lane_laws.specs.DiskLog.{DiskLog}
-use Rattle.channel_laws.specs.Messages.{end_of, ended_by, range_ended, seq_of, sid_of, start_of}
+use Rattle.channel_laws.specs.Messages.{end_slot_of, ended_by, range_ended, seq_of, sid_of, start_slot_of}
 use Rattle.channel_laws.specs.EndFold.{handshake_of}
 use Rattle.lane_laws.specs.EndLog.{ident_of, infos_heard, range_in_work, state_of}
 use Rattle.lane_laws.specs.WorkLog.{ClientCounts, Opened, ServerCounts}
@@ -118,24 +118,24 @@ NamesOwn h ident message = NamesRing (Some (h.draft.sid % 2 ^ 32)) (ident % 2 ^ 
 pub record Announces (l : DiskLog) (c : ClientCounts) (message : List ℕ) : Type 0 where
   pub names : NamesOwn (client_handshake l) (client_handshake l).draft.ident_own message
   pub next : seq_of message ≡ wrapped (c.infos + 1)
-  pub begins : start_of message ≡ c.announced % l.shape.slots
-  pub ends : end_of message < l.shape.slots
-  pub published : c.announced + range_length l.shape.slots (start_of message) (end_of message) ≡ c.published
+  pub begins : start_slot_of message ≡ c.announced % l.shape.slots
+  pub ends : end_slot_of message < l.shape.slots
+  pub published : c.announced + range_length l.shape.slots (start_slot_of message) (end_slot_of message) ≡ c.published
   pub accepted : l.blocked.client ≡ Clear → c.base + c.published ≡ length l.work.issued
   pub active : state_of message ≡ 1
 
 pub record AsksFor (slots : ℕ) (utterances : List Utterance) (h : Handshake) (c : ServerCounts) (message : List ℕ) : Type 0 where
   pub names : NamesRing h.sid h.draft.ident_peer message
   pub next : seq_of message ≡ wrapped (infos_heard utterances + 1)
-  pub begins : start_of message ≡ c.asked % slots
-  pub ends : end_of message < slots
+  pub begins : start_slot_of message ≡ c.asked % slots
+  pub ends : end_slot_of message < slots
   pub answered : c.answered ≡ c.asked
 
 pub record Acknowledges (slots : ℕ) (h : Handshake) (c : ClientCounts) (message : List ℕ) : Type 0 where
   pub names : NamesRing h.sid h.draft.ident_own message
-  pub begins : start_of message ≡ c.acked % slots
-  pub ends : end_of message < slots
-  pub announced : c.acked + range_length slots (start_of message) (end_of message) ≤ c.announced
+  pub begins : start_slot_of message ≡ c.acked % slots
+  pub ends : end_slot_of message < slots
+  pub announced : c.acked + range_length slots (start_slot_of message) (end_slot_of message) ≤ c.announced
 
 -- its number, its slots and the byte of its state are those of the INFO
 pub record AcknowledgesRange (slots : ℕ) (utterances : List Utterance) (h : Handshake) (c : ServerCounts) (message : List ℕ) : Type 0 where
@@ -143,12 +143,12 @@ pub record AcknowledgesRange (slots : ℕ) (utterances : List Utterance) (h : Ha
   pub range : SlotRange
   pub in_work : range_in_work utterances ≡ Some range
   pub seq : seq_of message ≡ range.seq
-  pub start : start_of message ≡ range.start
-  pub end : end_of message ≡ range.end
+  pub start : start_slot_of message ≡ range.start
+  pub end : end_slot_of message ≡ range.end
   pub state : state_of message ≡ range.state % 256
-  pub begins : start_of message ≡ c.answered % slots
-  pub ends : end_of message < slots
-  pub asked : c.answered + range_length slots (start_of message) (end_of message) ≡ c.asked
+  pub begins : start_slot_of message ≡ c.answered % slots
+  pub ends : end_slot_of message < slots
+  pub asked : c.answered + range_length slots (start_slot_of message) (end_slot_of message) ≡ c.asked
   pub finished : c.finished ≡ c.asked
 
 abbrev pub OfClientRange : DiskLog → Option (List ℕ) → (ClientCounts → List ℕ → Type 0) → Type 0

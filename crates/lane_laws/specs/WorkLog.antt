@@ -11,7 +11,7 @@ use Rattle.channel_laws.specs.TranscriptLog.{TranscriptLog}
 use Rattle.channel_laws.specs.WireEvent.{Joined, Reset, Sent, Took, WireEvent}
 use Rattle.disk_model.specs.DiskEvent.{Accepted, Asks, Desc, DiskEvent, Done, Finished, Full, Misplaced, Moved, Off, OnWire, Published, Refused, Calms, Started, Stopped, Stored, Switches, Works}
 use Rattle.dring.specs.Slots.{range_length}
-use Rattle.channel_laws.specs.Messages.{end_of, opening_sid, range_ended, start_of}
+use Rattle.channel_laws.specs.Messages.{end_slot_of, opening_sid, range_ended, start_slot_of}
 
 -- the client's open session, counted without bound: the done ones in it are all that are done less the base
 pub record ClientCounts : Type 0 where
@@ -70,7 +70,7 @@ change_server f (Some c) = Some (f c)
 -- what a range that was said or heard adds
 abbrev pub length_in : ℕ → Option (List ℕ) → ℕ
 length_in slots None = 0
-length_in slots (Some message) = range_length slots (start_of message) (end_of message)
+length_in slots (Some message) = range_length slots (start_slot_of message) (end_slot_of message)
 
 abbrev pub one_in : Option (List ℕ) → ℕ
 one_in None = 0

@@ -100,7 +100,7 @@ pub fn requests_complete_once_in_order_on_a_lane()
     ensures ids { (shape : Shape) (events : List DiskEvent) (s : LaneState)
         → IsShape shape → Run LaneStep (fresh shape) events s
         → CountsFrom 0 (done_ids events) }
-    ensures turns { (shape : Shape) (events : List DiskEvent) (s : LaneState)
+    ensures runs { (shape : Shape) (events : List DiskEvent) (s : LaneState)
         → IsShape shape → Run LaneStep (fresh shape) events s
         → Lawful ServerRunsAt after (nothing_yet shape) events }
 {}

@@ -29,16 +29,16 @@ carried_bytes (Rts mode) = None
 carried_bytes (Rtr mode) = None
 carried_bytes Rdx = None
 
-abbrev pub Carries : Option (List ℕ) → Option (Result Message TagFault) → Type 0
-Carries (Some bytes) (Some said) = Decodes bytes said
-Carries (Some bytes) None = ⊥
-Carries None (Some said) = ⊥
-Carries None None = ⊤
+abbrev pub CarriesMessage : Option (List ℕ) → Option (Result Message TagFault) → Type 0
+CarriesMessage (Some bytes) (Some said) = Decodes bytes said
+CarriesMessage (Some bytes) None = ⊥
+CarriesMessage None (Some said) = ⊥
+CarriesMessage None None = ⊤
 
 -- a message is said where the packet carries one whole, and else none
 abbrev pub CarriesIn : Result Packet PacketFault → Option (Result Message TagFault) → Type 0
-CarriesIn (Ok packet) said = Carries (carried_bytes packet.body) said
-CarriesIn (Err fault) said = Carries None said
+CarriesIn (Ok packet) said = CarriesMessage (carried_bytes packet.body) said
+CarriesIn (Err fault) said = CarriesMessage None said
 
 -- a line with what it says
 pub record Decoded : Type 0 where

@@ -16,7 +16,7 @@ use Rattle.script_reader.specs.LinesState.{AllFed}
 use Rattle.gathered_text.specs.Gathered.{Gathers, WroteFront}
 use Rattle.ldom_report.specs.LinesEnd.{counted_lines}
 use Rattle.ldom_dump.specs.declared.lines.Ended.{Ended}
-use Rattle.ldom_dump.specs.Decoded.{AreOfLines, Carries, CarriesIn, Decoded, decoded_lines, is_fault, is_ok, is_packet}
+use Rattle.ldom_dump.specs.Decoded.{AreOfLines, CarriesMessage, CarriesIn, Decoded, decoded_lines, is_fault, is_ok, is_packet}
 use Rattle.ldom_dump.specs.MessageText.{carried_line, message_line}
 use Rattle.ldom_dump.specs.PacketText.{packet_line}
 use Rattle.ldom_dump.specs.Reading.{DumpStopsAt}
@@ -30,7 +30,7 @@ pub record TellsMessage (bytes old new : List ℕ) : Type 0 where
 -- the line of the message that is carried, if one is
 pub record TellsCarried (bytes : Option (List ℕ)) (old new : List ℕ) : Type 0 where
   pub said : Option (Result Message TagFault)
-  pub carries : Carries bytes said
+  pub carries : CarriesMessage bytes said
   pub is : new ≡ old ++ carried_line said
 
 -- the lines of what these bytes say; and whether they are a packet

@@ -5,7 +5,7 @@ ghost use Rattle.script_reader.specs.LinesState.{GoesOn, KeepsEnds, to_come};
 ghost use Rattle.ldom_report.specs.LinesEnd.{counted_lines};
 ghost use Rattle.ldom_dump.specs.Decoded.{SpellsBytes};
 ghost use Rattle.vio_io.specs.Causes.{Fails};
-ghost use Rattle.ldom_report.specs.Stops.{StandsAt, stop_status};
+ghost use Rattle.ldom_report.specs.Stops.{ReaderStandsAt, stop_status};
 ghost use Rattle.ldom_dump.specs.Reading.{ReadsBytes, DumpStopsAt};
 ghost use Rattle.domain_script.specs.Limits.{most_lines};
 
@@ -48,7 +48,7 @@ pub fn read_bytes<S: Source>(lines: &mut Lines, source: &mut S) -> Result<[u8; 6
 
     // Behind a last line without a line feed the source isn't asked.
     ensures going { result ≢ Err Stop.End → lines.old.stop ≡ Going }
-    ensures stands { IfErr result (λ stop. StandsAt stop lines.new.stop) }
+    ensures stands { IfErr result (λ stop. ReaderStandsAt stop lines.new.stop) }
     ensures ends { KeepsEnds lines.old.stop lines.new.stop (S.ends source.old) (S.ends source.new) }
     ensures source { Fails (result ≡ Err Stop.Source) (S.faults source.old) (S.faults source.new) }
 {

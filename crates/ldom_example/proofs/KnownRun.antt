@@ -22,7 +22,7 @@ use Rattle.ldom_entries.specs.declared.entry.Entry.{Entry}
 use Rattle.ldom_report.specs.declared.status.LimitKind.{LimitKind}
 use Rattle.ldom_report.specs.declared.status.Status.{Status}
 use Rattle.ldom_report.specs.declared.status.Status.TheVariants as status
-use Rattle.ldom_replay.specs.script_laws.Clean.{IsCleanScript, IsFull}
+use Rattle.ldom_replay.specs.script_laws.Clean.{IsCleanScript, IsFullJournal}
 use Rattle.ldom_replay.specs.script_laws.PlainRun.{plain_content, plain_ids, plain_text}
 use Rattle.ldom_replay.specs.script_laws.Quiet.{IsQuietScript}
 use Rattle.ldom_replay.proofs.script_laws.PlainRows.{a_read_sees_the_write}
@@ -104,7 +104,7 @@ image_is (Some d) is =
     told ∙ content_is
 
 -- where the journal is full the status is a limit's
-pub full_limit : (why : Status) (journal : List Entry) → IsFull why journal → (line : ℕ) × (kind : LimitKind) × (why ≡ status.Limit line kind)
+pub full_limit : (why : Status) (journal : List Entry) → IsFullJournal why journal → (line : ℕ) × (kind : LimitKind) × (why ≡ status.Limit line kind)
 full_limit (status.Limit line kind) journal full = (line, kind, refl)
 full_limit status.Done journal full = absurd full
 full_limit status.Usage journal full = absurd full

@@ -5,7 +5,7 @@ ghost use Rattle.script_reader.specs.LinesState.{GoesOn, KeepsEnds, most_of_a_re
 ghost use Rattle.domain_script.specs.ScriptEvents.{no_names};
 ghost use Rattle.domain_script.specs.Spells.{IsDeclared};
 ghost use Rattle.ldom_report.specs.LinesEnd.{counted_lines, most_entries};
-ghost use Rattle.ldom_report.specs.Stops.{StandsAt, stop_lines, stop_status};
+ghost use Rattle.ldom_report.specs.Stops.{ReaderStandsAt, stop_lines, stop_status};
 ghost use Rattle.vio_io.specs.Causes.{Fails};
 ghost use Rattle.script_laws.specs.Reading.{ReadsEvent, StopsAt};
 ghost use Rattle.domain_script.specs.Limits.{most_lines};
@@ -60,7 +60,7 @@ impl Reader {
 
         // Behind a last line without a line feed the source isn't asked.
         ensures going { result ≢ Err Stop.End → self.old.lines.stop ≡ Going }
-        ensures stands { IfErr result (λ stop. StandsAt stop self.new.lines.stop) }
+        ensures stands { IfErr result (λ stop. ReaderStandsAt stop self.new.lines.stop) }
         ensures ends { KeepsEnds self.old.lines.stop self.new.lines.stop (S.ends source.old) (S.ends source.new) }
         ensures stop { IfErr result (λ stop. StopsAt (stop_status stop self.new.lines.number)
             (to_come self.old.lines (S.left source.old)) self.new.lines.held (S.left source.new) self.old.names

@@ -9,7 +9,7 @@ ghost use Rattle.script_reader.specs.declared.lines.LinesStop.TheVariants.{Ended
 ghost use Rattle.script_reader.specs.LinesState.{GoesOn, KeepsEnds, ends_after, to_come};
 ghost use Rattle.domain_script.specs.Spells.{IsDeclared};
 ghost use Rattle.ldom_replay.specs.NamesLanes.{HasLanes};
-ghost use Rattle.ldom_report.specs.Stops.{EndsTold, StandsAt, stop_lines, stop_status};
+ghost use Rattle.ldom_report.specs.Stops.{EndsTold, ReaderStandsAt, stop_lines, stop_status};
 ghost use Rattle.vio_io.specs.Causes.{Fails};
 ghost use Rattle.script_laws.specs.Going.{RunsAll, RunsLines, run_at};
 ghost use Rattle.script_laws.specs.Attached.{AreOpening};
@@ -54,7 +54,7 @@ fn read_opening<S: Source>(reader: &mut Reader, source: &mut S) -> Result<Event,
         (S.left source.new) (stop_status stop reader.new.lines.number) reader.new.names
         (stop_lines stop reader.new.lines.number)) }
     ensures source { Fails (result ≡ Err Stop.Source) (S.faults source.old) (S.faults source.new) }
-    ensures stands { IfErr result (λ stop. StandsAt stop reader.new.lines.stop) }
+    ensures stands { IfErr result (λ stop. ReaderStandsAt stop reader.new.lines.stop) }
     ensures ends { KeepsEnds reader.old.lines.stop reader.new.lines.stop (S.ends source.old) (S.ends source.new) }
 {
     let mut event = Event::Blank;
@@ -92,7 +92,7 @@ fn run_lines<S: Source, D: Store>(reader: &mut Reader, source: &mut S, world: &m
     ensures going { result ≡ Stop.Source → reader.old.lines.stop ≡ Going }
     ensures most { reader.new.lines.number ≤ most_lines }
     ensures source { Fails (result ≡ Stop.Source) (S.faults source.old) (S.faults source.new) }
-    ensures stands { StandsAt result reader.new.lines.stop }
+    ensures stands { ReaderStandsAt result reader.new.lines.stop }
     ensures ends { KeepsEnds reader.old.lines.stop reader.new.lines.stop (S.ends source.old) (S.ends source.new) }
 {
     let mut event = Event::Blank;
@@ -347,7 +347,7 @@ fn run_first<S: Source, D: Store>(
         (run_at reader.new.names reader.new.journal.entries world.new (stop_lines result reader.new.lines.number)) }
     ensures most { reader.new.lines.number ≤ most_lines }
     ensures source { Fails (result ≡ Stop.Source) (S.faults source.old) (S.faults source.new) }
-    ensures stands { StandsAt result reader.new.lines.stop }
+    ensures stands { ReaderStandsAt result reader.new.lines.stop }
     ensures ends { KeepsEnds reader.old.lines.stop reader.new.lines.stop (S.ends source.old) (S.ends source.new) }
 {
     let event = match first {

@@ -6,8 +6,8 @@ use Rattle.script_reader.specs.declared.lines.LinesStop.{LinesStop}
 use Rattle.script_reader.specs.declared.lines.LinesStop.TheVariants.{Going, Ended, TooLong, TooMany}
 use Rattle.vio_io.specs.Causes.{next_count}
 use Rattle.vio_io.specs.Ends.{SaysEnd}
-use Rattle.script_reader.specs.LinesState.{AdvancesFrom, Ends, GoesFrom, KeepsEnds, LineEnds, LinesState, Reads, ends_after}
-use Rattle.ldom_report.specs.Stops.{StandsAt, StopsReading, stop_of}
+use Rattle.script_reader.specs.LinesState.{AdvancesFrom, EndsNow, GoesFrom, KeepsEnds, LineEnds, LinesState, Reads, ends_after}
+use Rattle.ldom_report.specs.Stops.{ReaderStandsAt, StopsReading, stop_of}
 use Rattle.ldom_report.specs.declared.stop.Stop.TheVariants.{End}
 
 -- a reader that gave a line may be asked further
@@ -51,7 +51,7 @@ stays_stopped TooLong rest left before after result is advances stopped = ap (λ
 stays_stopped TooMany rest left before after result is advances stopped = ap (λ (s : LinesState). s.stop) advances.1 ∙ is
 
 -- so the source says at most once that it is at its end
-pub keeps_ends : (old new : LinesStop) (before now : ℕ) → (old ≢ Going → new ≡ old) → SaysEnd (Ends old new) before now → KeepsEnds old new before now
+pub keeps_ends : (old new : LinesStop) (before now : ℕ) → (old ≢ Going → new ≡ old) → SaysEnd (EndsNow old new) before now → KeepsEnds old new before now
 keeps_ends Going Ended before now stays says base is = says.once ((λ e. cc e), refl) ∙ ap next_count is
 keeps_ends Going Going before now stays says base is = says.else_not (λ ends. cc ends.1) ∙ is
 keeps_ends Going TooLong before now stays says base is = says.else_not (λ ends. cc ends.1) ∙ is
@@ -64,7 +64,7 @@ keeps_ends TooMany new before now stays says base is =
     let same : new ≡ TooMany = stays (λ e. cc e) in subst (λ (s : LinesStop). now ≡ ends_after s base) (sym same) (says.else_not (λ ends. cc (sym same ∙ ends.1)) ∙ is)
 
 -- a reader that gave a fault didn't end
-pub stands_at : (fault : LinesFault) (rest left : Option (List ℕ)) (before after : LinesState) → Reads rest left before (Err fault) after → StandsAt (stop_of fault) after.stop
+pub stands_at : (fault : LinesFault) (rest left : Option (List ℕ)) (before after : LinesState) → Reads rest left before (Err fault) after → ReaderStandsAt (stop_of fault) after.stop
 stands_at Source rest left before after reads = λ ended. cc (reads.0.stop, ended)
 stands_at Long rest left before after reads = λ ended. cc (reads.0.stop, ended)
 stands_at Many rest left before after reads = λ ended. cc (reads.0.stop, ended)

@@ -7,7 +7,7 @@ use Rattle.ldom_report.specs.declared.status.LimitKind.TheVariants as limit
 use Rattle.ldom_report.specs.declared.status.Status.TheVariants as status
 use Rattle.ldom_report.specs.declared.stop.Stop.{Stop}
 use Rattle.ldom_report.specs.declared.stop.Stop.TheVariants.{End, Source, Limit, Memory, Faulty, Entries}
-use Rattle.ldom_report.specs.Stops.{AtMostOnce, EndsTold, IsReaders, StandsAt, stop_status}
+use Rattle.ldom_report.specs.Stops.{AtMostOnce, EndsTold, IsReaders, ReaderStandsAt, stop_status}
 
 pub readers_of : (stop : Stop) (lines : ℕ) → IsReaders (stop_status stop lines)
 readers_of End lines = tt
@@ -50,7 +50,7 @@ not_told TooLong before now other is = is
 not_told TooMany before now other is = is
 
 -- how often the source said that it is at its end, by why the lines stopped
-pub ends_told : (stop : Stop) (count : ℕ) (lines : LinesStop) (before now : ℕ) → StandsAt stop lines → now ≡ ends_after lines before → EndsTold (stop_status stop count) before now
+pub ends_told : (stop : Stop) (count : ℕ) (lines : LinesStop) (before now : ℕ) → ReaderStandsAt stop lines → now ≡ ends_after lines before → EndsTold (stop_status stop count) before now
 ends_told End count lines before now stands is = is ∙ ap (λ (l : LinesStop). ends_after l before) stands
 ends_told Source count lines before now stands is = not_told lines before now stands is
 ends_told (Limit limit.Lines) count lines before now stands is = not_told lines before now stands is

@@ -59,13 +59,13 @@ IsReaders (status.ImageSize need have) = ⊥
 
 -- Where a reader stands whose lines stop so: it ended at the end, and not where its source failed or a limit was passed. A
 -- line that is taken up and not run may have been the last.
-abbrev pub StandsAt : Stop → LinesStop → Type 0
-StandsAt End lines = lines ≡ Ended
-StandsAt Source lines = lines ≢ Ended
-StandsAt (Limit kind) lines = lines ≢ Ended
-StandsAt Memory lines = ⊤
-StandsAt (Faulty fault) lines = ⊤
-StandsAt Entries lines = ⊤
+abbrev pub ReaderStandsAt : Stop → LinesStop → Type 0
+ReaderStandsAt End lines = lines ≡ Ended
+ReaderStandsAt Source lines = lines ≢ Ended
+ReaderStandsAt (Limit kind) lines = lines ≢ Ended
+ReaderStandsAt Memory lines = ⊤
+ReaderStandsAt (Faulty fault) lines = ⊤
+ReaderStandsAt Entries lines = ⊤
 
 -- the source said once that it is at its end, or not at all
 abbrev pub AtMostOnce : ℕ → ℕ → Type 0

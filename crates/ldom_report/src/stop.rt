@@ -3,7 +3,7 @@ ghost use Rattle.std.specs.Prelude.{◌≡◌, ◌≢◌, ◌-◌, ◌^◌, ◌<
 ghost use Rattle.script_reader.specs.declared.lines.LinesStop.TheVariants.{Ended, Going};
 ghost use Rattle.script_reader.specs.LinesState.{GivesLine, GoesOn, KeepsEnds, to_come};
 ghost use Rattle.vio_io.specs.Causes.{Fails};
-ghost use Rattle.ldom_report.specs.Stops.{StandsAt, StopsReading, stop_lines, stop_of, stop_status};
+ghost use Rattle.ldom_report.specs.Stops.{ReaderStandsAt, StopsReading, stop_lines, stop_of, stop_status};
 
 use crate::status::{LimitKind, Status};
 use domain_script::LineFault;
@@ -95,7 +95,7 @@ pub fn next_line<S: Source>(lines: &mut Lines, source: &mut S) -> Result<(), Sto
     ensures going { result ≢ Err Stop.End → lines.old.stop ≡ Going }
 
     // A source says once that it is at its end, where the reader ends, and never to one that stops otherwise.
-    ensures stands { IfErr result (λ stop. StandsAt stop lines.new.stop) }
+    ensures stands { IfErr result (λ stop. ReaderStandsAt stop lines.new.stop) }
     ensures ends { KeepsEnds lines.old.stop lines.new.stop (S.ends source.old) (S.ends source.new) }
 {
     match lines.advance(source) {

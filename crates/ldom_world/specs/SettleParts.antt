@@ -1,4 +1,4 @@
--- What a settle added to a journal as far as it has come, and how each turn of it goes on.
+-- What a settle added to a journal as far as it has come, and how each pass of it goes on.
 use Rattle.std.specs.Prelude.{◌≡◌, ℕ, ◌+◌, ◌<◌, ◌≤◌, Bool, true, false, ◌||◌, List, Some, length, take, slice_get}
 use Rattle.lane_kinds.specs.LaneFronts.{RoundFront, TickFront}
 use Rattle.lane_kinds.specs.LanesMade.{Marks, RoundUpTo, TicksUpTo}

@@ -7,7 +7,7 @@ ghost use Rattle.port_model.specs.NetEndTaking.{first_undone, freed, slot_state}
 ghost use Rattle.port_frames.specs.Memories.{HoldsRing};
 
 use dom_memory::Memory;
-use dring::{Ring, VIO_DESC_DONE};
+use dring::{Ring, VIO_DESC_DONE, slot_of};
 use vio_tag::Cause;
 use vnet_msg::SLOT;
 
@@ -47,8 +47,8 @@ pub fn first_undone(memory: &Memory, slots: u32, number: u64, count: u32) -> Opt
     requires room { HoldsRing slots memory.now }
     ensures { result ≡ first_undone slots memory.now number count }
 {
-    for turn in 0..count {
-        let slot = ((number + turn as u64) % slots as u64) as u32;
+    for index in 0..count {
+        let slot = slot_of(number + index as u64, 0, slots);
         let state = slot_state(memory, slots, slot);
         if state != VIO_DESC_DONE {
             return Some(Cause::NotDone { slot, state });
@@ -66,8 +66,8 @@ pub fn free_slots(memory: &mut Memory, slots: u32, number: u64, count: u32)
     ensures freed { memory.new ≡ freed slots number count memory.old }
     ensures same_length { length memory.new ≡ length memory.old }
 {
-    for turn in 0..count {
-        let slot = ((number + turn as u64) % slots as u64) as u32;
+    for index in 0..count {
+        let slot = slot_of(number + index as u64, 0, slots);
         free_slot(memory, slots, slot);
     }
 }

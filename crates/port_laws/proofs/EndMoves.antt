@@ -35,7 +35,7 @@ use Rattle.port_model.specs.Offers.{port_offer}
 use Rattle.port_model.specs.RuleFacts.{IsFree, IsFreeIn}
 use Rattle.port_model.proofs.Ruling.{says_of}
 use Rattle.port_laws.specs.NetCore.{more_in, more_of, net_core, one_if}
-use Rattle.port_laws.specs.NetFits.{AreShort, GroupsFit, NetFits, ReplyFits, SessionFits, SomeFits}
+use Rattle.port_laws.specs.NetFits.{AddressesAreShort, GroupsFit, NetFits, ReplyFits, SessionFits, SomeFits}
 use Rattle.port_laws.proofs.ShortMessages.{announcement_short, answer_short, membership_short, read_long, read_short, reply_short}
 use Rattle.port_laws.proofs.Taking.{BodyFits, TakeGoes, message_goes}
 use Rattle.port_model.proofs.Refuting.{false_true, none_some, of_some, true_false}
@@ -116,7 +116,7 @@ held_core role s at reach (Fetches p activity) held fits is same =
 held_core role s at reach (Tells p) held fits is same =
     let says = says_of role s at (Tells p) is in
     let one : one_if (not p.telling) ≡ 1 = ap (λ (b : Bool). one_if (not b)) says.3 in
-    let short : AreShort s.groups = subst (λ (x : Role). GroupsFit x s.groups) says.1 fits.groups in
+    let short : AddressesAreShort s.groups = subst (λ (x : Role). GroupsFit x s.groups) says.1 fits.groups in
     held_to role s (holding_own (membership s.handshake.draft.sid s.groups) (record p { untold = false; telling = true }) s) held (HoldsOwn (membership s.handshake.draft.sid s.groups)) same
     (own_held role s at (membership s.handshake.draft.sid s.groups) p (record p { untold = false; telling = true }) says.0.in_session tt refl
     (membership_short s.handshake.draft.sid s.groups short) (omega (arith, one)))
@@ -198,7 +198,7 @@ may_take role s at free = record { owed = free.owed; quiet = λ closed. free.qui
 fits_of : (bytes : List ℕ) (b : MsgBody) → SpellsBody bytes b → BodyFits b
 fits_of bytes (Mcast set count addresses) spells =
     let is : addresses ≡ addresses_at 10 7 bytes = spells.2 in
-    (subst (λ (x : List (List ℕ)). length x ≤ 7) (sym is) (omega (arith, read_long 7 10 bytes)), subst AreShort (sym is) (read_short 7 10 bytes))
+    (subst (λ (x : List (List ℕ)). length x ≤ 7) (sym is) (omega (arith, read_long 7 10 bytes)), subst AddressesAreShort (sym is) (read_short 7 10 bytes))
 fits_of bytes _ spells = tt
 
 -- WHAT COMES OF A MESSAGE that became whole, if one did

@@ -15,7 +15,7 @@ use Rattle.port_model.specs.NetEvent.{NetEvent}
 use Rattle.port_model.specs.NetLaneState.{NetLaneState}
 use Rattle.port_model.specs.NetLaneStep.{NetLaneStep}
 use Rattle.port_model.proofs.Ruling.{says_of}
-use Rattle.port_laws.specs.NetFits.{AreShort, NetFits, SessionFits}
+use Rattle.port_laws.specs.NetFits.{AddressesAreShort, NetFits, SessionFits}
 use Rattle.port_laws.proofs.EndMoves.{packet_goes}
 use Rattle.port_model.proofs.Refuting.{none_some, of_some}
 
@@ -69,7 +69,7 @@ step_fits role s at memory reach (Frame frame) t fits step =
     (session_fits role s _ step.session _ fits (says_of role s at (Fetches step.session step.activity) step.rule).0.session refl refl refl)
 step_fits role s at memory reach _ t fits step = subst (LeftFits role) (sym step.2) (joined_fits role s fits)
 
-one_more : (groups : List (List ℕ)) (address : List ℕ) → AreShort groups → length address ≤ 6 → AreShort (groups ++ address ∷ [])
+one_more : (groups : List (List ℕ)) (address : List ℕ) → AddressesAreShort groups → length address ≤ 6 → AddressesAreShort (groups ++ address ∷ [])
 one_more [] address short few = (few, tt)
 one_more (group ∷ groups) address short few = (short.0, one_more groups address short.1 few)
 

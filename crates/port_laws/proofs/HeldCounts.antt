@@ -24,7 +24,7 @@ use Rattle.port_model.specs.NetEndState.{Activity, GroupsReply, NetEndState, Net
 use Rattle.port_model.specs.RuleFacts.{IsFreeIn}
 use Rattle.port_model.specs.Spoken.{GroupsInfo, RangeAck, RangeInfo, Spoken, groups_spoken, spoken}
 use Rattle.port_laws.specs.Counted.{ActiveCounts, AnswersFor, AnswersRightly, Counts, EndCounts, GuestCounts, GuestGroups, IsAnswer, PeerCounts, RingCounts, SaysRightly, SessionCounts, left_of, unsaid}
-use Rattle.port_laws.specs.NetFits.{AreShort, NetFits, ReplyFits}
+use Rattle.port_laws.specs.NetFits.{AddressesAreShort, NetFits, ReplyFits}
 use Rattle.port_laws.proofs.EndCounting.{OpenCounts, guest_same, open_empty, own_left}
 use Rattle.port_laws.proofs.OwnBytes.{end_is, groups_spoken_as, membership_reads, membership_says, range_spoken_as, reply_read, seq_is, start_is, state_is}
 use Rattle.port_laws.proofs.ShortMessages.{announcement_short, answer_short, membership_short, reply_short}
@@ -71,7 +71,7 @@ answers_forms role slots s p v published gone activity last begun owed same fit 
     grind (arith, small_slot, answer_short, range_spoken_as, seq_is, state_is, start_is, end_is, guest_same)
 
 -- ITS GROUPS
-tells_forms : (slots : ℕ) (s : NetEndState) (p : NetSession) (v : SessionLog) (published gone : ℕ) (begun : Bool) → s.handshake.owed ≡ None → AreShort s.groups → GuestGroups Initiator s.groups → p.untold ≡ true
+tells_forms : (slots : ℕ) (s : NetEndState) (p : NetSession) (v : SessionLog) (published gone : ℕ) (begun : Bool) → s.handshake.owed ≡ None → AddressesAreShort s.groups → GuestGroups Initiator s.groups → p.untold ≡ true
     → SessionCounts Initiator slots s.groups published gone None begun p v
     → Forms Initiator slots s p (record p { untold = false; telling = true }) v published gone (membership s.handshake.draft.sid s.groups) GroupsInfo
 tells_forms slots s p v published gone begun owed short groups untold counts =

@@ -13,7 +13,7 @@ use Rattle.vio_tag.specs.Form.{HasForm, IsWellFormed}
 use Rattle.vio_tag.specs.Spelling.{SpellsBody, SpellsMessage, envelope_code}
 use Rattle.dring.specs.Slots.{range_length}
 use Rattle.port_laws.proofs.MessageDoes.{Acks, MessageDoes, TakeDoes, message_does, Asks, Declines, Names, Told}
-use Rattle.port_laws.specs.LetsGo.{InOrder, LetsGo, TakeLetsGo, TakeLetsNoneGo, acks}
+use Rattle.port_laws.specs.LetsGo.{SessionInOrder, LetsGo, TakeLetsGo, TakeLetsNoneGo, acks}
 use Rattle.port_model.proofs.Refuting.{false_true}
 use Rattle.port_model.specs.EndLog.{acked_by}
 use Rattle.port_model.specs.NetEndState.{NetEndState, NetSession}
@@ -42,7 +42,7 @@ same_seen : (s : NetEndState) (p q : NetSession) (t : NetEndState) (opens : Bool
     → t.next_id ≡ s.next_id → opens ≡ false → LetsGo s p 0 t opens
 same_seen s p q t opens session base published seen frames next shut = grind arith
 
-kind_seen : (role : Role) (s : NetEndState) (p : NetSession) (memory : List ℕ) (subtype : Subtype) (b : MsgBody) (t : NetEndState) (opens : Bool) (new : List ℕ) → InOrder s p → opens ≡ false
+kind_seen : (role : Role) (s : NetEndState) (p : NetSession) (memory : List ℕ) (subtype : Subtype) (b : MsgBody) (t : NetEndState) (opens : Bool) (new : List ℕ) → SessionInOrder s p → opens ≡ false
     → MessageDoes role s p memory subtype b t new → LetsGo s p (acks s.slots b subtype) t opens
 kind_seen role s p memory subtype b t opens new order shut (Asks seq ident start end state kind body place stays is) =
     let none : acks s.slots b subtype ≡ 0 = ap (λ (x : MsgBody). acks s.slots x subtype) body ∙ ap (acks s.slots (DringData seq ident start end state)) kind in
@@ -70,12 +70,12 @@ kind_seen role s p memory subtype b t opens new order shut (Declines h declined 
     subst (λ (n : ℕ). LetsGo s p n t opens) (sym (declined_none s.slots subtype b declined))
     (same_seen s p p t opens (ap (λ (x : NetEndState). x.session) is ∙ order.session) refl refl refl (ap (λ (x : NetEndState). x.frames) is) (ap (λ (x : NetEndState). x.next_id) is) shut)
 
-take_seen : (role : Role) (s : NetEndState) (p : NetSession) (memory : List ℕ) (subtype : Subtype) (b : MsgBody) (take : NetTake) → InOrder s p → TakeDoes role s p memory subtype b take
+take_seen : (role : Role) (s : NetEndState) (p : NetSession) (memory : List ℕ) (subtype : Subtype) (b : MsgBody) (take : NetTake) → SessionInOrder s p → TakeDoes role s p memory subtype b take
     → TakeLetsGo s p (acks s.slots b subtype) take
 take_seen role s p memory subtype b (GoesOn t opens new) order does = kind_seen role s p memory subtype b t opens new order does.shut does.does
 take_seen role s p memory subtype b (Resets cause) order does = tt
 
-pub message_seen : (role : Role) (s : NetEndState) (p : NetSession) (memory : List ℕ) (message : Message) → InOrder s p
+pub message_seen : (role : Role) (s : NetEndState) (p : NetSession) (memory : List ℕ) (message : Message) → SessionInOrder s p
     → TakeLetsGo s p (acks s.slots message.body message.subtype) (hears_message role s memory (Some p) message)
 message_seen role s p memory message order =
     take_seen role s p memory message.subtype message.body (hears_message role s memory (Some p) message) order (message_does role s p memory message order.opened)

@@ -9,7 +9,7 @@ use Rattle.vio_tag.proofs.Canonical.{canonical_spells}
 use Rattle.vio_tag.specs.declared.message.Message.{Message}
 use Rattle.vio_tag.specs.declared.message.MsgBody.TheVariants.{DringData, Mcast}
 use Rattle.vio_tag.specs.Spelling.{SpellsMessage, canonical}
-use Rattle.channel_laws.specs.Messages.{end_of, seq_of, start_of, subtype_of}
+use Rattle.channel_laws.specs.Messages.{end_slot_of, seq_of, start_slot_of, subtype_of}
 use Rattle.port_model.specs.EndLog.{groups_fields}
 use Rattle.port_model.specs.Groups.{membership, seven}
 use Rattle.port_model.specs.NetEndState.{GroupsReply}
@@ -33,11 +33,11 @@ same_seq : (s : Subtype) (n seq ident start end state : ℕ) → seq_of (range_b
 unfolding canonical simple
 same_seq s n seq ident start end state = refl
 
-same_start : (s : Subtype) (n seq ident start end state : ℕ) → start_of (range_bytes s n seq ident start end state) ≡ start_of (canonical (simple s 0 start 0 0))
+same_start : (s : Subtype) (n seq ident start end state : ℕ) → start_slot_of (range_bytes s n seq ident start end state) ≡ start_slot_of (canonical (simple s 0 start 0 0))
 unfolding canonical simple
 same_start s n seq ident start end state = refl
 
-same_end : (s : Subtype) (n seq ident start end state : ℕ) → end_of (range_bytes s n seq ident start end state) ≡ end_of (canonical (simple s 0 0 end 0))
+same_end : (s : Subtype) (n seq ident start end state : ℕ) → end_slot_of (range_bytes s n seq ident start end state) ≡ end_slot_of (canonical (simple s 0 0 end 0))
 unfolding canonical simple
 same_end s n seq ident start end state = refl
 
@@ -55,11 +55,11 @@ pub seq_is : (s : Subtype) (n seq ident start end state : ℕ) → seq < 2 ^ 64 
 seq_is s n seq ident start end state small =
     same_seq s n seq ident start end state ∙ sym (simple_spells s seq 0 0 0 small (omega arith) (omega arith) (omega arith)).body.0
 
-pub start_is : (s : Subtype) (n seq ident start end state : ℕ) → start < 2 ^ 32 → start_of (range_bytes s n seq ident start end state) ≡ start
+pub start_is : (s : Subtype) (n seq ident start end state : ℕ) → start < 2 ^ 32 → start_slot_of (range_bytes s n seq ident start end state) ≡ start
 start_is s n seq ident start end state small =
     same_start s n seq ident start end state ∙ sym (simple_spells s 0 start 0 0 (omega arith) small (omega arith) (omega arith)).body.2
 
-pub end_is : (s : Subtype) (n seq ident start end state : ℕ) → end < 2 ^ 32 → end_of (range_bytes s n seq ident start end state) ≡ end
+pub end_is : (s : Subtype) (n seq ident start end state : ℕ) → end < 2 ^ 32 → end_slot_of (range_bytes s n seq ident start end state) ≡ end
 end_is s n seq ident start end state small =
     same_end s n seq ident start end state ∙ sym (simple_spells s 0 0 end 0 (omega arith) (omega arith) small (omega arith)).body.3
 

@@ -13,7 +13,7 @@ use Rattle.vio_tag.specs.declared.message.Message.{Message}
 use Rattle.vio_tag.specs.declared.message.MsgBody.{MsgBody}
 use Rattle.vio_tag.specs.declared.message.MsgBody.TheVariants.{DringData, Mcast}
 use Rattle.vio_tag.specs.Spelling.{SpellsMessage, envelope_at, subtype_at}
-use Rattle.channel_laws.specs.Messages.{end_of, seq_of, start_of}
+use Rattle.channel_laws.specs.Messages.{end_slot_of, seq_of, start_slot_of}
 use Rattle.channel_laws.specs.Ranges.{is_other, wrapped}
 use Rattle.channel_laws.specs.EndStep.{IsOfSession}
 use Rattle.channel_laws.specs.Sides.{other}
@@ -29,15 +29,15 @@ use Rattle.port_laws.proofs.RingMoves.{held_state, some_frame}
 -- WHAT COMES of the way
 pub record InfoComes (v : SessionLog) (slots : ℕ) (m : List ℕ) : Type 0 where
   pub seq : seq_of m ≡ wrapped (v.asked + 1)
-  pub start : start_of m ≡ v.taken % slots
-  pub end : end_of m ≡ 0xffffffff
+  pub start : start_slot_of m ≡ v.taken % slots
+  pub end : end_slot_of m ≡ 0xffffffff
 
 pub info_comes : (slots : ℕ) (w v : SessionLog) (m : List ℕ) (rest acks : List (List ℕ)) → Way slots w v (m ∷ rest) acks → InfoComes v slots m
 info_comes slots w v m rest acks given = grind arith
 
 pub record AckComes (v w : SessionLog) (slots : ℕ) (m : List ℕ) : Type 0 where
-  pub start : start_of m ≡ v.seen % slots
-  pub end : end_of m ≡ (w.taken - 1) % slots
+  pub start : start_slot_of m ≡ v.seen % slots
+  pub end : end_slot_of m ≡ (w.taken - 1) % slots
   pub some : v.seen < w.taken
 
 pub ack_comes : (slots : ℕ) (v w : SessionLog) (m : List ℕ) (infos rest : List (List ℕ)) → Way slots v w infos (m ∷ rest) → AckComes v w slots m
@@ -57,9 +57,9 @@ ring_done slots seen taken published frames memory count ring is =
     let each : (j : ℕ) → seen ≤ j → j < seen + count → slot_state (j % slots) memory ≡ 4 = λ j from below.
     let less : j < taken = omega (arith, below, is) in
     let first = ring.taken_first in
-    let turn = ring.turn in
+    let lap = ring.lap in
     let there = some_frame frames (j - seen) (omega (arith, from, less, first, ring.held)) in
-    held_state memory (j % slots) 4 there.0 ((ring.each j from (omega (arith, less, first, turn))).done less there.0 there.1) in
+    held_state memory (j % slots) 4 there.0 ((ring.each j from (omega (arith, less, first, lap))).done less there.0 there.1) in
     all_done slots memory seen count each
 
 -- TESTS that pass
@@ -86,19 +86,19 @@ pub record Expects (role : Role) (s : NetEndState) (p : NetSession) (memory : Li
   pub fits : MessageFits (other role) sid m
   pub own : s.handshake.draft.ident_own ≡ sid
   pub peer : s.handshake.draft.ident_peer ≡ sid
-  pub info : envelope_at m ≡ 0x0042 → subtype_at m ≡ 1 → (p.seq ≡ seq_of m) × (p.place ≡ start_of m) × (end_of m ≡ 0xffffffff)
-  pub ack : envelope_at m ≡ 0x0042 → subtype_at m ≡ 2 → (p.seen % s.slots ≡ start_of m) × (end_of m < s.slots) × (p.seen + range_of s.slots m ≤ p.published)
+  pub info : envelope_at m ≡ 0x0042 → subtype_at m ≡ 1 → (p.seq ≡ seq_of m) × (p.place ≡ start_slot_of m) × (end_slot_of m ≡ 0xffffffff)
+  pub ack : envelope_at m ≡ 0x0042 → subtype_at m ≡ 2 → (p.seen % s.slots ≡ start_slot_of m) × (end_slot_of m < s.slots) × (p.seen + range_of s.slots m ≤ p.published)
       × (first_undone s.slots memory p.seen (range_of s.slots m) ≡ None)
   pub telling : envelope_at m ≡ 0x0101 → role ≡ Initiator → p.telling ≡ true
 
 -- A MESSAGE, by its bytes
 module _ (role : Role) (s : NetEndState) (p : NetSession) (memory : List ℕ) (sid : ℕ) (m : List ℕ) (expects : Expects role s p memory sid m) where
-  info_taken : (seq ident start end state : ℕ) (cause : Cause) → envelope_at m ≡ 0x0042 → subtype_at m ≡ 1 → (seq ≡ seq_of m) × (start ≡ start_of m) × (end ≡ end_of m)
+  info_taken : (seq ident start end state : ℕ) (cause : Cause) → envelope_at m ≡ 0x0042 → subtype_at m ≡ 1 → (seq ≡ seq_of m) × (start ≡ start_slot_of m) × (end ≡ end_slot_of m)
       → takes_info s p memory seq ident start end ≡ Resets cause → ident ≡ sid → ⊥
   info_taken seq ident start end state cause range info reads_ resets named =
       grind (arith, never, past, same_is, no_end, goes)
 
-  ack_taken : (ident start end : ℕ) (cause : Cause) → envelope_at m ≡ 0x0042 → subtype_at m ≡ 2 → (start ≡ start_of m) × (end ≡ end_of m) → takes_ack s p memory ident start end ≡ Resets cause
+  ack_taken : (ident start end : ℕ) (cause : Cause) → envelope_at m ≡ 0x0042 → subtype_at m ≡ 2 → (start ≡ start_slot_of m) × (end ≡ end_slot_of m) → takes_ack s p memory ident start end ≡ Resets cause
       → ident ≡ sid → ⊥
   ack_taken ident start end cause range ack reads_ resets named =
       grind (arith, never, past, same_is, at_once, nat_le, and_from, lt-ltb, le-leb, goes)

@@ -152,7 +152,7 @@ ready_next slots seen taken published frames memory some ring state = grind (ari
     never past (inl within) = absurd (omega (arith, state, (ring.each taken ring.seen_first within).free past))
     never past (inr whole) =
         let last = ring.taken_first in
-        let all : taken ≡ seen + slots = omega (arith, whole, last, ring.turn) in
+        let all : taken ≡ seen + slots = omega (arith, whole, last, ring.lap) in
         let there = some_frame frames (seen - seen) (omega (arith, whole, last, ring.held, some)) in
         let done = held_state memory (seen % slots) 4 there.0 ((ring.each seen (omega arith) (omega (arith, some))).done (omega (arith, all, some)) there.0 there.1) in
         let same : slot_state (taken % slots) memory ≡ slot_state (seen % slots) memory = ap (λ (n : ℕ). slot_state n memory) (ap (λ (n : ℕ). n % slots) all ∙ add-mod_right seen slots) in
@@ -166,7 +166,7 @@ ring_done slots seen taken published frames frame memory fits ring less next =
       seen_first = omega (arith, ring.seen_first);
       taken_first = omega (arith, less);
       held = ring.held;
-      turn = ring.turn;
+      lap = ring.lap;
       each = λ j since before. at_slot j since before (cases_order j taken);
     }
   where
@@ -177,7 +177,7 @@ ring_done slots seen taken published frames frame memory fits ring less next =
     new = put_at (64 * k) (header 4 0) memory
 
     until : taken < seen + slots
-    until = let turn = ring.turn in omega (arith, turn, less)
+    until = let lap = ring.lap in omega (arith, lap, less)
 
     below : k < slots
     below = slot_within slots seen taken ring.seen_first until
@@ -236,10 +236,10 @@ ring_fetched s reach slots pages seen taken published frames frame new reaches s
     let state : slot_state k reach.memory ≡ 2 = ap (λ (b : List ℕ). slice_index b 0) (sym bytes_are) ∙ found.ready in
     let less : taken < published = ready_next slots seen taken published frames reach.memory some ring state in
     let first = ring.seen_first in
-    let turn = ring.turn in
+    let lap = ring.lap in
     let there = some_frame frames (taken - seen) (omega (arith, less, first, ring.held)) in
     let one : List ℕ = there.0 in
-    let holds : SlotHolds reach.memory k 2 one = (ring.each taken first (omega (arith, turn, less))).ready (omega arith) less one there.1 in
+    let holds : SlotHolds reach.memory k 2 one = (ring.each taken first (omega (arith, lap, less))).ready (omega arith) less one there.1 in
     let most = holds.is_frame.most in
     let desc_is : net_desc_of bytes ≡ frame_desc k (length one) =
     ap net_desc_of (bytes_are ∙ holds.desc) ∙ canonical_reads_back (frame_desc k (length one)) (has_widths one holds.is_frame k (omega (arith, below, few))) in

@@ -87,7 +87,7 @@ ring_finds s reach slots pages seen taken published frames reaches some both eno
     at_frame less =
         let before = ring.seen_first in
         let there = some_frame frames (taken - seen) (omega (arith, less, before, ring.held)) in
-        (there.0, (ring.each taken before (omega (arith, ring.turn, less))).ready (omega arith) less there.0 there.1)
+        (there.0, (ring.each taken before (omega (arith, ring.lap, less))).ready (omega arith) less there.0 there.1)
 
     gives : (one : List ℕ) → SlotHolds reach.memory k 2 one → (slice_index bytes 0 == ready_state) ≡ true → Finding taken published (fetched s reach k)
     gives one holds is_ready =

@@ -73,7 +73,7 @@ buffer_written slots k i piece memory fits below inside other small = record {
 twice_stays : (memory middle new : List ℕ) (slot : ℕ) → Stays memory middle slot → Stays middle new slot → Stays memory new slot
 twice_stays memory middle new slot one two = record { bytes = two.bytes ∙ one.bytes; buffer = λ n most. two.buffer n most ∙ one.buffer n most }
 
--- the other slots of one turn
+-- the other slots of one lap
 pub other_slot : (slots seen k j : ℕ) → seen ≤ k → k < seen + slots → seen ≤ j → j < seen + slots → j ≢ k → j % slots ≢ k % slots
 other_slot slots seen k j from until since before other = grind (arith, cases_lt, one_lap)
 
@@ -86,7 +86,7 @@ ring_cleared slots frames memory = record {
   seen_first = omega arith;
   taken_first = omega arith;
   held = omega arith;
-  turn = omega arith;
+  lap = omega arith;
   each = λ j since before. record {
     done = λ below frame get. absurd (omega (arith, below));
     ready = λ from below frame get. absurd (omega (arith, below));
@@ -109,7 +109,7 @@ ring_given slots seen taken published frames more memory ring =
       seen_first = ring.seen_first;
       taken_first = ring.taken_first;
       held = omega (arith, held, length-append frames more);
-      turn = ring.turn;
+      lap = ring.lap;
       each = λ j since before.
           let here = ring.each j since before in
           record {
@@ -133,7 +133,7 @@ ring_published slots seen taken published frames frame memory fits ring next is 
       seen_first = first;
       taken_first = omega (arith, last);
       held = omega (arith, slice_get_within frames (published - seen) frame next, first, last);
-      turn = omega (arith, room);
+      lap = omega (arith, room);
       each = λ j since before. at_slot j since before (cases_order j published);
     }
   where
@@ -213,12 +213,12 @@ pub one_freed : (slots seen taken published : ℕ) (frames : List (List ℕ)) (m
 one_freed slots seen taken published frames memory fits ring some =
     let held = ring.held in
     let last = ring.taken_first in
-    let turn = ring.turn in
+    let lap = ring.lap in
     record {
       seen_first = omega (arith, some);
       taken_first = last;
       held = omega (arith, held, some, last, length-drop 1 frames);
-      turn = omega (arith, turn);
+      lap = omega (arith, lap);
       each = λ j since before. at_slot j since before (cases_lt j (seen + slots));
     }
   where
@@ -226,7 +226,7 @@ one_freed slots seen taken published frames memory fits ring some =
     new = put_at (64 * (seen % slots)) (free_state ∷ []) memory
 
     some_slots : seen < seen + slots
-    some_slots = let last = ring.taken_first in let turn = ring.turn in omega (arith, some, last, turn)
+    some_slots = let last = ring.taken_first in let lap = ring.lap in omega (arith, some, last, lap)
 
     below : seen % slots < slots
     below = mod_below seen slots (omega (arith, some_slots))
@@ -278,7 +278,7 @@ all_freed : (slots seen taken published count : ℕ) (frames : List (List ℕ)) 
 all_freed slots seen taken published zero frames memory fits ring within = same_ring slots seen (seen + 0) taken published frames frames memory (omega arith) refl ring
 all_freed slots seen taken published (suc count) frames memory fits ring within =
     let some : seen < taken = omega (arith, within) in
-    let below : seen % slots < slots = mod_below seen slots (omega (arith, some, ring.taken_first, ring.turn)) in
+    let below : seen % slots < slots = mod_below seen slots (omega (arith, some, ring.taken_first, ring.lap)) in
     let new : List ℕ = put_at (64 * (seen % slots)) (free_state ∷ []) memory in
     same_ring slots (seen + 1 + count) (seen + suc count) taken published (drop count (drop 1 frames)) (drop (suc count) frames) (freed slots (seen + 1) count new) (omega arith)
     (drop-drop count 1 frames ∙ ap (λ (n : ℕ). drop n frames) (next count))
@@ -320,7 +320,7 @@ acked_taken slots seen taken published count frames memory ring within is =
     let never : taken < seen + count → seen + count ≤ taken = λ less.
     let first = ring.seen_first in
     let there = some_frame frames (taken - seen) (omega (arith, ring.held, first, less, within)) in
-    let here = ring.each taken first (omega (arith, less, within, ring.turn)) in
+    let here = ring.each taken first (omega (arith, less, within, ring.lap)) in
     let ready : slot_state (taken % slots) memory ≡ 2 = held_state memory (taken % slots) 2 there.0 (here.ready (omega arith) (omega (arith, less, within)) there.0 there.1) in
     let done : slot_state (taken % slots) memory ≡ 4 = each_done slots memory seen count is taken first less in
     absurd (omega (arith, ready, done)) in

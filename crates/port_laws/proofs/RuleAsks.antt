@@ -27,7 +27,7 @@ use Rattle.vio_tag.specs.declared.message.TagFault.{TagFault}
 use Rattle.vio_tag.specs.Decoding.{Decodes}
 use Rattle.vio_tag.specs.Form.{HasForm}
 use Rattle.vio_tag.specs.Spelling.{SpellsBody, SpellsMessage, envelope_code}
-use Rattle.channel_laws.specs.Messages.{end_of, ended_by, is_range, range_if, range_in}
+use Rattle.channel_laws.specs.Messages.{end_slot_of, ended_by, is_range, range_if, range_in}
 use Rattle.channel_laws.specs.Ranges.{is_other, wrapped}
 use Rattle.channel_laws.specs.Sayings.{count_heard, half_heard}
 use Rattle.channel_laws.specs.TranscriptLog.{transcript_of}
@@ -248,7 +248,7 @@ undone_here role s p memory sid slots turns packet v slot state same listening i
         let within : p.seen + count ≤ p.published = leb-true (p.seen + count) p.published (and_parts (nat_lt ack.end s.slots) (nat_le (p.seen + count) p.published) three.0).1 in
         let undone : FirstUndone s.slots memory p.seen count (the_cause.NotDone slot state) = first_in_order s.slots memory p.seen count (the_cause.NotDone slot state) three.1 in
         let range : range_of slots message ≡ count =
-        ap (λ (n : ℕ). range_length slots n (end_of message)) (sym fields.2) ∙ ap (λ (n : ℕ). range_length slots ack.start n) (sym fields.3) ∙ ap (λ (n : ℕ). range_length n ack.start ack.end) (sym same) in
+        ap (λ (n : ℕ). range_length slots n (end_slot_of message)) (sym fields.2) ∙ ap (λ (n : ℕ). range_length slots ack.start n) (sym fields.3) ∙ ap (λ (n : ℕ). range_length n ack.start ack.end) (sym same) in
         grind (arith, with_range, not_other)
 
 -- without a session no slot is looked at

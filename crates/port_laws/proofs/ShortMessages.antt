@@ -9,16 +9,16 @@ use Rattle.vio_tag.specs.Spelling.{addresses_at, canonical}
 use Rattle.port_model.specs.Groups.{membership, seven}
 use Rattle.port_model.specs.NetEndPutting.{announcement, answer, groups_answer}
 use Rattle.port_model.specs.NetEndState.{Activity, GroupsReply, NetEndState, NetSession}
-use Rattle.port_laws.specs.NetFits.{AreShort, ReplyFits}
+use Rattle.port_laws.specs.NetFits.{AddressesAreShort, ReplyFits}
 
 abbrev joined : List (List ℕ) → List ℕ
 joined addresses = flat_map (λ (address : List ℕ). address) addresses
 
-joined_long : (addresses : List (List ℕ)) → AreShort addresses → length (joined addresses) ≤ 6 * length addresses
+joined_long : (addresses : List (List ℕ)) → AddressesAreShort addresses → length (joined addresses) ≤ 6 * length addresses
 joined_long [] short = omega arith
 joined_long (address ∷ addresses) short = grind (arith, joined_long addresses short.1, short.0, length-append)
 
-seven_short : (n : ℕ) (groups : List (List ℕ)) → AreShort groups → AreShort (seven n groups)
+seven_short : (n : ℕ) (groups : List (List ℕ)) → AddressesAreShort groups → AddressesAreShort (seven n groups)
 seven_short zero groups short = tt
 seven_short (suc n) [] short = (omega arith, seven_short n [] tt)
 seven_short (suc n) (address ∷ groups) short = (short.0, seven_short n groups short.1)
@@ -29,7 +29,7 @@ seven_long (suc n) [] = let rest = seven_long n [] in omega arith
 seven_long (suc n) (address ∷ groups) = let rest = seven_long n groups in omega arith
 
 -- the addresses of a message
-pub read_short : (n at : ℕ) (bytes : List ℕ) → AreShort (addresses_at at n bytes)
+pub read_short : (n at : ℕ) (bytes : List ℕ) → AddressesAreShort (addresses_at at n bytes)
 read_short zero at bytes = tt
 read_short (suc n) at bytes = (omega (arith, length-take 6 (drop at bytes)), read_short n (at + 6) bytes)
 
@@ -37,11 +37,11 @@ pub read_long : (n at : ℕ) (bytes : List ℕ) → length (addresses_at at n by
 read_long zero at bytes = refl
 read_long (suc n) at bytes = let rest = read_long n (at + 6) bytes in omega arith
 
-pub groups_short : (sid set count : ℕ) (addresses : List (List ℕ)) (message : Message) → length addresses ≤ 7 → AreShort addresses
+pub groups_short : (sid set count : ℕ) (addresses : List (List ℕ)) (message : Message) → length addresses ≤ 7 → AddressesAreShort addresses
     → message.body ≡ Mcast set count addresses → length (canonical message) ≤ 56
 groups_short sid set count addresses message few short is = grind (arith, length_canonical, joined_long, length-append)
 
-pub membership_short : (sid : ℕ) (groups : List (List ℕ)) → AreShort groups → length (canonical (membership sid groups)) ≤ 56
+pub membership_short : (sid : ℕ) (groups : List (List ℕ)) → AddressesAreShort groups → length (canonical (membership sid groups)) ≤ 56
 membership_short sid groups short =
     let long = seven_long 7 groups in
     groups_short sid 1 (length groups) (seven 7 groups) (membership sid groups) (omega arith) (seven_short 7 groups short) refl

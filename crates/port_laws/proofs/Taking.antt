@@ -14,11 +14,11 @@ use Rattle.channel_laws.specs.EndStep.{HandshakeTakes, HearsOwn, IsOfSession, Is
 use Rattle.port_model.specs.NetEndState.{NetEndState, NetSession}
 use Rattle.port_model.specs.NetEndTaking.{GoesOn, NetTake, Resets, by_handshake, hears_message, in_session, opens_by_take, refused, sid_first, takes_done, takes_groups, takes_info, told}
 use Rattle.port_laws.specs.NetCore.{net_core}
-use Rattle.port_laws.specs.NetFits.{AreShort, NetFits, SessionFits}
+use Rattle.port_laws.specs.NetFits.{AddressesAreShort, NetFits, SessionFits}
 
 -- addresses of a message are short
 abbrev pub BodyFits : MsgBody → Type 0
-BodyFits (Mcast set count addresses) = (length addresses ≤ 7) × AreShort addresses
+BodyFits (Mcast set count addresses) = (length addresses ≤ 7) × AddressesAreShort addresses
 BodyFits _ = ⊤
 
 -- THE END that goes on from one behind a message
@@ -76,7 +76,7 @@ done_goes : (role : Role) (s : NetEndState) (message : Message) (p : NetSession)
 done_goes role s message p memory count fault given own = grind (arith, resets_own, goes_own, reply_fits)
 
 groups_goes : (s : NetEndState) (message : Message) (p : NetSession) (memory : List ℕ) (set count : ℕ) (addresses : List (List ℕ)) (groups : Option (List (List ℕ))) → OwnMessage s message p
-    → (length addresses ≤ 7) × AreShort addresses → TakeGoes Responder s message (takes_groups s p memory set count addresses groups)
+    → (length addresses ≤ 7) × AddressesAreShort addresses → TakeGoes Responder s message (takes_groups s p memory set count addresses groups)
 groups_goes s message p memory set count addresses groups own short = grind (arith, goes_own)
 
 told_goes : (role : Role) (s : NetEndState) (message : Message) (p : NetSession) (memory : List ℕ) → NetFits role s → OwnMessage s message p → TakeGoes role s message (told s p memory)

@@ -6,7 +6,7 @@ use Rattle.std.proofs.lemmas.List.{append-nil, append_cancel_left}
 use Rattle.std.proofs.lemmas.Nat.{mod_below}
 use Rattle.std.proofs.Math.Nat.{add-mod_right, mod-add-mod, mod-eq_of_lt, mod-mod}
 use Rattle.vio_tag.specs.Spelling.{envelope_at}
-use Rattle.channel_laws.specs.Messages.{end_of, start_of}
+use Rattle.channel_laws.specs.Messages.{end_slot_of, start_slot_of}
 use Rattle.channel_laws.specs.Ranges.{wrapped}
 use Rattle.dring.specs.Slots.{range_length}
 use Rattle.port_model.specs.EndLog.{SessionLog, heard_in, heard_kind, more_published, more_taken, range_of, said_in, said_kind}
@@ -124,7 +124,7 @@ span_of n s d some small =
           ap (λ (m : ℕ). m % n + 1) all ∙ ap (λ (m : ℕ). m + 1) (mod-eq_of_lt small)
     ]
 
-pub span : (n seen taken : ℕ) (message : List ℕ) → 1 ≤ n → seen < taken → taken ≤ seen + n → start_of message ≡ seen % n → end_of message ≡ (taken - 1) % n → seen + range_of n message ≡ taken
+pub span : (n seen taken : ℕ) (message : List ℕ) → 1 ≤ n → seen < taken → taken ≤ seen + n → start_slot_of message ≡ seen % n → end_slot_of message ≡ (taken - 1) % n → seen + range_of n message ≡ taken
 span n seen taken message some less turn start end =
     let last : taken - 1 ≡ seen + (taken - 1 - seen) = omega (arith, less) in
     let long : range_of n message ≡ taken - 1 - seen + 1 = grind (arith, span_of) in omega (arith, long, less)
@@ -246,7 +246,7 @@ takes_ack slots v w message rest infos one turn (Works asking asked busy answere
 takes_ack slots v w message rest infos one turn (Comes ack asking asked acked answered some none one_ack start end) =
     let same : message ≡ ack = cc one_ack in
     let last : rest ≡ [] = cc one_ack in
-    let seen : v.seen + range_of slots message ≡ w.taken = span slots v.seen w.taken message one some turn (ap start_of same ∙ start) (ap end_of same ∙ end) in
+    let seen : v.seen + range_of slots message ≡ w.taken = span slots v.seen w.taken message one some turn (ap start_slot_of same ∙ start) (ap end_slot_of same ∙ end) in
     Rests refl asked (acked ∙ asked) (answered ∙ sym seen) (sym seen) none last
 
 record OneHeard (slots : ℕ) (w now : SessionLog) (going rest : List (List ℕ)) : Type 0 where

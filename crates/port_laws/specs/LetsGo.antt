@@ -15,7 +15,7 @@ acks slots (DringData seq ident start end state) Ack = range_length slots start 
 acks slots _ _ = 0
 
 -- an end in a session whose counts stand in their order
-pub record InOrder (s : NetEndState) (p : NetSession) : Type 0 where
+pub record SessionInOrder (s : NetEndState) (p : NetSession) : Type 0 where
   pub session : s.session ≡ Some p
   pub opened : is_open_in s.handshake.phase ≡ true
   pub seen : p.seen ≤ p.published

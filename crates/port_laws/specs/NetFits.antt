@@ -4,18 +4,18 @@ use Rattle.ldc_link.specs.declared.phase.Role.{Role}
 use Rattle.ldc_link.specs.declared.phase.Role.TheVariants.{Initiator, Responder}
 use Rattle.port_model.specs.NetEndState.{GroupsReply, NetEndState, NetSession}
 
-abbrev pub AreShort : List (List ℕ) → Type 0
-AreShort [] = ⊤
-AreShort (address ∷ addresses) = (length address ≤ 6) × AreShort addresses
+abbrev pub AddressesAreShort : List (List ℕ) → Type 0
+AddressesAreShort [] = ⊤
+AddressesAreShort (address ∷ addresses) = (length address ≤ 6) × AddressesAreShort addresses
 
 -- a guest's own groups, and those in an answer that the switch's end owes
 abbrev pub GroupsFit : Role → List (List ℕ) → Type 0
-GroupsFit Initiator groups = AreShort groups
+GroupsFit Initiator groups = AddressesAreShort groups
 GroupsFit Responder groups = ⊤
 
 pub record ReplyFits (reply : GroupsReply) : Type 0 where
   pub few : length reply.addresses ≤ 7
-  pub short : AreShort reply.addresses
+  pub short : AddressesAreShort reply.addresses
 
 abbrev pub SomeFits : Option GroupsReply → Type 0
 SomeFits None = ⊤

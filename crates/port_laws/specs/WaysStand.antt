@@ -3,7 +3,7 @@
 -- way.
 use Rattle.std.specs.Prelude.{◌≡◌, ◌≢◌, ℕ, ◌+◌, ◌-◌, ◌%◌, ◌<◌, true, false, List, [], ◌∷◌, ◌++◌, Option, Some, None}
 use Rattle.ldc_queue.specs.declared.end.End.TheVariants.{A, B}
-use Rattle.channel_laws.specs.Messages.{end_of, seq_of, start_of}
+use Rattle.channel_laws.specs.Messages.{end_slot_of, seq_of, start_slot_of}
 use Rattle.channel_laws.specs.Ranges.{wrapped}
 use Rattle.channel_laws.specs.Sayings.{heard, said}
 use Rattle.channel_laws.specs.WireAt.{IsUp}
@@ -34,10 +34,10 @@ acks_in (message ∷ messages) = ack_first (spoken message) message (acks_in mes
 pub data Way (slots : ℕ) (v w : SessionLog) (infos acks : List (List ℕ)) : Type 0 where
   Rests : v.asking ≡ false → w.asked ≡ v.infos → w.acks ≡ v.infos → w.answered ≡ v.seen → w.taken ≡ v.seen → infos ≡ [] → acks ≡ [] → Way slots v w infos acks
   Goes : (info : List ℕ) → v.asking ≡ true → w.asked + 1 ≡ v.infos → w.acks ≡ w.asked → w.answered ≡ v.seen → w.taken ≡ v.seen → infos ≡ info ∷ [] → seq_of info ≡ wrapped v.infos
-      → start_of info ≡ v.seen % slots → end_of info ≡ 0xffffffff → acks ≡ [] → Way slots v w infos acks
+      → start_slot_of info ≡ v.seen % slots → end_slot_of info ≡ 0xffffffff → acks ≡ [] → Way slots v w infos acks
   Works : v.asking ≡ true → w.asked ≡ v.infos → w.asked ≡ w.acks + 1 → w.answered ≡ v.seen → infos ≡ [] → acks ≡ [] → Way slots v w infos acks
   Comes : (ack : List ℕ) → v.asking ≡ true → w.asked ≡ v.infos → w.acks ≡ w.asked → w.answered ≡ w.taken → v.seen < w.taken → infos ≡ [] → acks ≡ ack ∷ []
-      → start_of ack ≡ v.seen % slots → end_of ack ≡ (w.taken - 1) % slots → Way slots v w infos acks
+      → start_slot_of ack ≡ v.seen % slots → end_slot_of ack ≡ (w.taken - 1) % slots → Way slots v w infos acks
 
 -- a session that isn't open yet counts as one that opens
 abbrev pub or_new : Option SessionLog → SessionLog

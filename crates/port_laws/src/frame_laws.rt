@@ -9,14 +9,14 @@ ghost use Rattle.port_model.specs.EndLog.{acked_by};
 ghost use Rattle.port_model.specs.NetEndState.{NetEndState, NetSession};
 ghost use Rattle.port_model.specs.NetEndTaking.{hears_message};
 ghost use Rattle.port_model.specs.Spoken.{spoken};
-ghost use Rattle.port_laws.specs.LetsGo.{acks, InOrder, TakeLetsGo, TakeLetsNoneGo};
+ghost use Rattle.port_laws.specs.LetsGo.{acks, SessionInOrder, TakeLetsGo, TakeLetsNoneGo};
 
 /// A message that an end takes in session, and doesn't reset itself for, lets exactly those frames go that it
 /// acknowledges. That is so where it is an ACK of the ring, and else it lets none go; the session and the ids stay.
 /// Without a session no frame leaves, and one that opens begins with the first frame that is held. What a message
 /// acknowledges is the same by its fields and by its bytes, as the log counts it.
 pub fn an_ack_alone_lets_frames_go()
-    ensures in_session { (role : Role) (s : NetEndState) (p : NetSession) (memory : List ℕ) (message : Message) → InOrder s p
+    ensures in_session { (role : Role) (s : NetEndState) (p : NetSession) (memory : List ℕ) (message : Message) → SessionInOrder s p
         → TakeLetsGo s p (acks s.slots message.body message.subtype) (hears_message role s memory (Some p) message) }
     ensures without { (role : Role) (s : NetEndState) (memory : List ℕ) (message : Message) → s.session ≡ None
         → TakeLetsNoneGo s (hears_message role s memory None message) }

@@ -41,16 +41,16 @@ first_in_order slots memory number (suc count) cause is = by_test (slot_state (n
         → FirstUndone slots memory number (suc count) cause
     by_test true test here later =
         let rest = later here in
-        let same : number + 1 + rest.turn ≡ number + suc rest.turn = behind number rest.turn in
+        let same : number + 1 + rest.place ≡ number + suc rest.place = behind number rest.place in
         record {
-          turn = suc rest.turn;
+          place = suc rest.place;
           named = let below = rest.named in omega (arith, below);
-          done = earlier rest.turn rest.done;
+          done = earlier rest.place rest.done;
           undone = λ four. rest.undone (ap (λ (n : ℕ). slot_state (n % slots) memory) same ∙ four);
           cause_is = rest.cause_is ∙ ap (λ (n : ℕ). the_cause.NotDone (n % slots) (slot_state (n % slots) memory)) same;
         }
       where
-        earlier : (turn : ℕ) → ((j : ℕ) → j < turn → slot_state ((number + 1 + j) % slots) memory ≡ 4) → (j : ℕ) → j < suc turn → slot_state ((number + j) % slots) memory ≡ 4
-        earlier turn done zero below = at_front ∙ eqb-true (slot_state (number % slots) memory) 4 test
-        earlier turn done (suc j) below = ap (λ (n : ℕ). slot_state (n % slots) memory) (sym (behind number j)) ∙ done j (omega (arith, below))
+        earlier : (place : ℕ) → ((j : ℕ) → j < place → slot_state ((number + 1 + j) % slots) memory ≡ 4) → (j : ℕ) → j < suc place → slot_state ((number + j) % slots) memory ≡ 4
+        earlier place done zero below = at_front ∙ eqb-true (slot_state (number % slots) memory) 4 test
+        earlier place done (suc j) below = ap (λ (n : ℕ). slot_state (n % slots) memory) (sym (behind number j)) ∙ done j (omega (arith, below))
     by_test false test here later = grind (arith, of_some, true_false, front)

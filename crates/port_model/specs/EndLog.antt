@@ -1,6 +1,6 @@
 -- What happened to an end of a port: the frames that it was given, and its sessions, counted without bound.
 use Rattle.std.specs.Prelude.{ℕ, ◌+◌, ◌-◌, ◌%◌, Bool, true, false, List, [], ◌∷◌, ◌++◌, length, Option, Some, None}
-use Rattle.channel_laws.specs.Messages.{end_of, start_of, subtype_of}
+use Rattle.channel_laws.specs.Messages.{end_slot_of, start_slot_of, subtype_of}
 use Rattle.dring.specs.Slots.{range_length}
 use Rattle.port_model.specs.Groups.{groups_after}
 use Rattle.port_model.specs.Spoken.{GroupsAck, GroupsInfo, GroupsNack, Other, RangeAck, RangeInfo, Spoken, addresses_of, count_of, set_of, seven_of, spoken}
@@ -106,7 +106,7 @@ abbrev pub hears_groups : List ℕ → Option (List (List ℕ)) → SessionLog �
 hears_groups message behind s = record s { groups = list_after behind s.groups; owed = Some (answer_to message behind) }
 
 abbrev pub range_of : ℕ → List ℕ → ℕ
-range_of slots message = range_length slots (start_of message) (end_of message)
+range_of slots message = range_length slots (start_slot_of message) (end_slot_of message)
 
 abbrev pub heard_kind : ℕ → Spoken → List ℕ → SessionLog → SessionLog
 heard_kind slots RangeInfo message s = record s { asked = s.asked + 1 }

@@ -7,7 +7,7 @@ use Rattle.vio_tag.specs.declared.cause.Cause.{Cause}
 use Rattle.vio_tag.specs.declared.cause.Cause.TheVariants as the_cause
 use Rattle.vnet_msg.specs.Frames.{IsFrame, is_frame_length}
 use Rattle.channel_laws.specs.HandshakeOrder.{HandshakeOrder}
-use Rattle.channel_laws.specs.Messages.{end_of, ended_by, range_ended, range_in, seq_of, start_of}
+use Rattle.channel_laws.specs.Messages.{end_slot_of, ended_by, range_ended, range_in, seq_of, start_slot_of}
 use Rattle.channel_laws.specs.Ranges.{wrapped}
 use Rattle.channel_laws.specs.Sayings.{half_heard, half_said}
 use Rattle.channel_laws.specs.TranscriptLog.{TranscriptLog, hears, says, transcript_of}
@@ -105,8 +105,8 @@ LostAt l _ = ⊤
 -- there is one; it took an ACK since the one before. No ACK that it takes goes beyond what is published.
 pub record Announces (slots : ℕ) (s : SessionLog) (message : List ℕ) : Type 0 where
   pub next : seq_of message ≡ wrapped (s.infos + 1)
-  pub begins : start_of message ≡ s.seen % slots
-  pub no_end : end_of message ≡ 0xffffffff
+  pub begins : start_slot_of message ≡ s.seen % slots
+  pub no_end : end_slot_of message ≡ 0xffffffff
   pub state : state_of message ≡ 1
   pub answered : s.asking ≡ false
   pub some : s.seen < s.published
@@ -130,8 +130,8 @@ SeesAt l _ = ⊤
 -- ring; it answered the one before.
 pub record Asks (slots : ℕ) (s : SessionLog) (message : List ℕ) : Type 0 where
   pub next : seq_of message ≡ wrapped (s.asked + 1)
-  pub begins : start_of message ≡ s.taken % slots
-  pub ends : (end_of message ≡ 0xffffffff) ⊎ (end_of message < slots)
+  pub begins : start_slot_of message ≡ s.taken % slots
+  pub ends : (end_slot_of message ≡ 0xffffffff) ⊎ (end_slot_of message < slots)
   pub rests : s.asked ≡ s.acks
 
 abbrev pub AsksAt : PortLog → PortEvent → Type 0
@@ -152,8 +152,8 @@ TakingAt l _ = ⊤
 pub record Acknowledges (slots : ℕ) (s : SessionLog) (message : List ℕ) : Type 0 where
   pub seq : seq_of message ≡ wrapped s.asked
   pub state : state_of message ≡ 2
-  pub begins : start_of message ≡ s.answered % slots
-  pub ends : end_of message ≡ (s.taken - 1) % slots
+  pub begins : start_slot_of message ≡ s.answered % slots
+  pub ends : end_slot_of message ≡ (s.taken - 1) % slots
   pub some : s.answered < s.taken
 
 abbrev pub AcknowledgesAt : PortLog → PortEvent → Type 0
@@ -182,11 +182,11 @@ OwnResetAt l _ = ⊤
 -- An ACK for which an end resets itself begins at its first frame that isn't acknowledged and goes no further than what is
 -- published. It names the slot, which isn't DONE, by its place in that range.
 pub record NamesUndone (slots slot state : ℕ) (s : SessionLog) (message : List ℕ) : Type 0 where
-  pub begins : start_of message ≡ s.seen % slots
+  pub begins : start_slot_of message ≡ s.seen % slots
   pub within : s.seen + range_of slots message ≤ s.published
-  pub turn : ℕ
-  pub named : turn < range_of slots message
-  pub slot_is : slot ≡ (s.seen + turn) % slots
+  pub place : ℕ
+  pub named : place < range_of slots message
+  pub slot_is : slot ≡ (s.seen + place) % slots
   pub state_is : state ≢ done_state
 
 abbrev pub SomeMessage : Option (List ℕ) → (List ℕ → Type 0) → Type 0

@@ -7,8 +7,8 @@ use Rattle.port_model.specs.NetEndTaking.{slot_state}
 
 -- in a ring of so many slots, from a number on: all before it are DONE, and the cause names it with its state
 pub record FirstUndone (slots : ℕ) (memory : List ℕ) (number count : ℕ) (cause : Cause) : Type 0 where
-  pub turn : ℕ
-  pub named : turn < count
-  pub done : (j : ℕ) → j < turn → slot_state ((number + j) % slots) memory ≡ done_state
-  pub undone : slot_state ((number + turn) % slots) memory ≢ done_state
-  pub cause_is : cause ≡ the_cause.NotDone ((number + turn) % slots) (slot_state ((number + turn) % slots) memory)
+  pub place : ℕ
+  pub named : place < count
+  pub done : (j : ℕ) → j < place → slot_state ((number + j) % slots) memory ≡ done_state
+  pub undone : slot_state ((number + place) % slots) memory ≢ done_state
+  pub cause_is : cause ≡ the_cause.NotDone ((number + place) % slots) (slot_state ((number + place) % slots) memory)

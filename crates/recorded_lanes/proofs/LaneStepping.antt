@@ -16,8 +16,8 @@ use Rattle.world_parts.specs.lane_laws.CalmEnds.{IsStep}
 use Rattle.world_parts.specs.world_laws.World.{LaneMoves}
 use Rattle.ldc_queue.specs.declared.end.End.TheVariants.{A, B}
 use Rattle.ldom_entries.specs.JournalState.{JournalState}
-use Rattle.recorded_lanes.specs.Fitting.{HasRoomFor}
-use Rattle.recorded_lanes.specs.OneLane.{LaneSteps, Leaves}
+use Rattle.recorded_lanes.specs.Fitting.{FitsRoom}
+use Rattle.recorded_lanes.specs.OneLane.{LaneSteps, LeavesEntry}
 use Rattle.disk_lane.specs.vdisk_client.Calls.{client_event, front_count}
 use Rattle.disk_lane.specs.vdisk_client.declared.answers.ClientOut.{ClientOut}
 use Rattle.disk_lane.specs.vdisk_client.declared.answers.ClientOut.TheVariants as client_out
@@ -44,7 +44,7 @@ client_moves answer last s t i step = (step, refl)
 
 pub client_steps : (in_settle : Bool) (k : ℕ) (answer : ClientOut) (last : List ℕ) (s t : LaneState)
     (old new : JournalState) (calm : Bool) (i : ImageState) → LaneStep s (client_event answer last) t
-    → ResetsOwn answer → Leaves in_settle k (client_event answer last) old calm new
+    → ResetsOwn answer → LeavesEntry in_settle k (client_event answer last) old calm new
     → LaneSteps in_settle k A s i old calm new t i
 client_steps in_settle k answer last s t old new calm i step own leaves = record {
   event = client_event answer last;
@@ -67,7 +67,7 @@ buffer_few : (slots slot count : ℕ) (memory : List ℕ) → length (buffer_of 
 buffer_few slots slot count memory = omega (arith, length-take count (drop (buffer_place slots slot) memory))
 
 pub completion_fits : (answer : ClientOut) (last : List ℕ) (s t : LaneState) (room : ℕ)
-    → LaneStep s (client_event answer last) t → front_count s.client.pending ≤ room → HasRoomFor answer last room
+    → LaneStep s (client_event answer last) t → front_count s.client.pending ≤ room → FitsRoom answer last room
 completion_fits (client_out.Done id operation status len) last s t room step enough =
     let done = step.step in
     let slot = completed_slot s.client done.session in
@@ -138,7 +138,7 @@ module _ (s t : LaneState) where
 
     pub server_steps : (in_settle : Bool) (k : ℕ) (answer : Option ServerOut) (before after : JournalState) (calm : Bool)
         → Served s (g.content old) (served_event answer) t (g.content new) → StoreAfterOf g answer old new
-        → Leaves in_settle k (served_event answer) before calm after
+        → LeavesEntry in_settle k (served_event answer) before calm after
         → LaneSteps in_settle k B s (image old) before calm after t (image new)
     server_steps in_settle k answer before after calm served stored leaves = record {
       event = served_event answer;

@@ -9,7 +9,7 @@ use Rattle.world_parts.specs.domain_laws.Lines.{Line}
 use Rattle.ldom_entries.specs.JournalState.{JournalState, PutsEntry}
 use Rattle.world_parts.specs.WorldEvents.{world_event}
 use Rattle.ldom_entries.specs.declared.entry.Entry.{Entry}
-use Rattle.recorded_lanes.specs.OneLane.{Leaves, RecordedBut, Records}
+use Rattle.recorded_lanes.specs.OneLane.{LeavesEntry, RecordedBut, Records}
 use Rattle.recorded_lanes.specs.Resting.{client_blocked, client_rests, left_out, server_blocked, server_rests}
 use Rattle.world_parts.specs.world_laws.Issued.{next_behind}
 use Rattle.disk_lane.specs.vdisk_client.Calls.{client_event}
@@ -64,7 +64,7 @@ second_of false b both = absurd (cc both)
 
 module _ (in_settle : Bool) (k : ℕ) (event : DiskEvent) (s t : JournalState) (rests blocked : Bool)
     (out_is : left_out event ≡ rests) (calm_is : is_calm event ≡ (rests || blocked)) where
-  pub leaves_none : (in_settle && rests) ≡ true → t ≡ s → Leaves in_settle k event s true t
+  pub leaves_none : (in_settle && rests) ≡ true → t ≡ s → LeavesEntry in_settle k event s true t
   leaves_none out same = record {
     calm_is = sym (calm_is ∙ ap (λ (b : Bool). b || blocked) (second_of in_settle rests out));
     recorded = subst (λ (b : Bool). RecordedBut b k event s t)
@@ -72,7 +72,7 @@ module _ (in_settle : Bool) (k : ℕ) (event : DiskEvent) (s t : JournalState) (
   }
 
   pub leaves_entry : (calm : Bool) → (in_settle && rests) ≡ false → calm ≡ (rests || blocked) → Records k event s t
-      → Leaves in_settle k event s calm t
+      → LeavesEntry in_settle k event s calm t
   leaves_entry calm told is entry_put = record {
     calm_is = is ∙ sym calm_is;
     recorded = subst (λ (b : Bool). RecordedBut b k event s t)
@@ -85,13 +85,13 @@ module _ (in_settle : Bool) (k : ℕ) (answer : ClientOut) (last : List ℕ) (s 
   client_is_calm = client_calm answer last ∙ ap (λ (b : Bool). b || client_blocked answer) (sym is)
 
   pub client_leaves_none : (in_settle && rests) ≡ true → t ≡ s
-      → Leaves in_settle k (client_event answer last) s true t
+      → LeavesEntry in_settle k (client_event answer last) s true t
   client_leaves_none out same =
       leaves_none in_settle k (client_event answer last) s t rests (client_blocked answer)
       (client_left_out answer last ∙ sym is) client_is_calm out same
 
   pub client_leaves_entry : (calm : Bool) → (in_settle && rests) ≡ false → calm ≡ (rests || client_blocked answer)
-      → Records k (client_event answer last) s t → Leaves in_settle k (client_event answer last) s calm t
+      → Records k (client_event answer last) s t → LeavesEntry in_settle k (client_event answer last) s calm t
   client_leaves_entry calm told calm_is put =
       leaves_entry in_settle k (client_event answer last) s t rests (client_blocked answer)
       (client_left_out answer last ∙ sym is) client_is_calm calm told calm_is put
@@ -101,24 +101,24 @@ module _ (in_settle : Bool) (k : ℕ) (answer : ServerOut) (s t : JournalState) 
   server_is_calm : is_calm (server_event answer) ≡ (rests || server_blocked answer)
   server_is_calm = server_calm answer ∙ ap (λ (b : Bool). b || server_blocked answer) (sym is)
 
-  pub server_leaves_none : (in_settle && rests) ≡ true → t ≡ s → Leaves in_settle k (server_event answer) s true t
+  pub server_leaves_none : (in_settle && rests) ≡ true → t ≡ s → LeavesEntry in_settle k (server_event answer) s true t
   server_leaves_none out same =
       leaves_none in_settle k (server_event answer) s t rests (server_blocked answer)
       (server_left_out answer ∙ sym is) server_is_calm out same
 
   pub server_leaves_entry : (calm : Bool) → (in_settle && rests) ≡ false → calm ≡ (rests || server_blocked answer)
-      → Records k (server_event answer) s t → Leaves in_settle k (server_event answer) s calm t
+      → Records k (server_event answer) s t → LeavesEntry in_settle k (server_event answer) s calm t
   server_leaves_entry calm told calm_is put =
       leaves_entry in_settle k (server_event answer) s t rests (server_blocked answer)
       (server_left_out answer ∙ sym is) server_is_calm calm told calm_is put
 
 -- BY A STOPPED SERVER, of which a settle leaves nothing
 pub off_leaves_none : (in_settle : Bool) (k : ℕ) (s t : JournalState) → in_settle ≡ true → t ≡ s
-    → Leaves in_settle k (Switches Off) s true t
+    → LeavesEntry in_settle k (Switches Off) s true t
 off_leaves_none true k s t is same = record { calm_is = refl; recorded = same }
 off_leaves_none false k s t is same = absurd (cc is)
 
 pub off_leaves_entry : (in_settle : Bool) (k : ℕ) (s t : JournalState) → in_settle ≡ false → Records k (Switches Off) s t
-    → Leaves in_settle k (Switches Off) s true t
+    → LeavesEntry in_settle k (Switches Off) s true t
 off_leaves_entry true k s t is put = absurd (cc is)
 off_leaves_entry false k s t is put = record { calm_is = refl; recorded = put }

@@ -4,6 +4,6 @@ use Rattle.disk_lane.specs.vdisk_client.declared.answers.ClientOut.{ClientOut}
 use Rattle.disk_lane.specs.vdisk_client.declared.answers.ClientOut.TheVariants as out
 
 -- what a completion carries has this room; no other answer carries anything
-abbrev pub HasRoomFor : ClientOut → List ℕ → ℕ → Type 0
-HasRoomFor (out.Done id operation status len) last room = length last ≤ room
-HasRoomFor _ last room = ⊤
+abbrev pub FitsRoom : ClientOut → List ℕ → ℕ → Type 0
+FitsRoom (out.Done id operation status len) last room = length last ≤ room
+FitsRoom _ last room = ⊤

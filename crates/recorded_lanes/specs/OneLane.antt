@@ -41,7 +41,7 @@ RecordedBut true k event s t = t ≡ s
 RecordedBut false k event s t = Records k event s t
 
 -- WHAT A STEP LEAVES in the journal, in a settle or not: there one that rests is left out; and whether it was calm
-pub record Leaves (in_settle : Bool) (k : ℕ) (event : DiskEvent) (s : JournalState) (calm : Bool)
+pub record LeavesEntry (in_settle : Bool) (k : ℕ) (event : DiskEvent) (s : JournalState) (calm : Bool)
     (t : JournalState) : Type 0 where
   pub calm_is : calm ≡ is_calm event
   pub recorded : RecordedBut (in_settle && left_out event) k event s t
@@ -52,7 +52,7 @@ pub record LaneSteps (in_settle : Bool) (k : ℕ) (e : End) (s : LaneState) (i :
   pub event : DiskEvent
   pub of_end : IsStep e event
   pub moves : LaneMoves s i event t j
-  pub leaves : Leaves in_settle k event old calm new
+  pub leaves : LeavesEntry in_settle k event old calm new
 
 -- the same of a lane of a world
 pub record EndSteps (in_settle : Bool) (k : ℕ) (e : End) (w : WorldState) (old : JournalState) (calm : Bool)
@@ -60,4 +60,4 @@ pub record EndSteps (in_settle : Bool) (k : ℕ) (e : End) (w : WorldState) (old
   pub event : DiskEvent
   pub of_end : IsStep e event
   pub moves : OneMoves w k event v
-  pub leaves : Leaves in_settle k event old calm new
+  pub leaves : LeavesEntry in_settle k event old calm new

@@ -7,8 +7,8 @@ ghost use Rattle.domain_script.specs.declared.event.Side.TheVariants.{Client, Se
 ghost use Rattle.domain_script.specs.LaneKinds.{disk_lane};
 ghost use Rattle.ldom_report.specs.LaneEvents.{end_of};
 ghost use Rattle.recorded_lanes.specs.Called.{disk_end};
-ghost use Rattle.recorded_lanes.specs.Fitting.{HasRoomFor};
-ghost use Rattle.recorded_lanes.specs.OneLane.{Leaves, Records};
+ghost use Rattle.recorded_lanes.specs.Fitting.{FitsRoom};
+ghost use Rattle.recorded_lanes.specs.OneLane.{LeavesEntry, Records};
 ghost use Rattle.recorded_lanes.specs.Resting.{client_blocked, client_rests, server_blocked, server_rests};
 ghost use Rattle.disk_lane.specs.vdisk_client.Calls.{client_event};
 ghost use Rattle.disk_lane.specs.Answering.{server_event};
@@ -68,9 +68,9 @@ pub fn leave_client(
     journal: &mut Journal,
 ) -> bool
     requires ready { 0 < journal.old.room }
-    requires room { HasRoomFor out.now lane.now.client.last room.old.room }
+    requires room { FitsRoom out.now lane.now.client.last room.old.room }
     requires empty { room.old.items ≡ [] }
-    ensures leaves { Leaves in_settle disk (client_event out.now lane.now.client.last) journal.old result journal.new }
+    ensures leaves { LeavesEntry in_settle disk (client_event out.now lane.now.client.last) journal.old result journal.new }
     ensures empty { room.new.items ≡ [] }
 {
     let rests = client_rests(out);
@@ -108,7 +108,7 @@ fn record_client(
     journal: &mut Journal,
 )
     requires ready { 0 < journal.old.room }
-    requires room { HasRoomFor out.now lane.now.client.last room.old.room }
+    requires room { FitsRoom out.now lane.now.client.last room.old.room }
     requires empty { room.old.items ≡ [] }
     ensures records { Records disk (client_event out.now lane.now.client.last) journal.old journal.new }
     ensures empty { room.new.items ≡ [] }
@@ -159,7 +159,7 @@ pub fn leave_server(
     journal: &mut Journal,
 ) -> bool
     requires ready { 0 < journal.old.room }
-    ensures leaves { Leaves in_settle disk (served_event (answered runs out.now)) journal.old result journal.new }
+    ensures leaves { LeavesEntry in_settle disk (served_event (answered runs out.now)) journal.old result journal.new }
 {
     if runs {
         leave_answer(disk, out, in_settle, journal)
@@ -173,7 +173,7 @@ pub fn leave_server(
 #[tactic(auto, using(crate::proofs::Leaving::off_leaves_none, crate::proofs::Leaving::off_leaves_entry))]
 fn leave_off(disk: u32, in_settle: bool, journal: &mut Journal)
     requires ready { 0 < journal.old.room }
-    ensures leaves { Leaves in_settle disk (Switches Off) journal.old true journal.new }
+    ensures leaves { LeavesEntry in_settle disk (Switches Off) journal.old true journal.new }
 {
     if !in_settle {
         journal.push_off(server_of(disk));
@@ -184,7 +184,7 @@ fn leave_off(disk: u32, in_settle: bool, journal: &mut Journal)
 #[tactic(auto, using(crate::proofs::Leaving::server_leaves_none, crate::proofs::Leaving::server_leaves_entry))]
 fn leave_answer(disk: u32, out: &ServerOut, in_settle: bool, journal: &mut Journal) -> bool
     requires ready { 0 < journal.old.room }
-    ensures leaves { Leaves in_settle disk (server_event out.now) journal.old result journal.new }
+    ensures leaves { LeavesEntry in_settle disk (server_event out.now) journal.old result journal.new }
 {
     let rests = server_rests(out);
     if in_settle && rests {

@@ -18,7 +18,7 @@ use Rattle.ldom_report.specs.declared.status.Status.{Status}
 use Rattle.ldom_report.specs.declared.status.Status.TheVariants as status
 use Rattle.domain_script.specs.ScriptLines.{AreShort}
 use Rattle.script_laws.specs.Behind.{StandsBehind}
-use Rattle.script_laws.specs.Clean.{EndsClean, IsCleanScript, IsFull, NeverFails, StandsStill}
+use Rattle.script_laws.specs.Clean.{EndsClean, IsCleanScript, IsFullJournal, NeverFails, StandsStill}
 use Rattle.script_laws.specs.Outcomes.{Reports}
 use Rattle.ldom_report.specs.LinesEnd.{IsPast}
 use Rattle.script_laws.specs.Reading.{IsFaulty}
@@ -120,7 +120,7 @@ module _ {D : Type 0} (seen : D → ImageState) (script behind : Option (List �
       absurd (no_fault bytes no_names names clean.names replayed.stopped.left left read.texts faulty.text (events_of replayed.parts) clean.events clean.spelled read.taken.taken faulty.taken read.spell fault faulty.first)
   by_ran (status.Limit at Lines) ended is replayed = absurd (never_past at Lines replayed replayed.stopped.stop.0.1)
   by_ran (status.Limit at Bytes) ended is replayed = absurd (never_past at Bytes replayed replayed.stopped.stop.0.1)
-  by_ran (status.Limit at Entries) ended is replayed = inr (inr (subst (λ (w : Status). IsFull w journal) (sym is) replayed.stopped.stop.0.2))
+  by_ran (status.Limit at Entries) ended is replayed = inr (inr (subst (λ (w : Status). IsFullJournal w journal) (sym is) replayed.stopped.stop.0.2))
 
   not_sink : ran ≡ status.SinkFault → ⊥
   not_sink is = (subst (λ (w : Status). Replayed seen script behind gives w lines names journal image lanes) is run).stopped.stop.0

@@ -17,7 +17,7 @@ use Rattle.world_parts.proofs.world_laws.Moving.{happened_both}
 use Rattle.world_parts.specs.world_laws.Along.{happened}
 use Rattle.world_parts.specs.world_laws.Settle.{SettleEntry}
 use Rattle.script_laws.proofs.Hearing.{hears_a_front}
-use Rattle.script_laws.specs.Lanes.{Moment, StandsAt, StandsUnforged}
+use Rattle.script_laws.specs.Lanes.{LaneMoment, StandsAt, StandsUnforged}
 
 -- AFTER EVENTS of a lane
 stands_unforged : (shape : Shape) (events : List DiskEvent) (s : LaneState) → IsShape shape
@@ -48,7 +48,7 @@ stands_at shape events s sound run = record {
 
 -- BEHIND A FRONT
 pub moment : (shape : Shape) (x : ℕ) (before behind : List SettleEntry) (last : LaneState) → IsShape shape
-    → Run LaneStep (fresh shape) (happened x (before ++ behind)) last → Moment shape x before behind last
+    → Run LaneStep (fresh shape) (happened x (before ++ behind)) last → LaneMoment shape x before behind last
 moment shape x before behind last sound run =
     let front : List DiskEvent = happened x before in
     let rest : List DiskEvent = happened x behind in

@@ -18,7 +18,7 @@ use Rattle.lane_kinds.specs.Both.{AllRound as OneRound, AllTicks, FrontBehind, F
 use Rattle.lane_kinds.specs.Fronts.{SettleFront}
 use Rattle.lane_kinds.specs.LaneFronts.{RoundFront, TickFront, fronts_of}
 use Rattle.lane_kinds.specs.Lanes.{AllMove, CalmTurn, Calmly, are_still}
-use Rattle.lane_kinds.specs.Laws.{Ends, FrontsLead, FrontsLeadWhere, Keeps, Leads, LeadsWhere}
+use Rattle.lane_kinds.specs.Laws.{AnswersLead, FrontsLead, FrontsLeadWhere, Keeps, Leads, LeadsWhere}
 use Rattle.lane_kinds.specs.Settles.{GoesOn, SettlePart, Settles, begin, entries_of_rounds}
 use Rattle.world_parts.specs.port_model.NetEvent.{Ticked}
 use Rattle.world_parts.specs.port_model.PortState.{OnLane, PortState}
@@ -53,7 +53,7 @@ skips = lanes_skip SwitchStep port_said disk_kind disk_entries (λ j k event. re
 ports_lead : Leads lanes (OnSecond PortsMove)
 ports_lead = second_leads disks switch PortsMove own_leads skips
 
-ports_end : Ends lanes (OnSecond PortsMove)
+ports_end : AnswersLead lanes (OnSecond PortsMove)
 ports_end = second_ends disks switch PortsMove own_leads skips (lanes_end ports port_entries port_said port_reads silence) refl
 
 ports_begin : FrontsLead lanes fronts (OnSecond PortsMove)
@@ -243,7 +243,7 @@ named_none r w part more is =
     (of_both NoTick (disks.names r.first w.first) (switch.names r.second w.second)
     (names_each disk_kind disk_entries NoTick (λ k. tt) 0 r.first w.first) (names_each ports port_entries NoTick (λ k. tt) 0 r.second w.second)))
 
-stretch_ends : Ends lanes Stretch
+stretch_ends : AnswersLead lanes Stretch
 stretch_ends = record {
   answer = λ w. record { moves = ports_end.answer w; stand = none_stand w.second (Settled ∷ []) (tt, tt) };
   names = λ r w part more is. record {

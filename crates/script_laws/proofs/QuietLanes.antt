@@ -10,14 +10,14 @@ use Rattle.script_laws.specs.Quiet.{AreQuiet, IsQuiet}
 use Rattle.world_parts.specs.Declared.{shape_of}
 use Rattle.world_parts.specs.Lines.{line_of}
 use Rattle.world_parts.specs.domain_laws.Quiet as quiet_world
-use Rattle.world_parts.specs.world_laws.Quiet.{IsFront}
+use Rattle.world_parts.specs.world_laws.Quiet.{IsAtFront}
 
 -- THE DISK begins its image
 pub disk_shape : (disk : DiskDecl) → IsDisk disk → IsShape (shape_of 0 disk)
 disk_shape disk is = grind arith
 
 pub disk_front : (disk : DiskDecl) (image : ImageState) (content : List ℕ) → IsDisk disk → image.told ≡ Some content
-    → 512 * disk.blocks ≤ length content → image.faults ≡ 0 → IsFront (shape_of 0 disk) image content
+    → 512 * disk.blocks ≤ length content → image.faults ≡ 0 → IsAtFront (shape_of 0 disk) image content
 disk_front disk image content is told holds well = grind (arith, disk_shape)
 
 -- ITS LINES are quiet lines of a lane

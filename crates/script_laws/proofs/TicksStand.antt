@@ -19,7 +19,7 @@ use Rattle.lane_kinds.proofs.Moving.{none_both}
 use Rattle.lane_kinds.specs.Lanes.{OwnTurns}
 use Rattle.lane_kinds.proofs.Leading as kind
 use Rattle.lane_kinds.proofs.Sums.{and_left, and_right}
-use Rattle.lane_kinds.specs.Laws.{Ends, FrontsLeadWhere, Keeps, LeadsWhere}
+use Rattle.lane_kinds.specs.Laws.{AnswersLead, FrontsLeadWhere, Keeps, LeadsWhere}
 use Rattle.lane_kinds.proofs.EntriesEach.{first_each}
 use Rattle.lane_kinds.proofs.EntryRuns.{names_each}
 use Rattle.lane_kinds.proofs.FirstKept.{first_ends_where, first_fronts_where, first_leads_where, kept_both}
@@ -344,7 +344,7 @@ named_none r w part more is =
     first_each NoTick part more
     (each_as NoTick (part ++ more) (left_over 0 r w) is (names_each disk_kind disk_entries NoTick (λ k. tt) 0 r w))
 
-stretch_ends : Ends disks Stretch
+stretch_ends : AnswersLead disks Stretch
 stretch_ends = record {
   answer = λ w. record { moves = settled_moves w; stand = none_stand w (Settled ∷ []) (tt, tt) };
   names = λ r w part more is. record {
@@ -385,7 +385,7 @@ AllStretch w part v = Stretch w.first (of_disks part) v.first
 all_stretches : LeadsWhere lanes AllReached AllStretch
 all_stretches = first_leads_where disk_kind disk_entries ports port_entries is_of_disks disks_told Reached Stretch stretches
 
-all_ends : Ends lanes AllStretch
+all_ends : AnswersLead lanes AllStretch
 all_ends = first_ends_where disk_kind disk_entries ports port_entries is_of_disks disks_told Reached Stretch stretches stretch_ends
 
 all_begin : FrontsLeadWhere lanes all_fronts AllReached AllStretch

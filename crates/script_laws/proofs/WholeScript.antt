@@ -21,7 +21,7 @@ use Rattle.script_laws.specs.PlainRun.{one_disk, plain_text}
 use Rattle.script_laws.specs.Quiet.{IsQuiet, IsQuietScript}
 use Rattle.script_laws.proofs.PlainLaw.{PlainLaw, plain_law}
 use Rattle.script_laws.proofs.QuietNames.{quiet_names}
-use Rattle.script_laws.specs.Counts.{Counts}
+use Rattle.script_laws.specs.Counts.{FaultCounts}
 use Rattle.script_laws.specs.Outcomes.{Reports, RunsScript}
 use Rattle.script_laws.specs.Reading.{StopsAt}
 use Rattle.script_laws.specs.Replayed.{FaultsAre, Replayed}
@@ -98,7 +98,7 @@ left_so seen None i left is same = absurd is
 left_so seen (Some d) i left is same = is.told ∙ same
 
 -- A QUIET SCRIPT, over an image that tells its bytes
-module _ {D : Type 0} (seen : D → ImageState) (size : D → ℕ) (script now : Option (List ℕ)) (gives : ℕ → Option (List ℕ)) (why ended : Status) (journal : List Entry) (image : Option D) (lanes : Option Lanes) (old new : Option (List ℕ)) (before after : Counts)
+module _ {D : Type 0} (seen : D → ImageState) (size : D → ℕ) (script now : Option (List ℕ)) (gives : ℕ → Option (List ℕ)) (why ended : Status) (journal : List Entry) (image : Option D) (lanes : Option Lanes) (old new : Option (List ℕ)) (before after : FaultCounts)
     (runs : RunsScript mode.Run (record { gives = gives; seen = seen; size = size }) (record { left = script; written = old; failed = before }) (record { left = now; written = new; failed = after }) (record { status = why; ran = ended; journal = journal; image = image; lanes = lanes })) (bytes : List ℕ) (events : List Event) (known : script ≡ Some bytes) (done : why ≡ status.Done) (disk : DiskDecl) (given : List ℕ) (quiet : IsQuietScript bytes disk events)
     (gave : gives (512 * disk.blocks) ≡ Some given) where
   abbrev parts : ScriptParts

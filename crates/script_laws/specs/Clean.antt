@@ -30,10 +30,10 @@ abbrev pub NeverFails : {A : Type 0} → (A → ℕ) → Type 0
 NeverFails {A} faults = (x : A) → faults x ≡ 0
 
 -- a line was not taken up, as the journal has too many entries
-abbrev pub IsFull : Status → List Entry → Type 0
-IsFull (status.Limit at Entries) journal = most_entries ≤ length journal
-IsFull other journal = ⊥
+abbrev pub IsFullJournal : Status → List Entry → Type 0
+IsFullJournal (status.Limit at Entries) journal = most_entries ≤ length journal
+IsFullJournal other journal = ⊥
 
 -- how a clean script's run ends: at its end, for want of memory, or where its journal is full
 abbrev pub EndsClean : Status → List Entry → Type 0
-EndsClean why journal = (why ≡ status.Done) ⊎ ((why ≡ status.NoMemory) ⊎ IsFull why journal)
+EndsClean why journal = (why ≡ status.Done) ⊎ ((why ≡ status.NoMemory) ⊎ IsFullJournal why journal)

@@ -52,7 +52,7 @@ pub record StandsAt (s : LaneState) (l : DiskLog) : Type 0 where
   pub unforged : l.wire.forged ≡ false → StandsUnforged s l
 
 -- BEHIND A FRONT of the entries a lane came to a state, from which what is left of them led to the last one
-pub record Moment (shape : Shape) (x : ℕ) (before behind : List SettleEntry) (last : LaneState) : Type 0 where
+pub record LaneMoment (shape : Shape) (x : ℕ) (before behind : List SettleEntry) (last : LaneState) : Type 0 where
   pub state : LaneState
   pub reached : Run LaneStep (fresh shape) (happened x before) state
   pub leads : Run LaneStep state (happened x behind) last
@@ -64,5 +64,5 @@ pub record Moment (shape : Shape) (x : ℕ) (before behind : List SettleEntry) (
 pub record LaneStands (shape : Shape) (x : ℕ) (entries : List SettleEntry) (s : LaneState) : Type 0 where
   pub lawful : IsLawful shape (happened x entries)
   pub now : StandsAt s (log_at shape x entries)
-  pub always : (before behind : List SettleEntry) → entries ≡ before ++ behind → Moment shape x before behind s
+  pub always : (before behind : List SettleEntry) → entries ≡ before ++ behind → LaneMoment shape x before behind s
   pub forged : (s.wire.forged ≡ false) ↔ NobodyForges (happened x entries)

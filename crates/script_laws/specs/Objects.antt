@@ -5,14 +5,14 @@ use Rattle.vio_io.specs.declared.store.Store.{Ghosts}
 use Rattle.disk_law.specs.ListState.{ImageState, as_image}
 use Rattle.ldom_entries.specs.declared.entry.Entry.{Entry}
 use Rattle.ldom_report.specs.declared.status.Status.{Status}
-use Rattle.script_laws.specs.Counts.{Counts, counts}
+use Rattle.script_laws.specs.Counts.{FaultCounts, counts}
 
 -- At one moment: the bytes that the source has left and those that the sink was given, where they tell them, and how
 -- often each of them and the host failed.
 pub record Tells : Type 0 where
   pub left : Option (List ℕ)
   pub written : Option (List ℕ)
-  pub failed : Counts
+  pub failed : FaultCounts
 
 abbrev pub tells : Option (List ℕ) → Option (List ℕ) → ℕ → ℕ → ℕ → Tells
 tells left written source host sink = record { left = left; written = written; failed = counts source host sink }

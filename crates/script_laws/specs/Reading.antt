@@ -65,11 +65,11 @@ HasReason status.Usage rest left held names count entries = ⊥
 HasReason status.SinkFault rest left held names count entries = ⊥
 
 -- WHAT IS LEFT: a line with a fault, or one that begins with too many entries, was taken; else all stays to come
-abbrev pub Leaves : Status → Option (List ℕ) → Option (List ℕ) → Type 0
-Leaves (status.Script at fault) rest left = IsRead rest left
-Leaves (status.Limit at limit.Entries) rest left = IsRead rest left
-Leaves _ rest left = Keeps rest left
+abbrev pub LeavesUnread : Status → Option (List ℕ) → Option (List ℕ) → Type 0
+LeavesUnread (status.Script at fault) rest left = IsRead rest left
+LeavesUnread (status.Limit at limit.Entries) rest left = IsRead rest left
+LeavesUnread _ rest left = Keeps rest left
 
 -- both, where that which is left is what is `held` and what the source has left
 abbrev pub StopsAt : Status → Option (List ℕ) → List ℕ → Option (List ℕ) → NamesState → ℕ → ℕ → Type 0
-StopsAt why rest held now names count entries = HasReason why rest (prepend_known held now) held names count entries × Leaves why rest (prepend_known held now)
+StopsAt why rest held now names count entries = HasReason why rest (prepend_known held now) held names count entries × LeavesUnread why rest (prepend_known held now)

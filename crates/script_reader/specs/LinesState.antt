@@ -85,8 +85,8 @@ abbrev pub Advances : Option (List ℕ) → Option (List ℕ) → LinesState →
 Advances rest left before result after = AdvancesFrom before.stop rest left before result after
 
 -- the reader ended in this call
-abbrev pub Ends : LinesStop → LinesStop → Type 0
-Ends before after = (before ≢ Ended) × (after ≡ Ended)
+abbrev pub EndsNow : LinesStop → LinesStop → Type 0
+EndsNow before after = (before ≢ Ended) × (after ≡ Ended)
 
 -- how often a source said that it is at its end, which had said so that often when this reader was made
 abbrev pub ends_after : LinesStop → ℕ → ℕ

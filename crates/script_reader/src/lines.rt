@@ -81,7 +81,7 @@ impl Model for Lines {
 impl Lines {
     ghost use Rattle.std.specs.Prelude.{◌≡◌, ◌≢◌, ℕ, ◌<◌, ◌≤◌, [], true, length, IfOk};
     ghost use Rattle.vio_io.specs.Causes.{Rose};
-    ghost use Rattle.script_reader.specs.LinesState.{Advances, Ends, GoesOn, Reads, to_come};
+    ghost use Rattle.script_reader.specs.LinesState.{Advances, EndsNow, GoesOn, Reads, to_come};
 
     /// Nothing was read. No other call takes memory: the room of a line of the most bytes is taken here.
     pub fn new(alloc: Global) -> Result<Self, NoMemory>
@@ -108,7 +108,7 @@ impl Lines {
         ensures stays { self.old.stop ≢ LinesStop.Going → source.new ≡ source.old }
         ensures faults { Fails (result ≡ Err LinesFault.Source) (S.faults source.old) (S.faults source.new) }
         // A source says that it is at its end at most once, in the call in which the reader ends.
-        ensures ends { SaysEnd (Ends self.old.stop self.new.stop) (S.ends source.old) (S.ends source.new) }
+        ensures ends { SaysEnd (EndsNow self.old.stop self.new.stop) (S.ends source.old) (S.ends source.new) }
     {
         match self.stop {
             LinesStop::Going => self.go_on(source),

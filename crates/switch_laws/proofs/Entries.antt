@@ -4,7 +4,7 @@ use Rattle.runs.specs.Run.{Run}
 use Rattle.lane_kinds.proofs.EntryRuns.{entries_end, entries_lead}
 use Rattle.lane_kinds.proofs.Leading.{part_leads}
 use Rattle.lane_kinds.specs.Lanes.{EntryOf}
-use Rattle.lane_kinds.specs.Laws.{Ends, Leads}
+use Rattle.lane_kinds.specs.Laws.{AnswersLead, Leads}
 use Rattle.lane_kinds.specs.Settles.{SettlePart}
 use Rattle.port_laws.specs.PortState.{PortState}
 use Rattle.switch_laws.specs.Events.{SwitchEvent}
@@ -18,7 +18,7 @@ one_entry k lanes event behind at = at.step
 leads : Leads switch (Run SwitchMoves)
 leads = entries_lead ports of_ports SwitchMoves silence (λ lanes k s. tt) one_entry (λ k w. refl) (λ w. refl)
 
-ends : Ends switch (Run SwitchMoves)
+ends : AnswersLead switch (Run SwitchMoves)
 ends = entries_end ports of_ports SwitchMoves silence (λ lanes k s. tt) one_entry (λ k w. refl) (λ w. refl)
 
 pub part_runs : (start : List PortState) (part : List SwitchEntry) (behind : List PortState) → SettlePart switch start part behind → Run SwitchMoves start part behind

@@ -162,7 +162,7 @@ impl ServerEnd {
                 found: range.seq,
             });
         }
-        let place = (session.asked % agreed.peer_slots as u64) as u32;
+        let place = self.slot_at(session.asked);
         if place != range.start {
             return Err(Cause::Slot {
                 expected: place,

@@ -9,7 +9,7 @@ use Rattle.lane_kinds.proofs.LaneFronts.{fronts_lead}
 use Rattle.lane_kinds.proofs.Leading.{front_leads, part_leads}
 use Rattle.lane_kinds.proofs.Moving as kind
 use Rattle.lane_kinds.proofs.Moving.{both_move, lanes_end, lanes_lead, none_move, nothing_move}
-use Rattle.lane_kinds.specs.Laws.{Ends, FrontsLead, Leads}
+use Rattle.lane_kinds.specs.Laws.{AnswersLead, FrontsLead, Leads}
 use Rattle.world_laws.proofs.DiskLaws.{disk_reads, disk_silent}
 use Rattle.world_laws.specs.Along.{LanesMove, event_at, happened}
 use Rattle.world_laws.specs.Begun.{SettleFront, fronts}
@@ -35,7 +35,7 @@ nothing_moves j lanes part none = nothing_move LaneStep event_at j lanes part no
 pub leads : Leads disks (LanesMove 0)
 leads = lanes_lead disk_kind disk_entries event_at disk_reads disk_silent
 
-pub ends : Ends disks (LanesMove 0)
+pub ends : AnswersLead disks (LanesMove 0)
 ends = lanes_end disk_kind disk_entries event_at disk_reads disk_silent
 
 pub settled_moves : (lanes : List LaneState) → LanesMove 0 lanes (Settled ∷ []) lanes

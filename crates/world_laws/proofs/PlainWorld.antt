@@ -9,13 +9,13 @@ use Rattle.world_laws.proofs.PlainSettle.{RestsAt}
 use Rattle.world_laws.proofs.Regions.{IsFirstShape, region_long}
 use Rattle.world_laws.proofs.Undisturbed.{Stands, accepted_at}
 use Rattle.world_laws.specs.Plain.{Plain, untouched}
-use Rattle.world_laws.specs.Quiet.{IsFront, IsPlain}
+use Rattle.world_laws.specs.Quiet.{IsAtFront, IsPlain}
 
 -- THE FRESH WORLD
 fresh_stands : (shape : Shape) (first : List ℕ) → IsFirstShape shape → 512 * shape.blocks ≤ length first → Stands shape (untouched first) (fresh shape) first
 fresh_stands shape first front holds = grind (arith, fresh_is_near, region_long)
 
-pub fresh_rests : (shape : Shape) (image : ImageState) (first : List ℕ) → IsFront shape image first → RestsAt shape (untouched first) (fresh_world (shape ∷ []) image)
+pub fresh_rests : (shape : Shape) (image : ImageState) (first : List ℕ) → IsAtFront shape image first → RestsAt shape (untouched first) (fresh_world (shape ∷ []) image)
 fresh_rests shape image first front = grind (arith, fresh_is_near, region_long)
 
 -- what the plain list says of the world

@@ -26,7 +26,7 @@ by_status : (request : Request) (status : ℕ) (bytes : List ℕ) → TellsStore
 by_status request status bytes (inl well) long = inl (well, long ∙ ap (λ (n : ℕ). carried_count n request) well)
 by_status request status bytes (inr failed) long = inr (failed, nothing_in bytes (long ∙ ap (λ (n : ℕ). carried_count n request) failed))
 
-completion_tells : (l : DiskLog) (id status : ℕ) (bytes : List ℕ) → FreesSlot l id status → LogTells l → request_laws.Carries l.work id status bytes → CarriesAsAsked l.work id status bytes
+completion_tells : (l : DiskLog) (id status : ℕ) (bytes : List ℕ) → FreesSlot l id status → LogTells l → request_laws.CarriesCount l.work id status bytes → CarriesAsAsked l.work id status bytes
 completion_tells l id status bytes frees tells carries =
     let status_tells : TellsStore status = got_tells l.ring _ (IsDone id status) tells.ring frees.done_is in
     record { request = carries.request; accepted = carries.accepted; carries = by_status carries.request status bytes status_tells carries.long }

@@ -4,13 +4,13 @@ use Rattle.disk_model.specs.LaneState.{LaneState}
 use Rattle.lane_kinds.proofs.Counting.{part_counted, settles_counted}
 use Rattle.lane_kinds.proofs.LaneCounts.{lanes_tick}
 use Rattle.lane_kinds.specs.LaneCounts.{mark_at}
-use Rattle.lane_kinds.specs.Laws.{Counts}
+use Rattle.lane_kinds.specs.Laws.{CountsRounds}
 use Rattle.world_laws.proofs.DiskLaws.{disk_ticks}
 use Rattle.world_laws.specs.DiskKind.{disk_kind}
 use Rattle.world_laws.specs.Moves.{ticks, ticks_in}
 use Rattle.world_laws.specs.Settle.{SettleEntry, SettlePart, Settles, disk_entries, disks}
 
-counts : (k : ℕ) → Counts disks (ticks_in k) (mark_at k 0)
+counts : (k : ℕ) → CountsRounds disks (ticks_in k) (mark_at k 0)
 counts k = lanes_tick disk_kind disk_entries ticks disk_ticks k
 
 pub settles_ticks : (start : List LaneState) (part : List SettleEntry) (behind : List LaneState) (k : ℕ) (at : Settles start part behind) → ticks_in k part ≡ mark_at k 0 at.now.marks

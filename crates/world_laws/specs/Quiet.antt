@@ -6,7 +6,7 @@ use Rattle.world_laws.specs.World.{WorldState}
 use Rattle.world_laws.specs.Plain.{Plain}
 
 -- A DISK AT THE FRONT of an image that is told, and that never failed
-pub record IsFront (shape : Shape) (image : ImageState) (first : List ℕ) : Type 0 where
+pub record IsAtFront (shape : Shape) (image : ImageState) (first : List ℕ) : Type 0 where
   pub sound : IsShape shape
   pub place : shape.first ≡ 0
   pub told : image.told ≡ Some first

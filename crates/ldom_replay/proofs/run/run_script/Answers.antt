@@ -5,7 +5,7 @@ use Rattle.ldom_entries.specs.JournalState.{JournalState}
 use Rattle.ldom_report.specs.declared.status.Status.{Status}
 use Rattle.ldom_report.specs.declared.status.Status.TheVariants as status
 use Rattle.ldom_report.specs.declared.stop.Stop.{Stop}
-use Rattle.ldom_report.specs.Stops.{EndsTold, StandsAt, stop_lines, stop_status}
+use Rattle.ldom_report.specs.Stops.{EndsTold, ReaderStandsAt, stop_lines, stop_status}
 use Rattle.ldom_report.proofs.StopLemmas.{done_at_end, ends_told, readers_of}
 use Rattle.script_laws.specs.Opening.{Opens, OpensAndStops}
 use Rattle.script_laws.proofs.Assembly.{from_start, replayed_as, replayed_none, replayed_unattached}
@@ -95,4 +95,4 @@ returns-in-End-clause-ends g c =
 
 -- a script that has nothing but declarations was read to its end
 pub attach-requires-in-End-clause-ended : goal.attach-requires-in-End-clause-ended
-attach-requires-in-End-clause-ended g c none = subst (λ (stop : Stop). StandsAt stop c.read_opening.new.reader.lines.stop) c.in-End.is c.in-Err-read_opening.ensures.stands
+attach-requires-in-End-clause-ended g c none = subst (λ (stop : Stop). ReaderStandsAt stop c.read_opening.new.reader.lines.stop) c.in-End.is c.in-Err-read_opening.ensures.stands

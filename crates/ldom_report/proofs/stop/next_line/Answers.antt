@@ -1,6 +1,6 @@
 use Rattle.std.proofs.Common.{ℕ, Bool, false, List, Option, Ok, refl, subst, sym}
 use Rattle.script_reader.specs.LinesState.{GivesLine, Reads, to_come}
-use Rattle.ldom_report.specs.Stops.{StandsAt, StopsReading}
+use Rattle.ldom_report.specs.Stops.{ReaderStandsAt, StopsReading}
 use Rattle.ldom_report.specs.declared.stop.Stop.{Stop}
 use Rattle.ldom_report.proofs.NextLine.{goes_behind, going_before, keeps_ends, same_number, stands_at, stays_stopped, stops_at, stops_at_end}
 use Rattle.ldom_report.proofs.stop.next_line.Goals as goal
@@ -93,5 +93,5 @@ pub returns-in-Err-clause-stands : goal.returns-in-Err-clause-stands
 returns-in-Err-clause-stands g c =
     let rest : Option (List ℕ) = to_come c.args.lines.now (g.S.Source.left c.args.source.now) in
     let left : Option (List ℕ) = to_come c.advance.new.self (g.S.Source.left c.advance.new.source) in
-    subst (λ (stop : Stop). StandsAt stop c.advance.new.self.stop) (sym c.of_reader.ensures)
+    subst (λ (stop : Stop). ReaderStandsAt stop c.advance.new.self.stop) (sym c.of_reader.ensures)
     (stands_at c.in-Err.fault rest left c.args.lines.now c.advance.new.self (c.in-Err.ensures.reads c.requires.goes))
