@@ -51,7 +51,7 @@ pub fn lists_of_groups_are_sets()
 {}
 
 /// Where an end looks for a slot that isn't DONE, it looks at so many slots in the order of the ring, from a number on.
-/// Either each is DONE. Or it finds one that isn't, with its state, and each before it is DONE.
+/// Each is DONE, or it finds one that isn't, with its state, and each before it is DONE.
 pub fn slots_are_looked_at_in_ring_order()
     ensures none { (slots : ℕ) (memory : List ℕ) (number count i : ℕ) → first_undone slots memory number count ≡ None → i < count
         → slot_state ((number + i) % slots) memory ≡ done_state }
