@@ -14,7 +14,7 @@ TOP = pathlib.Path(__file__).resolve().parent.parent
 # name, file, what stands there once, what takes its place
 PLANTS = [
  ('put_in has full for out','specs/Frames.antt','put_in k (Switched frame out full) = if bit_at out k == 1','put_in k (Switched frame out full) = if bit_at full k == 1'),
- ('Receives is an own entry','specs/Domain.antt','IsOwn (OnPort (Receives frame)) = ⊥','IsOwn (OnPort (Receives frame)) = ⊤'),
+ ('Receives is an own entry','specs/Domain.antt','IsOwnEvent (OnPort (Receives frame)) = ⊥','IsOwnEvent (OnPort (Receives frame)) = ⊤'),
  ('ports turn before disks (turns_over: domain_laws proves it, script_laws refuses it)','specs/Lines.antt','turns_over n m = both_ends (lanes_from DiskLane 0 n) ++ both_ends (lanes_from PortLane 0 m)','turns_over n m = both_ends (lanes_from PortLane 0 m) ++ both_ends (lanes_from DiskLane 0 n)'),
  ('Blocked of a port moves','specs/Counts.antt','is_blocked (OnPort (OnLane (Steps e Blocked))) = true','is_blocked (OnPort (OnLane (Steps e Blocked))) = false'),
  ('forged ports hold no frame','specs/Settling.antt','  pub rests : port.IsUnforged t → HoldsNoFrame t','  pub rests : HoldsNoFrame t'),

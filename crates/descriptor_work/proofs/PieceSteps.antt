@@ -10,9 +10,9 @@ use Rattle.vdisk_msg.specs.Check.{most_bytes}
 use Rattle.vdisk_msg.specs.Pieces.{unit_count}
 use Rattle.map_table.specs.declared.cookie.Cookie.{Cookie}
 use Rattle.vio_io.specs.Stores.{IsUnitRange, KeepsOutside, ReadsRange, WritesRange}
-use Rattle.disk_model.specs.ServerState.{Ends, Flushes, Gathers, Gives, Progress, Reads, Work, Writes}
+use Rattle.lane_models.specs.ServerState.{Ends, Flushes, Gathers, Gives, Progress, Reads, Work, Writes}
 use Rattle.cookie_copy.specs.Reach.{Reach}
-use Rattle.disk_model.specs.ServerWork.{MovesIn, data_cookies, desc_of, gathers_next, length_of, or_ends, reads_next, unit_block}
+use Rattle.lane_models.specs.ServerWork.{MovesIn, data_cookies, desc_of, gathers_next, length_of, or_ends, reads_next, unit_block}
 use Rattle.descriptor_work.specs.declared.answers.StoreCall.{StoreCall}
 use Rattle.descriptor_work.specs.declared.answers.UnitCopy.{UnitCopy}
 use Rattle.descriptor_work.specs.Pieces.{PieceIn, PieceOn, StoredFor}

@@ -1,6 +1,6 @@
 -- What the fields of a descriptor in work say of its state.
 use Rattle.std.specs.Prelude.{ℕ, List}
-use Rattle.disk_model.specs.ServerState.{Ends, Flushes, Gathers, Gives, Progress, Reads, Work, Writes}
+use Rattle.lane_models.specs.ServerState.{Ends, Flushes, Gathers, Gives, Progress, Reads, Work, Writes}
 use Rattle.descriptor_work.specs.declared.work.Progress.{Progress as KeptProgress}
 use Rattle.descriptor_work.specs.declared.work.Progress.TheVariants as kept
 use Rattle.descriptor_work.specs.declared.work.Work.{Work as KeptWork}

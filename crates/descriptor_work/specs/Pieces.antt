@@ -1,9 +1,9 @@
 -- The pieces of a descriptor, by the work alone.
 use Rattle.std.specs.Prelude.{◌≡◌, ℕ, List, Option}
-use Rattle.disk_model.specs.Served.{StoreDoesIn}
-use Rattle.disk_model.specs.ServerState.{Progress, ServerState, Work, fresh_server}
+use Rattle.lane_models.specs.Served.{StoreDoesIn}
+use Rattle.lane_models.specs.ServerState.{Progress, ServerState, Work, fresh_server}
 use Rattle.cookie_copy.specs.Reach.{Reach}
-use Rattle.disk_model.specs.ServerWork.{MovesIn, StoresIn}
+use Rattle.lane_models.specs.ServerWork.{MovesIn, StoresIn}
 use Rattle.descriptor_work.specs.declared.answers.StoreCall.{StoreCall}
 use Rattle.descriptor_work.specs.declared.answers.UnitCopy.{UnitCopy}
 

@@ -5,7 +5,7 @@ ghost use Rattle.cookie_copy.specs.Faults.{PagesWithin};
 ghost use Rattle.vdisk_msg.specs.Check.{first_defect, most_bytes};
 ghost use Rattle.vdisk_msg.specs.Descriptor.{disk_desc_of};
 ghost use Rattle.vdisk_msg.specs.Pieces.{refusal_status, unit_count};
-ghost use Rattle.disk_model.specs.ServerWork.{data_cookies, desc_of, first_progress, first_progress_of, gathers_next, length_of, or_ends, reads_next, unit_block, unit_length};
+ghost use Rattle.lane_models.specs.ServerWork.{data_cookies, desc_of, first_progress, first_progress_of, gathers_next, length_of, or_ends, reads_next, unit_block, unit_length};
 ghost use Rattle.descriptor_work.specs.Calling.{CalledOnce, reach_over};
 ghost use Rattle.descriptor_work.specs.Fields.{progress_of, work_with};
 ghost use Rattle.descriptor_work.specs.Pieces.{PieceIn, PieceOn};

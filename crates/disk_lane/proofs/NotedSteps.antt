@@ -5,15 +5,15 @@ use Rattle.ldc_queue.specs.declared.end.ChannelState.TheVariants.{Up}
 use Rattle.ldc_queue.specs.declared.end.End.TheVariants.{A, B}
 use Rattle.ldc_queue.specs.Wire.{Wire, state_of}
 use Rattle.disk_lane.specs.Events.{ResetsOwn}
-use Rattle.disk_model.proofs.OwnSteps.{client_resets_own}
-use Rattle.disk_model.specs.ClientRule.{client_rule}
-use Rattle.disk_model.specs.ClientState.{ClientState}
-use Rattle.disk_model.specs.DiskEvent.{DiskEvent}
-use Rattle.disk_model.specs.LaneState.{LaneState, NearCounts, near_disturbed, near_finished}
-use Rattle.disk_model.specs.LaneStep.{LaneStep}
-use Rattle.disk_model.specs.OnChannel.{IsChannelOf}
-use Rattle.disk_model.specs.Served.{Served}
-use Rattle.disk_model.specs.ServerState.{ServerState}
+use Rattle.lane_models.proofs.OwnSteps.{client_resets_own}
+use Rattle.lane_models.specs.ClientRule.{client_rule}
+use Rattle.lane_models.specs.ClientState.{ClientState}
+use Rattle.lane_models.specs.DiskEvent.{DiskEvent}
+use Rattle.lane_models.specs.LaneState.{LaneState, NearCounts, near_disturbed, near_finished}
+use Rattle.lane_models.specs.LaneStep.{LaneStep}
+use Rattle.lane_models.specs.OnChannel.{IsChannelOf}
+use Rattle.lane_models.specs.Served.{Served}
+use Rattle.lane_models.specs.ServerState.{ServerState}
 use Rattle.vdisk_client.proofs.LaneSteps.{lane_steps}
 use Rattle.vdisk_client.specs.Calls.{Steps, channel_after, client_event, sees}
 use Rattle.vdisk_client.specs.OnLane.{client_moved}

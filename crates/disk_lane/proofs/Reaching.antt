@@ -3,16 +3,16 @@ use Rattle.std.proofs.Common.{◌≡◌, refl, sym, subst, ℕ, List, [], ◌∷
 use Rattle.runs.specs.Run.{run_push}
 use Rattle.ldc_queue.specs.declared.end.End.TheVariants.{B}
 use Rattle.vio_tag.specs.declared.cause.Cause.{Cause}
-use Rattle.channel_laws.specs.WireEvent as wire
-use Rattle.channel_laws.specs.WireEvent.{Giver, giver}
-use Rattle.disk_model.proofs.OwnSteps.{server_resets_own}
-use Rattle.disk_model.specs.DiskEvent.{DiskEvent}
-use Rattle.disk_model.specs.LaneState.{IsShape, LaneState, Shape, fresh}
-use Rattle.disk_model.specs.LaneStep.{LaneStep, ResetBy, ServerOnWire, reach}
-use Rattle.disk_model.specs.Reached.{IsReached}
-use Rattle.channel_laws.specs.Seeing.{seen}
-use Rattle.disk_model.specs.Served.{Served, ServedStep}
-use Rattle.disk_model.specs.ServerRule.{server_rule}
+use Rattle.lane_models.specs.WireEvent as wire
+use Rattle.lane_models.specs.WireEvent.{Giver, giver}
+use Rattle.lane_models.proofs.OwnSteps.{server_resets_own}
+use Rattle.lane_models.specs.DiskEvent.{DiskEvent}
+use Rattle.lane_models.specs.LaneState.{IsShape, LaneState, Shape, fresh}
+use Rattle.lane_models.specs.LaneStep.{LaneStep, ResetBy, ServerOnWire, reach}
+use Rattle.lane_models.specs.Reached.{IsReached}
+use Rattle.lane_models.specs.Seeing.{seen}
+use Rattle.lane_models.specs.Served.{Served, ServedStep}
+use Rattle.lane_models.specs.ServerRule.{server_rule}
 use Rattle.lane_laws.proofs.RingPages.{same_pages}
 use Rattle.vdisk_server.specs.Answering.{server_event}
 use Rattle.vdisk_server.specs.declared.answers.ServerOut.{ServerOut}

@@ -5,9 +5,9 @@ use Rattle.ldc_queue.specs.declared.end.End.TheVariants.{A, B}
 use Rattle.ldc_queue.specs.declared.end.PutFault.{PutFault}
 use Rattle.ldc_queue.specs.declared.end.PutFault.TheVariants as put
 use Rattle.vio_tag.specs.declared.cause.Cause.TheVariants as the_cause
-use Rattle.channel_laws.specs.WireEvent as wire
-use Rattle.channel_laws.specs.WireEvent.{ByStep, giver}
-use Rattle.disk_model.specs.DiskEvent.{CalmReset, CalmRestart, CalmStart, CalmStop, CalmTick, DiskEvent, Off, OnWire, Calms, Started, Stopped, Switches}
+use Rattle.lane_models.specs.WireEvent as wire
+use Rattle.lane_models.specs.WireEvent.{ByStep, giver}
+use Rattle.lane_models.specs.DiskEvent.{CalmReset, CalmRestart, CalmStart, CalmStop, CalmTick, DiskEvent, Off, OnWire, Calms, Started, Stopped, Switches}
 use Rattle.vdisk_client.specs.declared.answers.ClientOut.{ClientOut}
 use Rattle.vdisk_client.specs.declared.answers.ClientOut.TheVariants as client_out
 use Rattle.vio_io.specs.declared.store.Store.{Ghosts}

@@ -1,7 +1,7 @@
 -- The parts of a lane, as the state of a disk's lane.
 use Rattle.std.specs.Prelude.{◌≡◌, length}
 use Rattle.cookie_copy.specs.Faults.{PagesWithin}
-use Rattle.disk_model.specs.LaneState.{LaneState, Shape}
+use Rattle.lane_models.specs.LaneState.{LaneState, Shape}
 use Rattle.disk_requests.specs.Room.{HoldsRing}
 use Rattle.disk_lane.specs.declared.lane_ends.LaneEnds.TheInside.{Inside}
 

@@ -1,11 +1,11 @@
 -- What a lane notes of a step, beside what its ends did: whether a packet was lost, how near the image is, and whether
 -- the store failed.
 use Rattle.std.specs.Prelude.{◌||◌, Bool, false}
-use Rattle.channel_laws.specs.WireEvent.{Reset}
-use Rattle.disk_model.specs.ClientState.{ClientState}
-use Rattle.disk_model.specs.DiskEvent.{DiskEvent, OnWire, Stored, Works}
-use Rattle.disk_model.specs.LaneState.{LaneState, NearCounts, near_disturbed}
-use Rattle.disk_model.specs.LaneStep.{near_worked}
+use Rattle.lane_models.specs.WireEvent.{Reset}
+use Rattle.lane_models.specs.ClientState.{ClientState}
+use Rattle.lane_models.specs.DiskEvent.{DiskEvent, OnWire, Stored, Works}
+use Rattle.lane_models.specs.LaneState.{LaneState, NearCounts, near_disturbed}
+use Rattle.lane_models.specs.LaneStep.{near_worked}
 
 -- a step resets an end that is up, and joins one that isn't
 abbrev pub noted_lossy : DiskEvent → Bool → Bool

@@ -1,12 +1,12 @@
 ghost use Rattle.std.specs.Prelude.{◌≡◌, ◌+◌, ◌*◌, ◌<◌, ◌≤◌, ◌^◌, ◌-◌, IfOk, length, not};
 ghost use Rattle.ldc_queue.specs.declared.end.End.TheVariants.{B};
 ghost use Rattle.vdisk_msg.specs.Fills.{IsRequest};
-ghost use Rattle.disk_model.specs.ClientState.{is_finished};
-ghost use Rattle.disk_model.specs.DiskEvent.{Asks};
-ghost use Rattle.disk_model.specs.LaneState.{fresh, IsShape};
-ghost use Rattle.disk_model.specs.LaneStep.{LaneStep};
-ghost use Rattle.disk_model.specs.Reached.{IsReached};
-ghost use Rattle.disk_model.specs.Served.{Served};
+ghost use Rattle.lane_models.specs.ClientState.{is_finished};
+ghost use Rattle.lane_models.specs.DiskEvent.{Asks};
+ghost use Rattle.lane_models.specs.LaneState.{fresh, IsShape};
+ghost use Rattle.lane_models.specs.LaneStep.{LaneStep};
+ghost use Rattle.lane_models.specs.Reached.{IsReached};
+ghost use Rattle.lane_models.specs.Served.{Served};
 ghost use Rattle.vdisk_client.specs.Calls.{TellsLength, admitted, client_event, front_count};
 ghost use Rattle.disk_lane.specs.Events.{ResetsOwn, StoreAfterOf, answered, injected_event, lost_event, poked_event};
 ghost use Rattle.disk_lane.specs.Events.{reset_event, restart_event, served_event, start_event, stop_event, tick_event};
@@ -31,8 +31,8 @@ pub struct DiskLane {
 }
 
 impl Model for DiskLane {
-    ghost use Rattle.disk_model.specs.LaneState.{LaneState};
-    ghost use Rattle.disk_model.specs.Reached.{IsReached};
+    ghost use Rattle.lane_models.specs.LaneState.{LaneState};
+    ghost use Rattle.lane_models.specs.Reached.{IsReached};
 
     ghost Value = { LaneState };
 

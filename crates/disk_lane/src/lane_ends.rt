@@ -3,11 +3,11 @@
 ghost use Rattle.std.specs.Prelude.{◌≡◌, ◌+◌, ◌*◌, ◌<◌, ◌≤◌, ◌^◌, ◌-◌, ◌||◌, IfOk, length, not, true, false};
 ghost use Rattle.ldc_queue.specs.declared.end.End.TheVariants.{A, B};
 ghost use Rattle.vdisk_msg.specs.Fills.{IsRequest};
-ghost use Rattle.disk_model.specs.ClientState.{is_finished};
-ghost use Rattle.disk_model.specs.DiskEvent.{Asks};
-ghost use Rattle.disk_model.specs.LaneState.{fresh, IsShape};
-ghost use Rattle.disk_model.specs.LaneStep.{LaneStep, stored_blocks};
-ghost use Rattle.disk_model.specs.Served.{Served};
+ghost use Rattle.lane_models.specs.ClientState.{is_finished};
+ghost use Rattle.lane_models.specs.DiskEvent.{Asks};
+ghost use Rattle.lane_models.specs.LaneState.{fresh, IsShape};
+ghost use Rattle.lane_models.specs.LaneStep.{LaneStep, stored_blocks};
+ghost use Rattle.lane_models.specs.Served.{Served};
 ghost use Rattle.vdisk_client.specs.Calls.{TellsLength, admitted, client_event, front_count};
 ghost use Rattle.vdisk_server.specs.OnStore.{StoreAfter};
 ghost use Rattle.vdisk_server.specs.Answering.{server_event};
@@ -47,7 +47,7 @@ pub struct LaneEnds {
 }
 
 impl Model for LaneEnds {
-    ghost use Rattle.disk_model.specs.LaneState.{LaneState};
+    ghost use Rattle.lane_models.specs.LaneState.{LaneState};
     ghost use Rattle.disk_lane.specs.Fields.{FitsShape, state_of};
 
     ghost Value = { LaneState };
@@ -249,8 +249,8 @@ impl LaneEnds {
 }
 
 impl LaneEnds {
-    ghost use Rattle.disk_model.specs.LaneState.{near_disturbed};
-    ghost use Rattle.channel_laws.specs.WireLog.{lossy_behind};
+    ghost use Rattle.lane_models.specs.LaneState.{near_disturbed};
+    ghost use Rattle.lane_models.specs.WireLog.{lossy_behind};
 
     // An end that was in this state began anew.
     fn disturbed(&mut self, was: ChannelState)

@@ -1,5 +1,5 @@
 //! A disk's lane: the two ends of a virtual disk with the channel, the memory and the table between them. Each call is one event
-//! of the lane, exactly as `disk_model` has it, and a lane is always one that such events lead to from a fresh one, so that the
+//! of the lane, exactly as `lane_models` has it, and a lane is always one that such events lead to from a fresh one, so that the
 //! laws of `lane_laws` hold of it. A world of disks stands on it.
 #![tactic(auto)]
 

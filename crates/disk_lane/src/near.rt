@@ -1,8 +1,8 @@
 // How near the image is to the content of the requests that are done.
 
 ghost use Rattle.std.specs.Prelude.{◌≡◌};
-ghost use Rattle.disk_model.specs.LaneState.{near_done, near_finished};
-ghost use Rattle.disk_model.specs.LaneStep.{stored_blocks};
+ghost use Rattle.lane_models.specs.LaneState.{near_done, near_finished};
+ghost use Rattle.lane_models.specs.LaneStep.{stored_blocks};
 
 use std::marker::Model;
 use vdisk_msg::VD_OP_BWRITE;
@@ -18,7 +18,7 @@ pub struct Near {
 }
 
 impl Model for Near {
-    ghost use Rattle.disk_model.specs.LaneState.{NearCounts};
+    ghost use Rattle.lane_models.specs.LaneState.{NearCounts};
 
     ghost Value = { NearCounts };
 

@@ -6,8 +6,8 @@ use Rattle.map_table.specs.Cookies.{no_cookie}
 use Rattle.map_table.specs.declared.cookie.Cookie.{Cookie}
 use Rattle.vdisk_msg.specs.Requested.{ring_pages}
 use Rattle.vio_tag.specs.Form.{AreCookies}
-use Rattle.channel_laws.specs.OwnMemory.{filled, page_cookies}
-use Rattle.disk_model.specs.Offering.{own_cookies}
+use Rattle.lane_models.specs.OwnMemory.{filled, page_cookies}
+use Rattle.lane_models.specs.Offering.{own_cookies}
 
 -- no pages yet, and one more
 pub no_pages : replicate 14 no_cookie ≡ filled 14 (page_cookies 0 0)

@@ -6,7 +6,7 @@ ghost use Rattle.vdisk_msg.specs.Check.{most_bytes};
 ghost use Rattle.vdisk_msg.specs.Fills.{IsFill, IsRequest};
 ghost use Rattle.vdisk_msg.specs.Requested.{size_of};
 ghost use Rattle.vdisk_msg.specs.Requests.{repeated};
-ghost use Rattle.disk_model.specs.ClientStep.{filled_buffer, published_memory};
+ghost use Rattle.lane_models.specs.ClientStep.{filled_buffer, published_memory};
 ghost use Rattle.disk_requests.specs.Room.{HoldsRing};
 
 use crate::descriptor::{buffer_place, descriptor_of, ring_of};

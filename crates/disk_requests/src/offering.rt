@@ -3,8 +3,8 @@
 ghost use Rattle.std.specs.Prelude.{◌≡◌, ◌+◌, ◌*◌, ◌/◌, ◌≤◌, nat_le, [], ◌∷◌, length};
 ghost use Rattle.vdisk_msg.specs.Requested.{ring_pages};
 ghost use Rattle.vio_tag.specs.Attributes.{disk_attr_bytes};
-ghost use Rattle.channel_laws.specs.OwnMemory.{filled, page_cookies};
-ghost use Rattle.disk_model.specs.Offering.{client_offer, disk_of, own_cookies};
+ghost use Rattle.lane_models.specs.OwnMemory.{filled, page_cookies};
+ghost use Rattle.lane_models.specs.Offering.{client_offer, disk_of, own_cookies};
 
 use dom_memory::PAGE;
 use map_table::Cookie;

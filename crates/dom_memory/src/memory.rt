@@ -6,7 +6,7 @@ ghost use Rattle.dom_memory.specs.Pages.{HasPages};
 use std::alloc::Global;
 use std::marker::Model;
 use vio_bytes::{NoMemory, PAGE};
-use zero_pages::ZeroPages;
+use zero_pages::{ZERO_PAGE, ZeroPages};
 
 /// The memory of a domain, 1 to 1,028 pages of 8,192 bytes, of which what was never written isn't touched.
 #[derive(Drop)]
@@ -30,7 +30,7 @@ impl Memory {
         requires most { pages ≤ 1028 }
         ensures { IfOk result (λ m. m ≡ replicate (8192 * pages) 0) }
     {
-        let bytes = ZeroPages::new(alloc, PAGE / zero_pages::PAGE * pages as usize)?;
+        let bytes = ZeroPages::new(alloc, PAGE / ZERO_PAGE * pages as usize)?;
         Ok(Memory { bytes, pages })
     }
 

@@ -4,16 +4,16 @@ use Rattle.std.proofs.lemmas.Bool.{eq-eqb, eqb-true}
 use Rattle.std.specs.Int.{bit_at}
 use Rattle.std.specs.Prelude.{◌==◌, if◌then◌else◌}
 use Rattle.disk_law.specs.ListState.{ImageState}
-use Rattle.disk_model.specs.LaneState.{Shape}
+use Rattle.lane_models.specs.LaneState.{Shape}
 use Rattle.lane_kinds.specs.Lanes.{EachAt, EachOf}
 use Rattle.ldc_queue.specs.declared.end.End.TheVariants.{A, B}
 use Rattle.port_laws.proofs.FramesAll.{guest_all, hub_all}
 use Rattle.port_laws.proofs.FramesOnce.{guest_takes_in_order, hub_takes_in_order}
 use Rattle.port_laws.specs.InOrder.{InOrder, frames_taken}
 use Rattle.port_laws.specs.Lost.{frames_lost}
-use Rattle.port_model.specs.NetLaneState.{IsNetShape, NetShape}
-use Rattle.port_model.specs.PortLog.{PortLog, after, no_events}
-use Rattle.port_model.specs.PortState.{PortEvent, PortState, PortStep, fresh_port}
+use Rattle.lane_models.specs.NetLaneState.{IsNetShape, NetShape}
+use Rattle.lane_models.specs.PortLog.{PortLog, after, no_events}
+use Rattle.lane_models.specs.PortState.{PortEvent, PortState, PortStep, fresh_port}
 use Rattle.runs.specs.Lawful.{log_of}
 use Rattle.runs.specs.Run.{Run, run_append}
 use Rattle.switch_laws.specs.Reached.{IsUnforged}

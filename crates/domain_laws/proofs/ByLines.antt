@@ -9,21 +9,21 @@ use Rattle.runs.specs.Run.{Run}
 use Rattle.ldc_queue.specs.declared.end.End.{End}
 use Rattle.ldc_queue.specs.declared.end.End.TheVariants.{A, B}
 use Rattle.vdisk_msg.specs.declared.request.Request.{Request}
-use Rattle.channel_laws.specs.WireEvent as wire
-use Rattle.channel_laws.specs.WireEvent.{WireEvent}
+use Rattle.lane_models.specs.WireEvent as wire
+use Rattle.lane_models.specs.WireEvent.{WireEvent}
 use Rattle.disk_law.specs.ListState.{ImageState}
-use Rattle.disk_model.specs.DiskEvent.{Asks, Calms, DiskEvent, Off, OnWire, Started, Stopped, Switches, Works}
-use Rattle.disk_model.specs.LaneState.{LaneState, Shape, fresh}
-use Rattle.disk_model.specs.LaneStep.{LaneStep}
+use Rattle.lane_models.specs.DiskEvent.{Asks, Calms, DiskEvent, Off, OnWire, Started, Stopped, Switches, Works}
+use Rattle.lane_models.specs.LaneState.{LaneState, Shape, fresh}
+use Rattle.lane_models.specs.LaneStep.{LaneStep}
 use Rattle.lane_kinds.proofs.EntriesEach.{lane_keeps, lanes_keep, said_each}
 use Rattle.lane_kinds.proofs.Moving.{each_there}
 use Rattle.lane_kinds.proofs.Places.{get_within}
 use Rattle.lane_kinds.specs.Lanes.{EachOf, own_or}
 use Rattle.lane_laws.specs.CalmEnds.{IsStep}
-use Rattle.port_model.specs.NetEvent as net
-use Rattle.port_model.specs.NetEvent.{NetEvent}
-use Rattle.port_model.specs.NetLaneState.{NetShape}
-use Rattle.port_model.specs.PortState.{OnLane, PortState, Receives, fresh_port}
+use Rattle.lane_models.specs.NetEvent as net
+use Rattle.lane_models.specs.NetEvent.{NetEvent}
+use Rattle.lane_models.specs.NetLaneState.{NetShape}
+use Rattle.lane_models.specs.PortState.{OnLane, PortState, Receives, fresh_port}
 use Rattle.switch_laws.specs.Events.{OnPort, SwitchEvent, SwitchStep, Switched}
 use Rattle.switch_laws.specs.Ports.{IsStepOf as IsPortStep, gets, gift, tick as port_tick}
 use Rattle.switch_laws.specs.Reached as port

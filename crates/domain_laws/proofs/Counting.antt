@@ -2,9 +2,9 @@
 -- that moves, and some lane is named.
 use Rattle.std.proofs.Common.{◌≡◌, ◌⊎◌, inl, inr, ℕ, ◌+◌, ◌≤◌, Bool, true, false, List, [], ◌∷◌, ◌++◌, length, refl, sym, ap, subst, arith}
 use Rattle.std.specs.Prelude.{◌==◌, ◌&&◌, if◌then◌else◌}
-use Rattle.channel_laws.specs.WireEvent as wire
-use Rattle.disk_model.specs.DiskEvent.{DiskEvent, OnWire}
-use Rattle.disk_model.specs.Reached as disk
+use Rattle.lane_models.specs.WireEvent as wire
+use Rattle.lane_models.specs.DiskEvent.{DiskEvent, OnWire}
+use Rattle.lane_models.specs.Reached as disk
 use Rattle.ldc_queue.specs.declared.end.End.{End}
 use Rattle.lane_kinds.proofs.Both.{both_move, both_name, first_unsticks, second_unsticks}
 use Rattle.lane_kinds.proofs.BothFronts.{first_fronts_unstick, lanes_ignore_fronts, second_fronts_unstick}
@@ -22,9 +22,9 @@ use Rattle.lane_kinds.specs.Fronts.{SettleFront}
 use Rattle.lane_kinds.specs.LaneFronts.{fronts_of}
 use Rattle.runs.specs.Run.{Run}
 use Rattle.lane_kinds.specs.Stuck.{NeverThree, sum_over}
-use Rattle.port_model.specs.NetEndStep.{Blocked}
-use Rattle.port_model.specs.NetEvent.{Steps}
-use Rattle.port_model.specs.PortState.{OnLane}
+use Rattle.lane_models.specs.NetEndStep.{Blocked}
+use Rattle.lane_models.specs.NetEvent.{Steps}
+use Rattle.lane_models.specs.PortState.{OnLane}
 use Rattle.switch_laws.proofs.Counting as switch_counts
 use Rattle.switch_laws.proofs.Resting as port_resting
 use Rattle.switch_laws.proofs.PortTurns.{silent_calm, turn_steps}

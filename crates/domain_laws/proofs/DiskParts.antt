@@ -2,9 +2,9 @@
 -- the entries of disks alone.
 use Rattle.std.proofs.Common.{◌≡◌, ℕ, Bool, true, false, List, [], ◌∷◌, ◌++◌, refl, ap}
 use Rattle.runs.specs.Run.{Run}
-use Rattle.disk_model.specs.DiskEvent.{DiskEvent}
-use Rattle.disk_model.specs.LaneState.{LaneState}
-use Rattle.disk_model.specs.LaneStep.{LaneStep}
+use Rattle.lane_models.specs.DiskEvent.{DiskEvent}
+use Rattle.lane_models.specs.LaneState.{LaneState}
+use Rattle.lane_models.specs.LaneStep.{LaneStep}
 use Rattle.lane_kinds.proofs.Both.{first_ends, first_leads}
 use Rattle.lane_kinds.proofs.BothFronts.{first_fronts_lead, lanes_skip_fronts}
 use Rattle.lane_kinds.proofs.FirstKept.{Tells, kept}

@@ -2,9 +2,9 @@
 use Rattle.std.proofs.Common.{◌≡◌, ◌↔◌, ℕ, false, Some, List, [], ◌∷◌, map, slice_get, refl, ap, ◌∙◌, subst}
 use Rattle.runs.specs.Run.{Run}
 use Rattle.port_laws.proofs.PortWire.{port_wire}
-use Rattle.port_model.specs.NetEvent.{Injects, NetEvent, Pokes}
-use Rattle.port_model.specs.NetLaneState.{NetShape}
-use Rattle.port_model.specs.PortState.{OnLane, PortState, Receives, fresh_port}
+use Rattle.lane_models.specs.NetEvent.{Injects, NetEvent, Pokes}
+use Rattle.lane_models.specs.NetLaneState.{NetShape}
+use Rattle.lane_models.specs.PortState.{OnLane, PortState, Receives, fresh_port}
 use Rattle.switch_laws.proofs.Steps.{was_unforged}
 use Rattle.switch_laws.specs.Events.{OnPort, SwitchEvent, SwitchStep, Switched}
 use Rattle.switch_laws.specs.Reached.{IsUnforged}

@@ -1,10 +1,10 @@
 -- An event of a port that injects no packet and writes into no memory leaves it as forged as it was.
 use Rattle.std.proofs.Common.{◌≡◌, ap, ◌∙◌}
 use Rattle.std.specs.Prelude.{⊤}
-use Rattle.channel_laws.specs.WireLog.{WireLog}
+use Rattle.lane_models.specs.WireLog.{WireLog}
 use Rattle.port_laws.proofs.PortWire.{port_wire, step_unforged}
-use Rattle.port_model.specs.NetEvent.{Asked, CalmTick, Declines, Gives, Injects, Joins, Loses, NetEvent, Pokes, Steps, Ticked}
-use Rattle.port_model.specs.PortState.{OnLane, PortEvent, PortState, PortStep, Receives}
+use Rattle.lane_models.specs.NetEvent.{Asked, CalmTick, Declines, Gives, Injects, Joins, Loses, NetEvent, Pokes, Steps, Ticked}
+use Rattle.lane_models.specs.PortState.{OnLane, PortEvent, PortState, PortStep, Receives}
 use Rattle.switch_laws.proofs.Steps.{on_port}
 use Rattle.switch_laws.specs.Events.{SwitchEvent, SwitchStep, at_port}
 use Rattle.switch_laws.specs.Reached.{IsUnforged}

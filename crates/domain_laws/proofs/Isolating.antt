@@ -4,9 +4,9 @@ use Rattle.std.proofs.Common.{◌≡◌, ◌≢◌, ℕ, List, [], ◌∷◌, le
 use Rattle.runs.specs.Run.{Run}
 use Rattle.lane_kinds.proofs.Places.{get_other}
 use Rattle.lane_kinds.specs.Lanes.{EachOf}
-use Rattle.disk_model.specs.DiskEvent.{DiskEvent}
-use Rattle.disk_model.specs.LaneState.{LaneState}
-use Rattle.port_model.specs.PortState.{PortState}
+use Rattle.lane_models.specs.DiskEvent.{DiskEvent}
+use Rattle.lane_models.specs.LaneState.{LaneState}
+use Rattle.lane_models.specs.PortState.{PortState}
 use Rattle.switch_laws.proofs.Forwarding.{leaves_others}
 use Rattle.switch_laws.specs.Events.{SwitchEvent}
 use Rattle.world_laws.proofs.Along.{many_stay}

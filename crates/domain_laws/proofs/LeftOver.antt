@@ -3,11 +3,11 @@ use Rattle.std.proofs.Common.{◌≡◌, ℕ, ◌<◌, List, [], ◌∷◌, ◌+
 use Rattle.std.specs.Prelude.{⊤}
 use Rattle.runs.specs.Run.{Run, run_split}
 use Rattle.disk_law.specs.ListState.{ImageState}
-use Rattle.disk_model.specs.DiskEvent.{DiskEvent}
-use Rattle.disk_model.specs.LaneState.{Shape}
+use Rattle.lane_models.specs.DiskEvent.{DiskEvent}
+use Rattle.lane_models.specs.LaneState.{Shape}
 use Rattle.lane_kinds.specs.Lanes.{EachOf}
-use Rattle.port_model.specs.NetLaneState.{NetShape}
-use Rattle.port_model.specs.PortState.{fresh_port}
+use Rattle.lane_models.specs.NetLaneState.{NetShape}
+use Rattle.lane_models.specs.PortState.{fresh_port}
 use Rattle.switch_laws.specs.Events.{SwitchEvent}
 use Rattle.world_laws.proofs.WorldWords.{entry_within}
 use Rattle.world_laws.specs.Settle.{OfLane, OfPort, SettleEntry, Unsettled, UnsettledPort}

@@ -22,4 +22,4 @@ pub use Rattle.world_laws.proofs as world_laws
 pub use Rattle.switch_laws.proofs as switch_laws
 pub use Rattle.port_laws.proofs as port_laws
 pub use Rattle.lane_laws.proofs as lane_laws
-pub use Rattle.disk_model.proofs as disk_model
+pub use Rattle.lane_models.proofs as lane_models

@@ -5,8 +5,8 @@ use Rattle.std.specs.Prelude.{if◌then◌else◌, ⊤}
 use Rattle.runs.specs.Run.{Run}
 use Rattle.ldc_queue.specs.declared.end.End.{End}
 use Rattle.vdisk_msg.specs.declared.request.Request.{Request}
-use Rattle.disk_model.specs.DiskEvent.{DiskEvent}
-use Rattle.disk_model.specs.LaneState.{LaneState}
+use Rattle.lane_models.specs.DiskEvent.{DiskEvent}
+use Rattle.lane_models.specs.LaneState.{LaneState}
 use Rattle.lane_kinds.proofs.EntriesEach.{HaveEach, both_ends_have, both_fronts_have, both_kinds, ends_have, entry_has, fronts_have, lanes_have}
 use Rattle.lane_kinds.proofs.LaneFronts.{front_each, lanes_each, of_both}
 use Rattle.lane_kinds.proofs.Leading.{few_lead, front_leads, part_leads, rounds_lead, steps_lead}
@@ -17,7 +17,7 @@ use Rattle.lane_kinds.specs.Lanes.{EachOf, MakeRound}
 use Rattle.lane_kinds.specs.Laws.{AnswersLead, FrontsLead, Leads}
 use Rattle.lane_kinds.specs.Settles.{GoesOn, SettleRound, Settles, Settling, entries_of_rounds, most_rounds}
 use Rattle.lane_laws.specs.CalmEnds.{IsStep}
-use Rattle.port_model.specs.PortState.{PortState}
+use Rattle.lane_models.specs.PortState.{PortState}
 use Rattle.switch_laws.proofs.PortTurns.{silence, turn_steps}
 use Rattle.switch_laws.specs.Events.{SwitchEvent}
 use Rattle.switch_laws.specs.Ports.{IsStepOf as IsPortStep, is_silent, ports, tick as port_tick}

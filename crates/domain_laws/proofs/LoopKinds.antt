@@ -2,11 +2,11 @@
 use Rattle.std.proofs.Common.{◌≡◌, ℕ, ◌+◌, Bool, true, false, Option, Some, List, [], ◌∷◌, length, slice_get, refl, sym, ap, ap₂, ◌∙◌, arith}
 use Rattle.std.proofs.lemmas.Option.{slice_get_within}
 use Rattle.std.specs.Prelude.{not}
-use Rattle.channel_laws.specs.WireEvent.{Idle, Reset}
+use Rattle.lane_models.specs.WireEvent.{Idle, Reset}
 use Rattle.disk_law.specs.ListState.{ImageState}
-use Rattle.disk_model.specs.ClientState as client
-use Rattle.disk_model.specs.DiskEvent.{CalmTick, Calms, DiskEvent, Off, OnWire, Switches}
-use Rattle.disk_model.specs.LaneState.{LaneState}
+use Rattle.lane_models.specs.ClientState as client
+use Rattle.lane_models.specs.DiskEvent.{CalmTick, Calms, DiskEvent, Off, OnWire, Switches}
+use Rattle.lane_models.specs.LaneState.{LaneState}
 use Rattle.lane_kinds.proofs.Moving.{lane_steps, same_lanes}
 use Rattle.lane_kinds.proofs.WorldMade.{lane_gets, one_set}
 use Rattle.lane_kinds.specs.LaneFronts.{BeginsTurn}
@@ -14,11 +14,11 @@ use Rattle.lane_kinds.specs.Lanes.{EntryOf, StepOf}
 use Rattle.lane_kinds.specs.WorldMade.{KindRuns}
 use Rattle.lane_laws.specs.CalmEnds.{IsStep}
 use Rattle.ldc_queue.specs.declared.end.End.TheVariants.{A, B}
-use Rattle.port_model.specs.NetEndStep as net_step
-use Rattle.port_model.specs.NetEvent as net
-use Rattle.port_model.specs.NetEvent.{NetEvent, Steps, Ticked}
-use Rattle.port_model.specs.NetLaneStep as port_lane
-use Rattle.port_model.specs.PortState.{OnLane, PortState}
+use Rattle.lane_models.specs.NetEndStep as net_step
+use Rattle.lane_models.specs.NetEvent as net
+use Rattle.lane_models.specs.NetEvent.{NetEvent, Steps, Ticked}
+use Rattle.lane_models.specs.NetLaneStep as port_lane
+use Rattle.lane_models.specs.PortState.{OnLane, PortState}
 use Rattle.switch_laws.proofs.PortTurns.{silence}
 use Rattle.switch_laws.specs.Events.{OnPort, SwitchEvent}
 use Rattle.switch_laws.specs.Ports.{IsStepOf, ports}

@@ -3,7 +3,7 @@
 use Rattle.std.proofs.Common.{◌≡◌, ℕ, ◌+◌, ◌<◌, ◌≤◌, Bool, true, false, inl, inr, List, [], ◌∷◌, ◌++◌, length, map, take, drop, refl, sym, ap, ap₂, ◌∙◌, subst, append_assoc, append-nil}
 use Rattle.std.specs.Prelude.{◌||◌}
 use Rattle.runs.specs.Run.{Run, run_append}
-use Rattle.disk_model.specs.LaneState.{LaneState}
+use Rattle.lane_models.specs.LaneState.{LaneState}
 use Rattle.lane_kinds.proofs.BothMade.{AsMany, both_round, both_ticks, lists_say, many_made, many_then, many_ticked, none_marked, same_marks}
 use Rattle.lane_kinds.proofs.EntryRuns.{Leaves, front_leaves, leaving_runs}
 use Rattle.lane_kinds.proofs.LaneFronts.{of_both}
@@ -20,7 +20,7 @@ use Rattle.lane_kinds.specs.LanesMade.{Marks, both_true, first_marks}
 use Rattle.lane_kinds.specs.Rounds.{tick_marks}
 use Rattle.lane_kinds.specs.RoundsMade as rounds_made
 use Rattle.lane_kinds.specs.RoundsMade.{GoneSaid}
-use Rattle.port_model.specs.PortState.{PortState}
+use Rattle.lane_models.specs.PortState.{PortState}
 use Rattle.switch_laws.specs.Ports.{ports}
 use Rattle.world_laws.specs.DiskKind.{disk_kind}
 use Rattle.world_laws.specs.Settle.{SettleEntry, Settled, disk_entries, disks}

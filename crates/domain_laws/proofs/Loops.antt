@@ -1,10 +1,10 @@
 -- The loops over disks, and those over ports: a round, its ticks and its names go on by the next lane.
 use Rattle.std.proofs.Common.{◌≡◌, ℕ, ◌+◌, ◌<◌, ◌≤◌, Bool, false, List, [], ◌++◌, length, slice_get, slice_set, Some}
 use Rattle.std.specs.Prelude.{◌&&◌, ◌||◌}
-use Rattle.disk_model.specs.LaneState.{LaneState}
+use Rattle.lane_models.specs.LaneState.{LaneState}
 use Rattle.lane_kinds.proofs.WorldMade as made
 use Rattle.ldc_queue.specs.declared.end.End.TheVariants.{A, B}
-use Rattle.port_model.specs.PortState.{PortState}
+use Rattle.lane_models.specs.PortState.{PortState}
 use Rattle.world_laws.specs.Settle.{SettleEntry}
 use Rattle.world_laws.specs.Ticks.{gets_tick}
 use Rattle.domain_laws.specs.Domain.{DomainState}

@@ -5,13 +5,13 @@ use Rattle.std.specs.Int.{bit_at}
 use Rattle.std.specs.Prelude.{◌==◌, if◌then◌else◌}
 use Rattle.runs.specs.Run.{Run, run_push, run_split}
 use Rattle.disk_law.specs.ListState.{ImageState}
-use Rattle.disk_model.specs.DiskEvent.{DiskEvent}
-use Rattle.disk_model.specs.LaneState.{Shape}
+use Rattle.lane_models.specs.DiskEvent.{DiskEvent}
+use Rattle.lane_models.specs.LaneState.{Shape}
 use Rattle.lane_kinds.proofs.EntriesEach.{first_each}
 use Rattle.lane_kinds.specs.Lanes.{EachOf, own_or}
 use Rattle.ldc_queue.specs.declared.end.End.{End}
-use Rattle.port_model.specs.NetLaneState.{NetShape}
-use Rattle.port_model.specs.PortState.{PortState}
+use Rattle.lane_models.specs.NetLaneState.{NetShape}
+use Rattle.lane_models.specs.PortState.{PortState}
 use Rattle.switch_laws.specs.Events.{OnPort, SwitchEvent, SwitchStep, Switched}
 use Rattle.switch_laws.specs.Ports.{gets, gift}
 use Rattle.world_laws.proofs.BehindDisks.{world_around}

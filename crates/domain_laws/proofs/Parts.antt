@@ -12,13 +12,13 @@ use Rattle.lane_kinds.specs.Both.{OnSecond}
 use Rattle.lane_kinds.specs.Lanes.{EachOf, EntryOf}
 use Rattle.lane_kinds.specs.Laws.{AnswersLead, Leads}
 use Rattle.lane_kinds.specs.Settles.{SettlePart}
-use Rattle.port_model.specs.PortState.{OnLane, PortState, Receives}
+use Rattle.lane_models.specs.PortState.{OnLane, PortState, Receives}
 use Rattle.switch_laws.proofs.PortTurns.{silence, turn_steps}
 use Rattle.switch_laws.specs.Events.{OnPort, SwitchEvent, Switched}
 use Rattle.switch_laws.specs.Ports.{ports}
 use Rattle.world_laws.specs.DiskKind.{disk_kind}
 use Rattle.world_laws.specs.Settle.{OfPort, SettleEntry, disk_entries, disks}
-use Rattle.domain_laws.specs.Domain.{IsOwn, Lanes, PortsStep, lanes, port_entries, switch}
+use Rattle.domain_laws.specs.Domain.{IsOwnEvent, Lanes, PortsStep, lanes, port_entries, switch}
 
 -- EACH ENTRY moves the ports, whether it is an event of a port's own or not
 abbrev Moves : List PortState → SettleEntry → List PortState → Type 0
@@ -38,7 +38,7 @@ ends =
 
 -- AND IT IS ONE
 abbrev OwnEntry : SettleEntry → Type 0
-OwnEntry (OfPort k event) = IsOwn event
+OwnEntry (OfPort k event) = IsOwnEvent event
 OwnEntry _ = ⊤
 
 step_own : (k : ℕ) (event : SwitchEvent) → ports.IsStep event → OwnEntry (port_entries.of_lane k event)

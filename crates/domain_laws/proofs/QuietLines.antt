@@ -2,11 +2,11 @@
 use Rattle.std.proofs.Common.{◌≡◌, ℕ, List, [], ◌∷◌, ◌++◌, length, refl, sym, ap, ◌∙◌, subst}
 use Rattle.runs.specs.Run.{Run}
 use Rattle.disk_law.specs.ListState.{ImageState}
-use Rattle.disk_model.specs.DiskEvent.{Accepted, Asks, DiskEvent, Full, Refused}
-use Rattle.disk_model.specs.LaneState.{LaneState, Shape}
+use Rattle.lane_models.specs.DiskEvent.{Accepted, Asks, DiskEvent, Full, Refused}
+use Rattle.lane_models.specs.LaneState.{LaneState, Shape}
 use Rattle.lane_kinds.proofs.NoneBeside.{IsNone, empty, first_part, list_none}
 use Rattle.lane_kinds.specs.Settles as settle
-use Rattle.port_model.specs.PortState.{PortState}
+use Rattle.lane_models.specs.PortState.{PortState}
 use Rattle.switch_laws.specs.Ports.{ports}
 use Rattle.vdisk_msg.specs.declared.request.Request.{Request}
 use Rattle.world_laws.proofs.NoFaults.{part_before}

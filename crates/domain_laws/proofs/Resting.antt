@@ -2,7 +2,7 @@
 use Rattle.std.proofs.Common.{◌≡◌, ◌⊎◌, inl, inr, ℕ, ◌+◌, ◌≤◌, Bool, true, false, Option, Some, None, List, [], ◌∷◌, length, refl, sym, ap, ◌∙◌, arith}
 use Rattle.std.proofs.lemmas.Bool.{eqb-true}
 use Rattle.std.specs.Prelude.{◌&&◌, ◌==◌, is_some, not}
-use Rattle.disk_model.specs.Reached as disk
+use Rattle.lane_models.specs.Reached as disk
 use Rattle.lane_kinds.proofs.BothFronts.{first_fronts_count, lanes_ignore_fronts, second_fronts_count}
 use Rattle.lane_kinds.proofs.Both.{both_keep, first_counts, first_ends_with, second_counts, second_ends_with}
 use Rattle.lane_kinds.proofs.Counting.{front_counted, part_counted, settles_counted}
@@ -17,13 +17,13 @@ use Rattle.lane_kinds.specs.Both.{BothStand, Two}
 use Rattle.lane_kinds.specs.Fronts.{SettleFront}
 use Rattle.lane_kinds.specs.LaneCounts.{LaneTicks, mark_at}
 use Rattle.lane_kinds.specs.LaneFronts.{fronts_of}
-use Rattle.lane_kinds.specs.Lanes.{EachMarked, EachOf, IsAtRest}
-use Rattle.lane_kinds.specs.Laws.{CountsRounds, Keeps}
+use Rattle.lane_kinds.specs.Lanes.{EachMarked, EachOf, IsLaneAtRest}
+use Rattle.lane_kinds.specs.Laws.{CountsRounds, KeepsStanding}
 use Rattle.lane_kinds.specs.Settles.{EndsWith, SettlePart, Settles}
 use Rattle.lane_kinds.specs.Stuck.{sum_over}
-use Rattle.port_model.specs.NetEndState.{NetSession}
-use Rattle.port_model.specs.NetLaneStep.{is_finished, is_nothing, told_all}
-use Rattle.port_model.specs.PortState.{PortState}
+use Rattle.lane_models.specs.NetEndState.{NetSession}
+use Rattle.lane_models.specs.NetLaneStep.{is_finished, is_nothing, told_all}
+use Rattle.lane_models.specs.PortState.{PortState}
 use Rattle.switch_laws.proofs.Counting as switch_counts
 use Rattle.switch_laws.proofs.Resting.{port_rests}
 use Rattle.switch_laws.proofs.PortTurns.{turn_steps}
@@ -50,7 +50,7 @@ WholePort = IsWhole ports port.IsReached port.IsUnforged port.IsLossless port_re
 abbrev pub Stand : Lanes → Two (List Bool) (List Bool) → Type 0
 Stand = BothStand behind_disks.Stands (EachMarked WholePort)
 
-pub keeps : Keeps lanes Stand
+pub keeps : KeepsStanding lanes Stand
 keeps =
     both_keep disks switch behind_disks.Stands (EachMarked WholePort) behind_disks.keeps
     (lanes_keep ports port.IsReached port.IsUnforged port.IsLossless port_rests port_entries)
@@ -155,7 +155,7 @@ by_tick : (part : List SettleEntry) (k : ℕ) (t : PortState) (had : Bool) → (
 by_tick part k t had one (inl rests) = inl (finished_where (is_finished t.lane (length t.queue)) rests)
 by_tick part k t had one (inr is) = inr (one is)
 
-port_ends : (part : List SettleEntry) (k : ℕ) (t : PortState) (had : Bool) → (had ≡ true → port_ticks_in k part ≡ 1) → IsAtRest ports port.IsUnforged t had → PortEndsIn part k t
+port_ends : (part : List SettleEntry) (k : ℕ) (t : PortState) (had : Bool) → (had ≡ true → port_ticks_in k part ≡ 1) → IsLaneAtRest ports port.IsUnforged t had → PortEndsIn part k t
 port_ends part k t had one rests = record {
   ticked = by_tick part k t had one rests.ticked;
   finished = λ clean. finished_where (is_finished t.lane (length t.queue)) (rests.finished clean);
@@ -164,7 +164,7 @@ port_ends part k t had one rests = record {
 
 pub ports_end : (start : Lanes) (part : List SettleEntry) (behind : Lanes) → AreReached start → Settles lanes start part behind → PortsEnd part behind.second
 ports_end start part behind reached at =
-    each_ticked (IsAtRest ports port.IsUnforged) (PortEndsIn part) (λ k. port_ticks_in k part) (port_ends part) 0 behind.second at.now.marks.second
+    each_ticked (IsLaneAtRest ports port.IsUnforged) (PortEndsIn part) (λ k. port_ticks_in k part) (port_ends part) 0 behind.second at.now.marks.second
     (record {
       marked = λ k. same_is_most (port_ticks_in k part) (mark_at k 0 at.now.marks.second)
           (settles_counted lanes (port_ticks_in k) (λ m. mark_at k 0 m.second) (port_counts k) start part behind at);

@@ -7,8 +7,8 @@ use Rattle.runs.specs.Run.{Run, run_keeps}
 use Rattle.lane_kinds.proofs.Both.{run_of_first, run_of_second}
 use Rattle.lane_kinds.proofs.Moving.{both_move, lane_moved, many_moved, none_move, nothing_move, told_moves}
 use Rattle.lane_kinds.specs.Lanes.{AllMove, EachOf, Reads}
-use Rattle.port_model.specs.NetLaneState.{IsNetShape, NetShape}
-use Rattle.port_model.specs.PortState.{PortState, PortStep, fresh_port}
+use Rattle.lane_models.specs.NetLaneState.{IsNetShape, NetShape}
+use Rattle.lane_models.specs.PortState.{PortState, PortStep, fresh_port}
 use Rattle.switch_laws.proofs.Steps.{reached_step, run_on_port}
 use Rattle.switch_laws.proofs.PortTurns.{silence}
 use Rattle.switch_laws.specs.Events.{SwitchEvent, SwitchStep, at_port}

@@ -3,10 +3,10 @@ use Rattle.std.proofs.Common.{ℕ, List, [], ◌∷◌, ◌++◌, length, ◌∙
 use Rattle.std.proofs.lemmas.List.{length-map}
 use Rattle.runs.specs.Run.{Run, run_append}
 use Rattle.disk_law.specs.ListState.{ImageState}
-use Rattle.disk_model.specs.LaneState.{Shape, fresh}
+use Rattle.lane_models.specs.LaneState.{Shape, fresh}
 use Rattle.lane_kinds.specs.Lanes.{EachOf}
-use Rattle.port_model.specs.NetLaneState.{NetShape}
-use Rattle.port_model.specs.PortState.{fresh_port}
+use Rattle.lane_models.specs.NetLaneState.{NetShape}
+use Rattle.lane_models.specs.PortState.{fresh_port}
 use Rattle.world_laws.proofs.Along.{many_stay}
 use Rattle.world_laws.specs.Settle.{SettleEntry}
 use Rattle.domain_laws.proofs.LineEntries.{AnswersHave, AreSoMany, CallsHave, EachEntry, NamesHave, StepsHave, TicksHave, begins_each, each_both, line_each}

@@ -1,7 +1,7 @@
 -- A settle over disks and ports that nobody forged ends settled: each round that goes on lowers what remains on all of them together.
 use Rattle.std.proofs.Common.{◌≡◌, ℕ, ◌+◌, ◌*◌, ◌≤◌, ◌<◌, List, [], ◌∷◌, length, refl, arith}
 use Rattle.std.specs.Prelude.{⊤}
-use Rattle.disk_model.specs.LaneState.{LaneState}
+use Rattle.lane_models.specs.LaneState.{LaneState}
 use Rattle.lane_kinds.proofs.Both.{both_fall}
 use Rattle.lane_kinds.proofs.Falling.{ends_settled, rounds_few}
 use Rattle.lane_kinds.proofs.Lanes.{lanes_fall}
@@ -10,7 +10,7 @@ use Rattle.lane_kinds.specs.Fronts.{SettleFront}
 use Rattle.lane_kinds.specs.Lanes.{AreClean, EachOf, sum_of}
 use Rattle.lane_kinds.specs.Laws.{Falls}
 use Rattle.lane_kinds.specs.Settles.{SettlePart, Settles, most_rounds}
-use Rattle.port_model.specs.PortState.{PortState}
+use Rattle.lane_models.specs.PortState.{PortState}
 use Rattle.switch_laws.proofs.Falling.{port_falls}
 use Rattle.switch_laws.proofs.Settling.{ports_bound}
 use Rattle.switch_laws.specs.Ports.{pending, ports}

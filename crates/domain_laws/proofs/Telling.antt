@@ -7,12 +7,12 @@ use Rattle.ldc_queue.specs.declared.end.End.{End}
 use Rattle.ldc_queue.specs.declared.end.End.TheVariants.{A, B}
 use Rattle.lane_kinds.specs.Lanes.{AllStep, EntryOf, own_or}
 use Rattle.port_laws.specs.InOrder.{frames_taken, took}
-use Rattle.port_model.specs.EndLog.{EndLog}
-use Rattle.port_model.specs.NetEndStep.{BadLength, Blocked, Frame, Full, Idle, Joined, NetAnswer, Published, Queued, Reset, Sent, Took}
-use Rattle.port_model.specs.NetEvent.{Asked, Gives, NetEvent, Steps}
-use Rattle.port_model.specs.NetLaneState.{NetShape}
-use Rattle.port_model.specs.PortLog.{PortLog, after, after_answer, log_of_end, no_events}
-use Rattle.port_model.specs.PortState.{OnLane, PortEvent, PortState, Receives}
+use Rattle.lane_models.specs.EndLog.{EndLog}
+use Rattle.lane_models.specs.NetEndStep.{BadLength, Blocked, Frame, Full, Idle, Joined, NetAnswer, Published, Queued, Reset, Sent, Took}
+use Rattle.lane_models.specs.NetEvent.{Asked, Gives, NetEvent, Steps}
+use Rattle.lane_models.specs.NetLaneState.{NetShape}
+use Rattle.lane_models.specs.PortLog.{PortLog, after, after_answer, log_of_end, no_events}
+use Rattle.lane_models.specs.PortState.{OnLane, PortEvent, PortState, Receives}
 use Rattle.ldc_queue.specs.Transcript.{Utterance}
 use Rattle.runs.specs.Lawful.{log_of}
 use Rattle.runs.specs.Run.{Run}
@@ -24,7 +24,7 @@ use Rattle.switch_laws.specs.Ports.{gets, gift, ports}
 use Rattle.vnet_switch.proofs.Bits.{set_from}
 use Rattle.world_laws.specs.Settle.{OfPort, SettleEntry}
 use Rattle.domain_laws.specs.Along.{port_happened, port_said}
-use Rattle.domain_laws.specs.Domain.{IsOwn, PortMoves, PortsStep}
+use Rattle.domain_laws.specs.Domain.{IsOwnEvent, PortMoves, PortsStep}
 use Rattle.domain_laws.specs.Frames.{arrived_in, frames_arrived, frames_put, frames_queued, frames_switched, of_port, port_events, put_by, put_in, queued_in, switched_in}
 
 -- THE FRAMES that an end is given by an event
@@ -50,8 +50,8 @@ answer_same slots turns (Joined lost) l = nothing_more l.given
 answer_same slots turns (Reset cause packet lost) l = nothing_more l.given
 
 given_after : (e : End) (l : PortLog) (event : PortEvent) → (log_of_end e (after l event)).given ≡ (log_of_end e l).given ++ gave e event
-given_after A l (OnLane (Steps A answer)) = answer_same l.shape.slots l.transcript.client answer l.guest
-given_after B l (OnLane (Steps B answer)) = answer_same l.shape.slots l.transcript.server answer l.hub
+given_after A l (OnLane (Steps A answer)) = answer_same l.shape.slots l.transcript.a answer l.guest
+given_after B l (OnLane (Steps B answer)) = answer_same l.shape.slots l.transcript.b answer l.hub
 given_after A l (OnLane (Gives A (Queued id frame))) = refl
 given_after B l (OnLane (Gives B (Queued id frame))) = refl
 given_after B l (Receives frame) = refl
@@ -140,7 +140,7 @@ never_own false k j lanes frame out full is same sees = refl
 never_own true k j lanes frame out full is same sees =
     absurd ((never_back lanes j frame out full sees).0 (subst (IsBitSet out) same (set_from out k (eqb-true (bit_at out k) 1 is))))
 
-own_put : (event : PortEvent) → IsOwn (OnPort event) → OwnStep (OnPort event) → [] ≡ gave B event ++ []
+own_put : (event : PortEvent) → IsOwnEvent (OnPort event) → OwnStep (OnPort event) → [] ≡ gave B event ++ []
 own_put (OnLane (Gives B (Queued id frame))) own step = absurd step.step.1.0
 own_put (Receives frame) own step = absurd own
 own_put _ own step = refl
@@ -149,7 +149,7 @@ gift_put : (c : Bool) (frame : List ℕ) → (if c then frame ∷ [] else []) �
 gift_put true frame = refl
 gift_put false frame = refl
 
-by_put : (b : Bool) (k j : ℕ) (lanes : List PortState) (event : SwitchEvent) → (b ≡ true → k ≡ j) → IsOwn event → OwnStep event → SeesSwitch lanes j event
+by_put : (b : Bool) (k j : ℕ) (lanes : List PortState) (event : SwitchEvent) → (b ≡ true → k ≡ j) → IsOwnEvent event → OwnStep event → SeesSwitch lanes j event
     → put_in k event ≡ flat_map (gave B) (map at_port (own_or b event (gets k event)))
 by_put true k j lanes (OnPort event) same own step sees = own_put event own step
 by_put true k j lanes (Switched frame out full) same own step sees = never_own (bit_at out k == 1) k j lanes frame out full refl (same refl) sees

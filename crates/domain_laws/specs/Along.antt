@@ -1,6 +1,6 @@
 -- What a journal says happened to a port, and what an entry of one lane leaves of all others.
 use Rattle.std.specs.Prelude.{◌≡◌, ◌≢◌, ℕ, ◌==◌, List, [], length, slice_get, ⊤}
-use Rattle.disk_model.specs.LaneState.{LaneState}
+use Rattle.lane_models.specs.LaneState.{LaneState}
 use Rattle.lane_kinds.specs.Lanes as lanes
 use Rattle.switch_laws.specs.Events.{SwitchEvent}
 use Rattle.switch_laws.specs.Ports.{gets}

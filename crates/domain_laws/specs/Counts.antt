@@ -2,12 +2,12 @@
 -- room with nothing but Blocked between, on any disk or port.
 use Rattle.std.specs.Prelude.{ℕ, Bool, true, false, if◌then◌else◌, List}
 use Rattle.ldc_queue.specs.declared.end.End.{End}
-use Rattle.channel_laws.specs.WireEvent as wire
-use Rattle.disk_model.specs.DiskEvent.{OnWire}
+use Rattle.lane_models.specs.WireEvent as wire
+use Rattle.lane_models.specs.DiskEvent.{OnWire}
 use Rattle.lane_kinds.specs.Stuck.{sum_over}
-use Rattle.port_model.specs.NetEndStep.{Blocked}
-use Rattle.port_model.specs.NetEvent.{Steps}
-use Rattle.port_model.specs.PortState.{OnLane}
+use Rattle.lane_models.specs.NetEndStep.{Blocked}
+use Rattle.lane_models.specs.NetEvent.{Steps}
+use Rattle.lane_models.specs.PortState.{OnLane}
 use Rattle.switch_laws.specs.Events.{OnPort, SwitchEvent}
 use Rattle.switch_laws.specs.PortCounts as port
 use Rattle.switch_laws.specs.Ports as switch_ports

@@ -2,13 +2,13 @@
 -- does to it, and a settle over all of them.
 use Rattle.std.specs.Prelude.{◌≡◌, ℕ, Bool, List, map, ⊤}
 use Rattle.disk_law.specs.ListState.{ImageState}
-use Rattle.disk_model.specs.LaneState.{LaneState, Shape}
+use Rattle.lane_models.specs.LaneState.{LaneState, Shape}
 use Rattle.lane_kinds.specs.Both.{BothStep, Two, both}
 use Rattle.lane_kinds.specs.Lanes.{Entries, EntryOf, lanes_of}
 use Rattle.lane_kinds.specs.Rounds.{Rounds}
 use Rattle.lane_kinds.specs.Settles.{SettlePart}
-use Rattle.port_model.specs.NetLaneState.{NetShape}
-use Rattle.port_model.specs.PortState.{PortState, Receives, fresh_port}
+use Rattle.lane_models.specs.NetLaneState.{NetShape}
+use Rattle.lane_models.specs.PortState.{PortState, Receives, fresh_port}
 use Rattle.runs.specs.Run.{Run}
 use Rattle.switch_laws.specs.Events.{OnPort, SwitchEvent}
 use Rattle.switch_laws.specs.Ports.{ports}
@@ -25,12 +25,12 @@ fresh_domain shapes image nets = record { first = fresh_world shapes image; seco
 
 -- AN ENTRY of a port moves it, and the others by what it gives them; what it gets of others is no entry of its own. It leaves the disks and
 -- their image, and any other entry the ports.
-abbrev pub IsOwn : SwitchEvent → Type 0
-IsOwn (OnPort (Receives frame)) = ⊥
-IsOwn _ = ⊤
+abbrev pub IsOwnEvent : SwitchEvent → Type 0
+IsOwnEvent (OnPort (Receives frame)) = ⊥
+IsOwnEvent _ = ⊤
 
 pub record PortMoves (lanes : List PortState) (k : ℕ) (event : SwitchEvent) (behind : List PortState) : Type 0 where
-  pub own : IsOwn event
+  pub own : IsOwnEvent event
   pub entry : EntryOf ports k lanes event behind
 
 abbrev pub PortsStep : List PortState → SettleEntry → List PortState → Type 0

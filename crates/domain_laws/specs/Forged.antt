@@ -2,8 +2,8 @@
 -- And lines of a script that forge nothing: they inject no packet and poke into no memory, or not on this lane.
 use Rattle.std.specs.Prelude.{◌≡◌, ◌≢◌, Bool, true, false, List, ⊤}
 use Rattle.lane_kinds.specs.Lanes.{EachOf}
-use Rattle.port_model.specs.NetEvent as net
-use Rattle.port_model.specs.PortState.{OnLane}
+use Rattle.lane_models.specs.NetEvent as net
+use Rattle.lane_models.specs.PortState.{OnLane}
 use Rattle.switch_laws.specs.Events.{OnPort, SwitchEvent}
 use Rattle.world_laws.specs.Settle.{SettleEntry}
 use Rattle.domain_laws.specs.Lines.{Calls, Injects, LaneName, Line, Pokes}

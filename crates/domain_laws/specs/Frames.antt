@@ -4,9 +4,9 @@ use Rattle.std.specs.Prelude.{ℕ, ◌==◌, if◌then◌else◌, List, [], ◌�
 use Rattle.std.specs.Int.{bit_at}
 use Rattle.lane_kinds.specs.Settles.{Settles}
 use Rattle.ldc_queue.specs.declared.end.End.TheVariants.{A}
-use Rattle.port_model.specs.NetEndStep.{Frame, Queued}
-use Rattle.port_model.specs.NetEvent.{Gives, Steps}
-use Rattle.port_model.specs.PortState.{OnLane, PortEvent}
+use Rattle.lane_models.specs.NetEndStep.{Frame, Queued}
+use Rattle.lane_models.specs.NetEvent.{Gives, Steps}
+use Rattle.lane_models.specs.PortState.{OnLane, PortEvent}
 use Rattle.runs.specs.Run.{Run}
 use Rattle.switch_laws.specs.Events.{OnPort, SwitchEvent, Switched, at_port}
 use Rattle.world_laws.specs.Settle.{OfPort, SettleEntry}

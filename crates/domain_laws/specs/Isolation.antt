@@ -1,6 +1,6 @@
 -- A line of a script that is for one lane alone, and what it leaves of all others.
 use Rattle.std.specs.Prelude.{◌≡◌, ◌≢◌, ℕ, List, ◌++◌, length, Some, slice_get}
-use Rattle.port_model.specs.PortState.{PortState}
+use Rattle.lane_models.specs.PortState.{PortState}
 use Rattle.world_laws.specs.Settle.{SettleEntry}
 use Rattle.domain_laws.specs.Domain.{DomainState}
 use Rattle.domain_laws.specs.Frames.{frames_put}

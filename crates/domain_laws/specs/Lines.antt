@@ -9,17 +9,17 @@ use Rattle.ldc_queue.specs.declared.end.End.{End}
 use Rattle.ldc_queue.specs.declared.end.End.TheVariants.{A, B}
 use Rattle.vdisk_msg.specs.declared.request.Request.{Request}
 use Rattle.vio_tag.specs.declared.cause.Cause.TheVariants as the_cause
-use Rattle.channel_laws.specs.WireEvent.{InjectedFull, NotInjected, NothingLost, PokeRefused}
-use Rattle.channel_laws.specs.WireEvent as wire
-use Rattle.disk_model.specs.DiskEvent.{Accepted, Asks, CalmReset, CalmRestart, CalmStart, CalmStop, CalmTick, Calms, DiskEvent, OnWire, Refused, Started, Stopped, Switches}
-use Rattle.disk_model.specs.DiskEvent as disk
-use Rattle.disk_model.specs.LaneState.{LaneState}
+use Rattle.lane_models.specs.WireEvent.{InjectedFull, NotInjected, NothingLost, PokeRefused}
+use Rattle.lane_models.specs.WireEvent as wire
+use Rattle.lane_models.specs.DiskEvent.{Accepted, Asks, CalmReset, CalmRestart, CalmStart, CalmStop, CalmTick, Calms, DiskEvent, OnWire, Refused, Started, Stopped, Switches}
+use Rattle.lane_models.specs.DiskEvent as disk
+use Rattle.lane_models.specs.LaneState.{LaneState}
 use Rattle.lane_laws.specs.CalmEnds.{IsStep}
-use Rattle.port_model.specs.NetEndStep.{Already, BadLength, GroupsFull, Member, Queued}
-use Rattle.port_model.specs.NetEndStep as port
-use Rattle.port_model.specs.NetEvent.{CalmTick as CalmPortTick, Gives, NetEvent, Ticked}
-use Rattle.port_model.specs.NetEvent as net
-use Rattle.port_model.specs.PortState.{OnLane, PortState}
+use Rattle.lane_models.specs.NetEndStep.{Already, BadLength, GroupsFull, Member, Queued}
+use Rattle.lane_models.specs.NetEndStep as port
+use Rattle.lane_models.specs.NetEvent.{CalmTick as CalmPortTick, Gives, NetEvent, Ticked}
+use Rattle.lane_models.specs.NetEvent as net
+use Rattle.lane_models.specs.PortState.{OnLane, PortState}
 use Rattle.switch_laws.specs.Events.{OnPort, SwitchEvent}
 use Rattle.switch_laws.specs.Ports.{IsStepOf as IsPortStep, ports}
 use Rattle.world_laws.specs.Begun.{fronts as disk_fronts}

@@ -1,10 +1,10 @@
 -- Which disks, and then which ports, are named where the rounds ran out, by the marks of the last round.
 use Rattle.std.specs.Prelude.{◌≡◌, ℕ, Bool, List, ◌++◌}
-use Rattle.disk_model.specs.LaneState.{LaneState}
+use Rattle.lane_models.specs.LaneState.{LaneState}
 use Rattle.lane_kinds.specs.LanesMade as made
 use Rattle.lane_kinds.specs.LanesMade.{Marks, first_marks}
 use Rattle.lane_kinds.specs.WorldMade.{NamesUpTo}
-use Rattle.port_model.specs.PortState.{PortState}
+use Rattle.lane_models.specs.PortState.{PortState}
 use Rattle.switch_laws.specs.Ports.{ports}
 use Rattle.world_laws.specs.DiskKind.{disk_kind}
 use Rattle.world_laws.specs.Settle.{SettleEntry, disk_entries}

@@ -1,6 +1,6 @@
 -- What each line does to a plain list of requests, and what is shown of that.
 use Rattle.std.specs.Prelude.{List, [], ◌∷◌, ◌++◌}
-use Rattle.disk_model.specs.LaneState.{Shape}
+use Rattle.lane_models.specs.LaneState.{Shape}
 use Rattle.vdisk_msg.specs.Requests.{defect}
 use Rattle.world_laws.specs.Plain.{Plain, answer, asked, complete_all, completions, is_full}
 use Rattle.world_laws.specs.Settle.{SettleEntry, Settled}

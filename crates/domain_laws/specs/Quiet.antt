@@ -2,7 +2,7 @@
 use Rattle.std.specs.Prelude.{◌≡◌, ℕ, List, [], ◌∷◌, map, flat_map, ⊤}
 use Rattle.runs.specs.Run.{Run}
 use Rattle.disk_law.specs.ListState.{ImageState}
-use Rattle.disk_model.specs.LaneState.{Shape}
+use Rattle.lane_models.specs.LaneState.{Shape}
 use Rattle.world_laws.specs.Plain.{untouched}
 use Rattle.world_laws.specs.Quiet.{IsPlain}
 use Rattle.world_laws.specs.Settle.{SettleEntry}

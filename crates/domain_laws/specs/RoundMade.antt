@@ -1,7 +1,7 @@
 -- What was made so far of a round over disks and ports: by the disks in order, and behind them by the ports. And a front of one.
 use Rattle.std.specs.Prelude.{ℕ, Bool, List, map}
-use Rattle.disk_model.specs.DiskEvent.{DiskEvent}
-use Rattle.disk_model.specs.LaneState.{LaneState}
+use Rattle.lane_models.specs.DiskEvent.{DiskEvent}
+use Rattle.lane_models.specs.LaneState.{LaneState}
 use Rattle.lane_kinds.specs.Both.{Two}
 use Rattle.lane_kinds.specs.LaneFronts.{RoundFront}
 use Rattle.lane_kinds.specs.Lanes.{all_calm}
@@ -11,7 +11,7 @@ use Rattle.lane_kinds.specs.RoundsMade.{RoundSaid, both_said}
 use Rattle.lane_kinds.specs.WorldMade.{InWorld, KindMade, LaneMade, PartMade}
 use Rattle.lane_laws.specs.CalmEnds.{IsStep}
 use Rattle.ldc_queue.specs.declared.end.End.{End}
-use Rattle.port_model.specs.PortState.{PortState}
+use Rattle.lane_models.specs.PortState.{PortState}
 use Rattle.switch_laws.specs.Events.{SwitchEvent}
 use Rattle.switch_laws.specs.Ports.{IsStepOf, ports}
 use Rattle.world_laws.specs.DiskKind.{disk_kind}

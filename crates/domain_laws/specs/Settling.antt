@@ -1,10 +1,10 @@
 -- What stands of the lanes before a settle over disks and ports, and behind one.
 use Rattle.std.specs.Prelude.{◌≡◌, ◌⊎◌, ℕ, ◌≤◌, Bool, true, is_some, List, [], length}
-use Rattle.disk_model.specs.Reached as disk
+use Rattle.lane_models.specs.Reached as disk
 use Rattle.lane_kinds.specs.Lanes.{EachAt, EachOf}
 use Rattle.lane_kinds.specs.Stuck.{sum_over}
-use Rattle.port_model.specs.NetLaneStep.{is_finished}
-use Rattle.port_model.specs.PortState.{PortState}
+use Rattle.lane_models.specs.NetLaneStep.{is_finished}
+use Rattle.lane_models.specs.PortState.{PortState}
 use Rattle.switch_laws.specs.PortCounts as switch
 use Rattle.switch_laws.specs.Ports as switch_ports
 use Rattle.switch_laws.specs.Reached as port

@@ -7,7 +7,7 @@ use Rattle.lane_kinds.specs.LanesMade.{Marks, first_marks}
 use Rattle.lane_kinds.specs.Rounds.{tick_marks}
 use Rattle.lane_kinds.specs.RoundsMade as rounds
 use Rattle.lane_kinds.specs.WorldMade.{LaneTicked}
-use Rattle.port_model.specs.PortState.{PortState}
+use Rattle.lane_models.specs.PortState.{PortState}
 use Rattle.switch_laws.specs.Ports.{ports}
 use Rattle.world_laws.specs.DiskKind.{disk_kind}
 use Rattle.world_laws.specs.Settle.{SettleEntry, disk_entries}

@@ -4,14 +4,14 @@ ghost use Rattle.std.specs.Prelude.{◌≡◌, ◌++◌, ℕ, List, slice_get, S
 ghost use Rattle.runs.specs.Lawful.{log_of};
 ghost use Rattle.runs.specs.Run.{Run};
 ghost use Rattle.disk_law.specs.ListState.{ImageState};
-ghost use Rattle.disk_model.specs.LaneState.{Shape};
+ghost use Rattle.lane_models.specs.LaneState.{Shape};
 ghost use Rattle.lane_kinds.specs.Lanes.{EachOf};
 ghost use Rattle.ldc_queue.specs.declared.end.End.TheVariants.{A, B};
 ghost use Rattle.port_laws.specs.InOrder.{frames_taken, InOrder};
 ghost use Rattle.port_laws.specs.Lost.{frames_lost};
-ghost use Rattle.port_model.specs.NetLaneState.{IsNetShape, NetShape};
-ghost use Rattle.port_model.specs.PortLog.{after, no_events};
-ghost use Rattle.port_model.specs.PortState.{PortState};
+ghost use Rattle.lane_models.specs.NetLaneState.{IsNetShape, NetShape};
+ghost use Rattle.lane_models.specs.PortLog.{after, no_events};
+ghost use Rattle.lane_models.specs.PortState.{PortState};
 ghost use Rattle.switch_laws.specs.Reached.{IsUnforged};
 ghost use Rattle.world_laws.specs.Settle.{SettleEntry};
 ghost use Rattle.world_laws.specs.World.{AreShapes};

@@ -3,11 +3,11 @@
 ghost use Rattle.std.specs.Prelude.{◌≡◌, ◌<◌, ℕ, length, List, Some, ◌∷◌, ◌++◌, slice_get};
 ghost use Rattle.runs.specs.Run.{Run};
 ghost use Rattle.disk_law.specs.ListState.{ImageState};
-ghost use Rattle.disk_model.specs.DiskEvent.{DiskEvent};
-ghost use Rattle.disk_model.specs.LaneState.{LaneState, Shape};
+ghost use Rattle.lane_models.specs.DiskEvent.{DiskEvent};
+ghost use Rattle.lane_models.specs.LaneState.{LaneState, Shape};
 ghost use Rattle.lane_kinds.specs.Lanes.{EachOf};
-ghost use Rattle.port_model.specs.NetLaneState.{NetShape};
-ghost use Rattle.port_model.specs.PortState.{PortState};
+ghost use Rattle.lane_models.specs.NetLaneState.{NetShape};
+ghost use Rattle.lane_models.specs.PortState.{PortState};
 ghost use Rattle.switch_laws.specs.Events.{SwitchEvent};
 ghost use Rattle.switch_laws.specs.Reached as port;
 ghost use Rattle.world_laws.specs.Running.{IsRunning};

@@ -2,11 +2,11 @@
 
 ghost use Rattle.std.specs.Prelude.{◌≡◌, ℕ, true, false, Bool, ◌&&◌, ◌||◌, [], ◌∷◌, ◌++◌, ◌≤◌, ◌<◌, ◌+◌, List, length};
 ghost use Rattle.std.specs.Prelude.{Some, slice_get, slice_set};
-ghost use Rattle.disk_model.specs.DiskEvent.{DiskEvent};
-ghost use Rattle.disk_model.specs.LaneState.{LaneState};
+ghost use Rattle.lane_models.specs.DiskEvent.{DiskEvent};
+ghost use Rattle.lane_models.specs.LaneState.{LaneState};
 ghost use Rattle.lane_kinds.specs.LanesMade.{first_marks, Marks};
 ghost use Rattle.ldc_queue.specs.declared.end.End.TheVariants.{A, B};
-ghost use Rattle.port_model.specs.PortState.{PortState};
+ghost use Rattle.lane_models.specs.PortState.{PortState};
 ghost use Rattle.switch_laws.specs.Events.{SwitchEvent};
 ghost use Rattle.world_laws.specs.Settle.{OfLane, OfPort, SettleEntry, Settled};
 ghost use Rattle.world_laws.specs.Ticks.{gets_tick};

@@ -2,7 +2,7 @@
 
 ghost use Rattle.std.specs.Prelude.{ℕ, List};
 ghost use Rattle.disk_law.specs.ListState.{ImageState};
-ghost use Rattle.disk_model.specs.LaneState.{Shape};
+ghost use Rattle.lane_models.specs.LaneState.{Shape};
 ghost use Rattle.world_laws.specs.Quiet.{IsAtFront};
 ghost use Rattle.world_laws.specs.Settle.{SettleEntry};
 ghost use Rattle.domain_laws.specs.Domain.{DomainState};

@@ -3,12 +3,12 @@
 ghost use Rattle.std.specs.Prelude.{◌≡◌, ◌≢◌, ◌↔◌, ℕ, length, List, map, slice_get, Some};
 ghost use Rattle.runs.specs.Run.{Run};
 ghost use Rattle.disk_law.specs.ListState.{ImageState};
-ghost use Rattle.disk_model.specs.DiskEvent.{DiskEvent};
-ghost use Rattle.disk_model.specs.LaneState.{Shape};
+ghost use Rattle.lane_models.specs.DiskEvent.{DiskEvent};
+ghost use Rattle.lane_models.specs.LaneState.{Shape};
 ghost use Rattle.lane_kinds.proofs.Both.{two_of};
 ghost use Rattle.lane_kinds.specs.Lanes.{AllMove, EachOf};
-ghost use Rattle.port_model.specs.NetLaneState.{IsNetShape, NetShape};
-ghost use Rattle.port_model.specs.PortState.{fresh_port, PortState, PortStep};
+ghost use Rattle.lane_models.specs.NetLaneState.{IsNetShape, NetShape};
+ghost use Rattle.lane_models.specs.PortState.{fresh_port, PortState, PortStep};
 ghost use Rattle.switch_laws.specs.Events.{at_port, SwitchEvent, SwitchStep};
 ghost use Rattle.switch_laws.specs.Reached.{IsReached, IsUnforged};
 ghost use Rattle.world_laws.specs.Settle.{OfLane, OfPort, SettleEntry};

@@ -17,7 +17,7 @@ use Rattle.script_words.specs.Addresses.{is_among, is_group, is_own}
 use Rattle.domain_script.specs.Declarations.{addresses}
 use Rattle.domain_script.specs.Faults.{asks_other, faults, fields_of, first_fault, has_fault, is_blank, is_empty, is_wrong, placed, row_in}
 use Rattle.domain_script.specs.Naming.{first_named, lane_named, some_of_kind}
-use Rattle.domain_script.specs.NamesState.{IsFree, NamesState, count_of}
+use Rattle.domain_script.specs.NamesState.{IsNameFree, NamesState, count_of}
 use Rattle.domain_script.specs.Rows.{row_named, row_of}
 use Rattle.domain_script.specs.Spells.{IsBlank, Spells, SpellsField, SpellsFields, SpellsFound, SpellsRow, SpellsWords}
 use Rattle.domain_script.specs.Values.{ValueOf, ValuesOf}
@@ -31,7 +31,7 @@ use Rattle.domain_script.proofs.RowLemmas.{word_of_row}
 use Rattle.script_words.proofs.WordTests.{is_exactly_from, is_front_from, is_name_from, is_number_from, name_is, number_is, within_test}
 
 -- A FIELD whose word spells a value
-not_taken : (names : NamesState) (word : List ℕ) (name : Name) → SpellsName word name → IsFree names name → is_some (lane_named names word) ≡ false
+not_taken : (names : NamesState) (word : List ℕ) (name : Name) → SpellsName word name → IsNameFree names name → is_some (lane_named names word) ≡ false
 not_taken names word name spelled free =
     ap (λ (o : Option Lane). is_some o)
     (lane_of_name names word (is_name_from word name spelled) ∙ ap (λ (n : Name). first_named names n) (name_is word name spelled) ∙ free_first names name free)

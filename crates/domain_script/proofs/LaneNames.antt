@@ -13,7 +13,7 @@ use Rattle.domain_script.specs.Firsts.{IsFirst, IsNoneOf}
 use Rattle.domain_script.specs.LaneKinds.{lane_at}
 use Rattle.domain_script.specs.Declarations.{Declared, declared_as, names_of_kind}
 use Rattle.domain_script.proofs.LaneKinds.{by_kinds, no_names, same_or_not}
-use Rattle.domain_script.specs.NamesState.{declared_by, IsFree, IsLane, IsNamed, IsNoneBefore, NamesDiffer, NamesState, count_of, lane_name, names_of}
+use Rattle.domain_script.specs.NamesState.{declared_by, IsNameFree, IsLane, IsNamed, IsNoneBefore, NamesDiffer, NamesState, count_of, lane_name, names_of}
 use Rattle.domain_script.proofs.Firsts.{is_first, is_none, no_place, not_there, old_or_last, one_place, place_within}
 
 -- as many names as lanes
@@ -43,15 +43,15 @@ one_named names name a b first second =
     (λ k no_disk there. ap (λ (n : ℕ). lane_at lanes.Port n) (one_place (names_of lanes.Port names) name j k at there)) b second) a first
 
 -- a free name is of none
-free_among : (names : NamesState) (name : Name) (kind : LaneKind) → IsFree names name → IsNoneOf name (names_of kind names)
+free_among : (names : NamesState) (name : Name) (kind : LaneKind) → IsNameFree names name → IsNoneOf name (names_of kind names)
 free_among names name kind free =
     by_kinds (λ k. IsNoneOf name (names_of k names)) free.0 free.1
     (λ k not_disk not_port. subst (λ (l : List Name). IsNoneOf name l) (sym (no_names k (declared_by names) not_disk not_port)) tt) kind
 
-pub none_named : (names : NamesState) (name : Name) (lane : Lane) → IsFree names name → IsNamed names name lane → ⊥
+pub none_named : (names : NamesState) (name : Name) (lane : Lane) → IsNameFree names name → IsNamed names name lane → ⊥
 none_named names name lane free named = no_place (names_of lane.kind names) name lane.number (free_among names name lane.kind free) named.1
 
-pub none_has : (names : NamesState) (name : Name) (lane : Lane) → IsFree names name → lane_name names lane ≡ Some name → ⊥
+pub none_has : (names : NamesState) (name : Name) (lane : Lane) → IsNameFree names name → lane_name names lane ≡ Some name → ⊥
 none_has names name lane free is = not_there (names_of lane.kind names) name lane.number (free_among names name lane.kind free) is
 
 -- a lane that is named is declared
@@ -105,14 +105,14 @@ old_or_new names more kind other name found k adds is =
       | inr differs ↦ inl (of_other names more kind other name found k adds differs is)
     ]
 
-one_lane : (names : NamesState) (kind : LaneKind) (name found : Name) (a b : Lane) → NamesDiffer names → IsFree names name
+one_lane : (names : NamesState) (kind : LaneKind) (name found : Name) (a b : Lane) → NamesDiffer names → IsNameFree names name
     → (lane_name names a ≡ Some found) ⊎ IsNew names kind name a found → (lane_name names b ≡ Some found) ⊎ IsNew names kind name b found → a ≡ b
 one_lane names kind name found a b differ free (inl first) (inl second) = differ a b found first second
 one_lane names kind name found a b differ free (inl first) (inr second) = absurd (none_has names name a free (first ∙ ap Some (sym second.1)))
 one_lane names kind name found a b differ free (inr first) (inl second) = absurd (none_has names name b free (second ∙ ap Some (sym first.1)))
 one_lane names kind name found a b differ free (inr first) (inr second) = first.0 ∙ sym second.0
 
-differ_more : (names more : NamesState) (kind : LaneKind) (name : Name) → Adds names more kind name → NamesDiffer names → IsFree names name → NamesDiffer more
+differ_more : (names more : NamesState) (kind : LaneKind) (name : Name) → Adds names more kind name → NamesDiffer names → IsNameFree names name → NamesDiffer more
 differ_more names more kind name adds differ free a b found first second =
     one_lane names kind name found a b differ free (old_or_new names more kind a.kind name found a.number adds first) (old_or_new names more kind b.kind name found b.number adds second)
 
@@ -144,10 +144,10 @@ adds_port names more port disks ports = record {
   others = λ other differs. same_disks names more other disks differs;
 }
 
-pub differ_disk : (names more : NamesState) (disk : DiskDecl) → more.disks ≡ names.disks ++ disk ∷ [] → more.ports ≡ names.ports → NamesDiffer names → IsFree names disk.name → NamesDiffer more
+pub differ_disk : (names more : NamesState) (disk : DiskDecl) → more.disks ≡ names.disks ++ disk ∷ [] → more.ports ≡ names.ports → NamesDiffer names → IsNameFree names disk.name → NamesDiffer more
 differ_disk names more disk disks ports = differ_more names more lanes.Disk disk.name (adds_disk names more disk disks ports)
 
-pub differ_port : (names more : NamesState) (port : PortDecl) → more.disks ≡ names.disks → more.ports ≡ names.ports ++ port ∷ [] → NamesDiffer names → IsFree names port.name → NamesDiffer more
+pub differ_port : (names more : NamesState) (port : PortDecl) → more.disks ≡ names.disks → more.ports ≡ names.ports ++ port ∷ [] → NamesDiffer names → IsNameFree names port.name → NamesDiffer more
 differ_port names more port disks ports = differ_more names more lanes.Port port.name (adds_port names more port disks ports)
 
 -- the name of a lane is that of its declaration

@@ -8,7 +8,7 @@ use Rattle.domain_script.specs.Naming.{side_text}
 use Rattle.script_words.specs.declared.spelled.Name.{Name}
 use Rattle.domain_script.specs.declared.event.Side.{Side}
 use Rattle.domain_script.specs.declared.event.Side.TheVariants.{Client, Server}
-use Rattle.domain_script.specs.NamesState.{NamesState, IsFree, IsLane, IsNamed}
+use Rattle.domain_script.specs.NamesState.{NamesState, IsNameFree, IsLane, IsNamed}
 use Rattle.domain_script.specs.Spells.{NamesEnd, NamesLane}
 use Rattle.script_words.specs.Words.{SpellsName}
 use Rattle.script_words.proofs.SameName.{same_name}
@@ -21,8 +21,8 @@ pub one_name : (word : List ℕ) (a b : Name) → SpellsName word a → SpellsNa
 one_name word a b first second = same_name a b (first.len ∙ sym second.len) (first.bytes ∙ sym second.bytes)
 
 -- where `find` gives nothing the name is free
-pub free_tells : (names : NamesState) (name : Name) (found : Option Lane) (test : Bool) → MatchOption found (IsFree names name) (IsNamed names name)
-    → is_some found ≡ not test → IsTrue test ↔ IsFree names name
+pub free_tells : (names : NamesState) (name : Name) (found : Option Lane) (test : Bool) → MatchOption found (IsNameFree names name) (IsNamed names name)
+    → is_some found ≡ not test → IsTrue test ↔ IsNameFree names name
 free_tells names name None true free is = (λ none. free, λ free. refl)
 free_tells names name None false free is = let both : false ≡ true = is in cc
 free_tells names name (Some lane) true named is = let both : true ≡ false = is in cc
@@ -39,12 +39,12 @@ pub one_number : (names : NamesState) (word : List ℕ) (kind : LaneKind) (j k :
 one_number names word kind j k first second = ap (λ (l : Lane). l.number) (one_lane names word (lane_at kind j) (lane_at kind k) first second)
 
 -- what `find` says, for the word: no lane has the name that the word spells
-names_no_lane : (names : NamesState) (word : List ℕ) (name : Name) → SpellsName word name → IsFree names name → (lane : Lane) → NamesLane names word lane → ⊥
+names_no_lane : (names : NamesState) (word : List ℕ) (name : Name) → SpellsName word name → IsNameFree names name → (lane : Lane) → NamesLane names word lane → ⊥
 names_no_lane names word name spelled free lane named =
     none_named names name lane free (subst (λ (n : Name). IsNamed names n lane) (one_name word named.name name named.spelled spelled) named.declared_as)
 
 pub none_found : (names : NamesState) (word : List ℕ) (name : Name) (found : Option Lane) → SpellsName word name
-    → MatchOption found (IsFree names name) (IsNamed names name) → IfNone found ((lane : Lane) → NamesLane names word lane → ⊥)
+    → MatchOption found (IsNameFree names name) (IsNamed names name) → IfNone found ((lane : Lane) → NamesLane names word lane → ⊥)
 none_found names word name None spelled free = names_no_lane names word name spelled free
 none_found names word name (Some lane) spelled named = tt
 

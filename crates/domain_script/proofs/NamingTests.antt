@@ -14,7 +14,7 @@ use Rattle.domain_script.specs.declared.event.Side.TheVariants.{Client, Server}
 use Rattle.domain_script.specs.declared.fields.EndKind.{EndKind}
 use Rattle.domain_script.specs.declared.fields.EndKind.TheVariants as ends
 use Rattle.domain_script.specs.Naming.{among, before_two, end_at, end_named, first_named, is_disk, is_of_kind, is_server, lane_named, last_two, number_named, kind_named, same_name, side_of, some_of_kind, side_text}
-use Rattle.domain_script.specs.NamesState.{IsFree, IsNamed, NamesState, names_of}
+use Rattle.domain_script.specs.NamesState.{IsNameFree, IsNamed, NamesState, names_of}
 use Rattle.domain_script.specs.Spells.{IsOfKind, NamesEnd, NamesLane}
 use Rattle.script_words.specs.Words.{is_name, name_of}
 use Rattle.domain_script.proofs.LaneKinds.{number_of_own, same_kind}
@@ -106,7 +106,7 @@ first_is names name =
     ∙ ap (λ (o : Option ℕ). option_map (lane_at lanes.Port) o) (number_is name (names_of lanes.Port names) k first))
 
 -- of a free name there is none, and a name that none has is free
-pub free_first : (names : NamesState) (name : Name) → IsFree names name → first_named names name ≡ None
+pub free_first : (names : NamesState) (name : Name) → IsNameFree names name → first_named names name ≡ None
 free_first names name free =
     ap (λ (o : Option ℕ). option_or (option_map (lane_at lanes.Disk) o) (among names name lanes.Port)) (none_number name (names_of lanes.Disk names) free.0)
     ∙ ap (λ (o : Option ℕ). option_map (lane_at lanes.Port) o) (none_number name (names_of lanes.Port names) free.1)
@@ -116,7 +116,7 @@ none_of_both None None none = (refl, refl)
 none_of_both None (Some k) none = absurd (cc none)
 none_of_both (Some k) port none = absurd (cc none)
 
-pub none_free : (names : NamesState) (name : Name) → first_named names name ≡ None → IsFree names name
+pub none_free : (names : NamesState) (name : Name) → first_named names name ≡ None → IsNameFree names name
 none_free names name none =
     let parts = none_of_both (number_named name (names_of lanes.Disk names)) (number_named name (names_of lanes.Port names)) none in
     (none_of_them name (names_of lanes.Disk names) parts.0, none_of_them name (names_of lanes.Port names) parts.1)

@@ -3,7 +3,7 @@ use Rattle.std.proofs.Common.{◌≡◌, ℕ, ◌^◌, ◌<◌, ◌≤◌, inl, 
 use Rattle.std.proofs.lemmas.Bool.{and_parts, cases_lt, eqb-true}
 use Rattle.std.specs.Int.RustNames.{count_ones}
 use Rattle.std.specs.Int.{is_power_of_two}
-use Rattle.domain_script.specs.Declarations.{IsPowerOfTwo}
+use Rattle.vio_bytes.specs.Powers.{IsPowerOfTwo}
 
 -- the power that a number is
 abbrev power_of : ℕ → ℕ

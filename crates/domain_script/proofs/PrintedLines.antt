@@ -17,7 +17,7 @@ use Rattle.domain_script.specs.NamesState.{NamesDiffer, NamesState, lane_name, n
 use Rattle.domain_script.specs.Printed.{AllAreBytes, AllCanStand, AreBytes, CanPrint, CanStand, EventBytes, HasName, RowBytes, RowCanStand, field_text, field_texts, followed_by, lane_text, line_text, option_text, text_said}
 use Rattle.domain_script.specs.Rows.{row_named, row_of}
 use Rattle.domain_script.specs.Spells.{FitFields, FitsField, FitsRow, IsBlank, NamesLane, Spells, SpellsField, SpellsFields, SpellsFound, SpellsRow, SpellsWords}
-use Rattle.domain_script.specs.Values.{Said, ValueOf, ValuesOf, said}
+use Rattle.domain_script.specs.Values.{SaidRow, ValueOf, ValuesOf, said}
 use Rattle.script_words.specs.Words.{IsName, SpellsName, words}
 use Rattle.domain_script.proofs.CleanWords.{AreClean, clean_more, cut_again, fields_clean, row_clean}
 use Rattle.domain_script.proofs.RowLemmas.{IsMade, made_said, said_made, word_of_row}
@@ -100,7 +100,7 @@ line_spells kind texts names event spells =
     inr (subst (λ (ws : List (List ℕ)). SpellsWords ws names event) (sym cut)
     (subst (λ (found : Option RowKind). SpellsFound found texts names event) (sym (named_row kind)) spells))
 
-said_spells : (names : NamesState) (event : Event) (s : Option Said) → NamesDiffer names → IsMade event s → FitsRow names s → RowCanStand names s → RowBytes s
+said_spells : (names : NamesState) (event : Event) (s : Option SaidRow) → NamesDiffer names → IsMade event s → FitsRow names s → RowCanStand names s → RowBytes s
     → Spells (text_said names s) names event
 said_spells names event None differ is fits stands bytes = inl (tt, is)
 said_spells names event (Some s) differ is fits stands bytes =
@@ -143,7 +143,7 @@ line_of_row : (line word : List ℕ) (others : List (List ℕ)) (names : NamesSt
 line_of_row line word others names event kind are named spells =
     let texts : others ≡ field_texts names (row_of kind).fields spells.values = texts_of_fields names (row_of kind).fields others spells.values spells.spelled in
     let is : said event ≡ Some (record { kind = kind; values = spells.values }) = ap (λ (e : Event). said e) spells.makes ∙ said_made kind spells.values in
-    ap (λ (s : Option Said). text_said names s) is
+    ap (λ (s : Option SaidRow). text_said names s) is
     ∙ ap (λ (l : List (List ℕ)). followed_by (row_of kind).word l) (sym texts)
     ∙ are_joined (row_of kind).word others
     ∙ ap (λ (w : List ℕ). join_with_byte 32 (w ∷ others)) (sym (word_of_row word kind named))

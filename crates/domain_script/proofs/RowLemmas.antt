@@ -20,7 +20,7 @@ use Rattle.domain_script.specs.NamesState.{NamesState}
 use Rattle.domain_script.specs.Printed.{CanPrint, RowCanStand}
 use Rattle.domain_script.specs.Rows.{row_among, row_named, row_of, rows}
 use Rattle.domain_script.specs.Spells.{FitsRow, IsOfKind, NamesEnd, NamesLane, SpellsFields, SpellsFound, SpellsRow}
-use Rattle.domain_script.specs.Values.{Said, ValuesOf, made, said}
+use Rattle.domain_script.specs.Values.{SaidRow, ValuesOf, made, said}
 use Rattle.script_words.specs.Limits.{packet_bytes}
 use Rattle.script_words.specs.Words.{SpellsExactly, SpellsNumber, SpellsFill, SpellsPiece}
 use Rattle.domain_script.proofs.FieldValues.{SpellsNothing, as_many, fit_fields, nothing_at, one_values, stand_in_fields}
@@ -30,7 +30,7 @@ pub said_made : (kind : RowKind) (values : ValuesOf (row_of kind).fields) → sa
 said_made row.Disk values = refl
 said_made kind values = refl
 
-abbrev pub IsMade : Event → Option Said → Type 0
+abbrev pub IsMade : Event → Option SaidRow → Type 0
 IsMade event None = event ≡ Blank
 IsMade event (Some s) = event ≡ made s.kind s.values
 
@@ -65,8 +65,8 @@ row_printable kind line names event spells =
     let is : said event ≡ Some (record { kind = kind; values = spells.values }) =
     ap (λ (e : Event). said e) spells.makes ∙ said_made kind spells.values in
     record {
-      fits = subst (λ (s : Option Said). FitsRow names s) (sym is) (fit_fields names (row_of kind).fields line spells.values spells.spelled);
-      stands = subst (λ (s : Option Said). RowCanStand names s) (sym is) (stand_in_fields names (row_of kind).fields line spells.values spells.spelled);
+      fits = subst (λ (s : Option SaidRow). FitsRow names s) (sym is) (fit_fields names (row_of kind).fields line spells.values spells.spelled);
+      stands = subst (λ (s : Option SaidRow). RowCanStand names s) (sym is) (stand_in_fields names (row_of kind).fields line spells.values spells.spelled);
     }
 
 -- a row's one word

@@ -7,7 +7,7 @@ use Rattle.domain_script.specs.declared.event.Event.TheVariants.{Blank, Disk, Ne
 use Rattle.domain_script.specs.declared.fields.LaneKind.TheVariants as lanes
 use Rattle.domain_script.specs.declared.rows.RowKind.{RowKind}
 use Rattle.domain_script.specs.Declarations.{IsDisk, IsPort}
-use Rattle.domain_script.specs.NamesState.{CanDeclare, IsFree, IsFreeAddress, NamesState}
+use Rattle.domain_script.specs.NamesState.{CanDeclare, IsNameFree, IsFreeAddress, NamesState}
 use Rattle.domain_script.specs.Printed.{CanPrint}
 use Rattle.domain_script.specs.Rows.{row_named}
 use Rattle.script_words.specs.Words.{words}
@@ -49,7 +49,7 @@ is_declared line names event spells = (can_print line names event spells).fits
 pub record Declares (names : NamesState) (disk : DiskDecl) : Type 0 where
   pub open_still : names.ended ≡ false
   pub few : length names.disks < 8
-  pub free : IsFree names disk.name
+  pub free : IsNameFree names disk.name
   pub limits : IsDisk disk
 
 pub declared_first : (line : List ℕ) (names : NamesState) (disk : DiskDecl) → Spells line names (Disk disk) → Declares names disk
@@ -79,7 +79,7 @@ declared_first line names disk spells =
 pub record DeclaresPort (names : NamesState) (port : PortDecl) : Type 0 where
   pub open_still : names.ended ≡ false
   pub few : length names.ports < 8
-  pub free : IsFree names port.name
+  pub free : IsNameFree names port.name
   pub free_address : IsFreeAddress names port.address
   pub limits : IsPort port
 

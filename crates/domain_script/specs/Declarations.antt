@@ -1,5 +1,6 @@
 -- What a script may declare.
-use Rattle.std.specs.Prelude.{◌≡◌, ℕ, ◌≤◌, ◌^◌, List, length, map}
+use Rattle.std.specs.Prelude.{◌≡◌, ℕ, ◌≤◌, List, length, map}
+use Rattle.vio_bytes.specs.Powers.{IsPowerOfTwo}
 use Rattle.domain_script.specs.declared.event.DiskDecl.{DiskDecl}
 use Rattle.domain_script.specs.declared.event.PortDecl.{PortDecl}
 use Rattle.domain_script.specs.declared.fields.LaneKind.{LaneKind}
@@ -7,10 +8,6 @@ use Rattle.domain_script.specs.declared.fields.LaneKind.TheVariants as lanes
 use Rattle.script_words.specs.declared.spelled.Name.{Name}
 use Rattle.script_words.specs.Addresses.{IsAddress}
 use Rattle.domain_script.specs.Firsts.{AllDiffer, AreAll}
-
--- a power of two
-abbrev pub IsPowerOfTwo : ℕ → Type 0
-IsPowerOfTwo n = (k : ℕ) × (n ≡ 2 ^ k)
 
 -- a disk within the limits
 pub record IsDisk (disk : DiskDecl) : Type 0 where

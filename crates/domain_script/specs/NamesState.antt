@@ -39,8 +39,8 @@ abbrev pub lane_name : NamesState → Lane → Option Name
 lane_name names lane = slice_get (names_of lane.kind names) lane.number
 
 -- no lane has this name
-abbrev pub IsFree : NamesState → Name → Type 0
-IsFree names name = IsNoneOf name (names_of lanes.Disk names) × IsNoneOf name (names_of lanes.Port names)
+abbrev pub IsNameFree : NamesState → Name → Type 0
+IsNameFree names name = IsNoneOf name (names_of lanes.Disk names) × IsNoneOf name (names_of lanes.Port names)
 
 -- the lane is the first with this name; disks come before ports
 abbrev pub IsNoneBefore : NamesState → Name → LaneKind → Type 0
@@ -59,7 +59,7 @@ NamesDiffer names = (a b : Lane) (name : Name) → lane_name names a ≡ Some na
 pub record CanDeclare (names : NamesState) (kind : LaneKind) (name : Name) : Type 0 where
   pub open_still : names.ended ≡ false
   pub few : count_of kind names < most_of_a_kind
-  pub free : IsFree names name
+  pub free : IsNameFree names name
 
 -- no port has this address
 abbrev pub IsFreeAddress : NamesState → List ℕ → Type 0

@@ -9,7 +9,7 @@ use Rattle.domain_script.specs.declared.fields.Field.TheVariants.{NewName, NewAd
 use Rattle.domain_script.specs.NamesState.{NamesState, CanDeclare, IsFreeAddress, lane_name}
 use Rattle.domain_script.specs.Rows.{row_of}
 use Rattle.domain_script.specs.Spells.{IsDeclared}
-use Rattle.domain_script.specs.Values.{Said, ValueOf, ValuesOf, said}
+use Rattle.domain_script.specs.Values.{SaidRow, ValueOf, ValuesOf, said}
 use Rattle.domain_script.specs.Naming.{side_text}
 use Rattle.script_words.specs.Texts.{front_text, name_text}
 use Rattle.script_words.specs.Words.{IsName}
@@ -49,7 +49,7 @@ followed_by text [] = text
 followed_by text (word ∷ others) = followed_by (text ++ 32 ∷ word) others
 
 -- the line of an event; that of a blank is empty
-abbrev pub text_said : NamesState → Option Said → List ℕ
+abbrev pub text_said : NamesState → Option SaidRow → List ℕ
 text_said names None = []
 text_said names (Some s) = followed_by (row_of s.kind).word (field_texts names (row_of s.kind).fields s.values)
 
@@ -73,7 +73,7 @@ abbrev pub AllCanStand : NamesState → (fields : List Field) → ValuesOf field
 AllCanStand names [] values = ⊤
 AllCanStand names (field ∷ fields) values = CanStand names field values.0 × AllCanStand names fields values.1
 
-abbrev pub RowCanStand : NamesState → Option Said → Type 0
+abbrev pub RowCanStand : NamesState → Option SaidRow → Type 0
 RowCanStand names None = ⊤
 RowCanStand names (Some s) = AllCanStand names (row_of s.kind).fields s.values
 
@@ -96,7 +96,7 @@ abbrev pub AllAreBytes : (fields : List Field) → ValuesOf fields → Type 0
 AllAreBytes [] values = ⊤
 AllAreBytes (field ∷ fields) values = AreBytes field values.0 × AllAreBytes fields values.1
 
-abbrev pub RowBytes : Option Said → Type 0
+abbrev pub RowBytes : Option SaidRow → Type 0
 RowBytes None = ⊤
 RowBytes (Some s) = AllAreBytes (row_of s.kind).fields s.values
 

@@ -12,14 +12,14 @@ use Rattle.domain_script.specs.declared.fields.EndKind.TheVariants as ends
 use Rattle.domain_script.specs.declared.fields.Field.{Field}
 use Rattle.domain_script.specs.declared.fields.Field.TheVariants.{NewName, NewAddress, Named, LaneName, End, Number, Bytes, Frame, Packet, Group}
 use Rattle.domain_script.specs.declared.rows.RowKind.{RowKind}
-use Rattle.script_words.specs.Addresses.{IsAddress, IsGroup}
+use Rattle.script_words.specs.Addresses.{IsAddress, IsGroupAddress}
 use Rattle.script_words.specs.Fills.{IsFill, IsPiece}
 use Rattle.script_words.specs.Limits.{address_bytes, packet_bytes}
 use Rattle.domain_script.specs.declared.fields.LaneKind.TheVariants as lanes
 use Rattle.domain_script.specs.NamesState.{NamesState, CanDeclare, IsFreeAddress, IsLane, IsNamed, count_of}
 use Rattle.domain_script.specs.Naming.{side_text}
 use Rattle.domain_script.specs.Rows.{row_named, row_of}
-use Rattle.domain_script.specs.Values.{Said, ValueOf, ValuesOf, made, said}
+use Rattle.domain_script.specs.Values.{SaidRow, ValueOf, ValuesOf, made, said}
 use Rattle.script_words.specs.Words.{is_printable, words, IsName, IsWithin, SpellsNumber, SpellsName, SpellsExactly, SpellsFill, SpellsPiece}
 use Rattle.domain_script.specs.LaneKinds.{lane_at}
 
@@ -57,7 +57,7 @@ SpellsField names (Number bounds) word n = SpellsNumber word n × IsWithin bound
 SpellsField names Bytes word fill = SpellsFill word fill
 SpellsField names Frame word piece = SpellsPiece word piece
 SpellsField names Packet word packet = SpellsExactly packet_bytes word packet
-SpellsField names Group word address = SpellsExactly address_bytes word address × IsGroup address
+SpellsField names Group word address = SpellsExactly address_bytes word address × IsGroupAddress address
 
 -- words spell values, each as its field
 abbrev pub SpellsFields : NamesState → (fields : List Field) → List (List ℕ) → ValuesOf fields → Type 0
@@ -98,7 +98,7 @@ FitsField names (Number bounds) n = (n < 2 ^ 64) × IsWithin bounds n
 FitsField names Bytes fill = IsFill fill
 FitsField names Frame piece = IsPiece piece
 FitsField names Packet packet = length packet ≡ packet_bytes
-FitsField names Group address = IsGroup address
+FitsField names Group address = IsGroupAddress address
 
 abbrev pub FitFields : NamesState → (fields : List Field) → ValuesOf fields → Type 0
 FitFields names [] values = ⊤
@@ -106,7 +106,7 @@ FitFields names (field ∷ fields) values = FitsField names field values.0 × Fi
 
 -- what an event says fits its row: what it names is declared and of the kind that the row asks for, its numbers are
 -- within their bounds, its bytes have their lengths, and its addresses are of their kinds
-abbrev pub FitsRow : NamesState → Option Said → Type 0
+abbrev pub FitsRow : NamesState → Option SaidRow → Type 0
 FitsRow names None = ⊤
 FitsRow names (Some s) = FitFields names (row_of s.kind).fields s.values
 

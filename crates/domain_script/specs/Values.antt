@@ -55,11 +55,11 @@ made row.Inject values = Inject values.0 values.1.0
 made row.Poke values = Poke values.0 values.1.0 values.1.1.0
 
 -- the other way round: the row of an event, and the values of its fields; a blank line has none
-pub record Said : Type 0 where
+pub record SaidRow : Type 0 where
   pub kind : RowKind
   pub values : ValuesOf (row_of kind).fields
 
-abbrev pub said : Event → Option Said
+abbrev pub said : Event → Option SaidRow
 said Blank = None
 said (Disk disk) = Some (record { kind = row.Disk; values = (disk.name, (disk.blocks, (disk.ring, (disk.queue, tt)))) })
 said (Net port) = Some (record { kind = row.Net; values = (port.name, (port.address, (port.ring, (port.queue, tt)))) })

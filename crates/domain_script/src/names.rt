@@ -64,7 +64,7 @@ impl Names {
     ghost use Rattle.domain_script.specs.Declarations.{AddressesDiffer, addresses};
     ghost use Rattle.domain_script.specs.Firsts.{IsFirst, IsNoneOf};
     ghost use Rattle.script_words.specs.Limits.{most_of_a_kind};
-    ghost use Rattle.domain_script.specs.NamesState.{CanNote, IsFree, IsFreeAddress, IsNamed, NamesDiffer, count_of, lane_name, names_of, noted};
+    ghost use Rattle.domain_script.specs.NamesState.{CanNote, IsNameFree, IsFreeAddress, IsNamed, NamesDiffer, count_of, lane_name, names_of, noted};
 
     /// Nothing is declared.
     pub fn new() -> Self
@@ -158,7 +158,7 @@ impl Names {
 
     /// The first lane with this name; disks come before ports. None exactly where no lane has it.
     pub(crate) fn find(&self, name: &Name) -> Option<Lane>
-        ensures { MatchOption result (IsFree self.now name.now) (IsNamed self.now name.now) }
+        ensures { MatchOption result (IsNameFree self.now name.now) (IsNamed self.now name.now) }
     {
         match self.find_among(LaneKind::Disk, name) {
             Some(number) => Some(Lane {
@@ -199,7 +199,7 @@ impl Names {
 
     /// Whether no lane has this name.
     pub(crate) fn is_free(&self, name: &Name) -> bool
-        ensures { IsTrue result ↔ IsFree self.now name.now }
+        ensures { IsTrue result ↔ IsNameFree self.now name.now }
     {
         self.find(name).is_none()
     }

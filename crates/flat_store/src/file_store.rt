@@ -4,10 +4,7 @@ ghost use Rattle.vio_io.specs.Stores.{IsUnitRange, KeepsOutside, ReadsRange, Wri
 ghost use Rattle.flat_store.specs.Files.{Lacked, MovedOnce, SyncedOnce};
 
 use crate::{FileFault, ImageFile};
-use vio_io::{Failed, Store};
-
-/// How often in a row a call of the file is tried before its interruptions are a fault.
-const MOST_TRIES: u32 = 10_000;
+use vio_io::{Failed, MOST_TRIES, Store};
 
 /// A file as a store: a range is moved by one call of the file, and a call that moves less is a fault. A call that the
 /// system interrupted is tried again, up to 10,000 times in a row: 10,000 interruptions are a fault, and fewer aren't.

@@ -3,7 +3,7 @@ ghost use Rattle.std.specs.Prelude.{◌≡◌, Some, length, replicate, refl, If
 use std::alloc::Global;
 use std::marker::Model;
 use vio_io::{Failed, NoMemory, Store};
-use zero_pages::{PAGE, ZeroPages};
+use zero_pages::{ZERO_PAGE, ZeroPages};
 
 /// A store in memory that begins as zeros, and whose calls never fail. Memory is taken for all of it, but only pages
 /// that a call wrote lie there: the others are zeros without being touched.
@@ -35,7 +35,7 @@ impl ZeroStore {
         ensures { IfOk result (λ s. s ≡ record { bytes = replicate size 0; calls = 0; flushes = 0; writes = 0 }) }
     {
         Ok(ZeroStore {
-            pages: ZeroPages::new(alloc, size.div_ceil(PAGE))?,
+            pages: ZeroPages::new(alloc, size.div_ceil(ZERO_PAGE))?,
             size,
             calls: 0,
             flushes: 0,

@@ -18,7 +18,7 @@ pub const TEXT_ROOM: usize = 65536;
 /// memory. The sink is handed in at each call that may write.
 #[derive(Drop)]
 pub struct Text {
-    buffer: [u8; 65536],
+    buffer: [u8; TEXT_ROOM],
     len: usize,
 }
 
@@ -38,7 +38,7 @@ impl Text {
         ensures { result ≡ [] }
     {
         Text {
-            buffer: [0; 65536],
+            buffer: [0; TEXT_ROOM],
             len: 0,
         }
     }

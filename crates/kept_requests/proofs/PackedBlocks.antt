@@ -9,7 +9,7 @@ use Rattle.std.proofs.lemmas.Slice.Eq.{bytes_eq-Decides}
 use Rattle.hex.specs.Hex.{encode_lower}
 use Rattle.std.specs.List.{sum}
 use Rattle.kept_requests.specs.BlockWord.{blocks_text, cycle, repetition, repeats, word_length, word_text}
-use Rattle.kept_requests.specs.Packed.{AreKept, IsKept, block_of, unpacked}
+use Rattle.kept_requests.specs.Packed.{AreKept, IsWordKept, block_of, unpacked}
 use Rattle.kept_requests.proofs.BlockWords.{blocks_text_more, repetition_at}
 
 -- one more byte
@@ -52,7 +52,7 @@ pub kept_lengths : (lengths kept : List ℕ) → AreKept lengths kept → (sum l
 kept_lengths [] kept are = (omega arith, omega arith)
 kept_lengths (n ∷ lengths) kept are =
     let more = kept_lengths lengths (drop n kept) are.1 in
-    let word : IsKept n kept = are.0 in
+    let word : IsWordKept n kept = are.0 in
     let behind : length (drop n kept) ≡ length kept - n = length-drop n kept in
     let block : length (block_of n kept) ≡ 512 = length-block_of n kept in
     let total : sum (n ∷ lengths) ≡ n + sum lengths = sum_by-cons (λ (x : ℕ). x) n lengths in
@@ -63,7 +63,7 @@ kept_lengths (n ∷ lengths) kept are =
 pub kept_behind : (lengths kept rest : List ℕ) → AreKept lengths kept → AreKept lengths (kept ++ rest)
 kept_behind [] kept rest are = tt
 kept_behind (n ∷ lengths) kept rest are =
-    let word : IsKept n kept = are.0 in
+    let word : IsWordKept n kept = are.0 in
     let more : AreKept lengths (drop n kept ++ rest) = kept_behind lengths (drop n kept) rest are.1 in
     let long : length (kept ++ rest) ≡ length kept + length rest = length-append kept rest in (
       record {
@@ -78,7 +78,7 @@ kept_behind (n ∷ lengths) kept rest are =
 pub unpacked_behind : (lengths kept rest : List ℕ) → AreKept lengths kept → unpacked lengths (kept ++ rest) ≡ unpacked lengths kept ++ rest
 unpacked_behind [] kept rest are = refl
 unpacked_behind (n ∷ lengths) kept rest are =
-    let word : IsKept n kept = are.0 in
+    let word : IsWordKept n kept = are.0 in
     ap (λ (l : List ℕ). l ++ unpacked lengths (drop n (kept ++ rest))) (block_of_front n kept rest word.some word.whole)
     ∙ ap (λ (l : List ℕ). block_of n kept ++ unpacked lengths l) (drop-append-le n kept rest word.whole)
     ∙ ap (λ (l : List ℕ). block_of n kept ++ l) (unpacked_behind lengths (drop n kept) rest are.1)
@@ -100,7 +100,7 @@ kept_more [] [] block n are all long some most is least =
     )
 kept_more [] (b ∷ kept) block n are all long some most is least = absurd (omega (arith, all))
 kept_more (m ∷ lengths) kept block n are all long some most is least =
-    let word : IsKept m kept = are.0 in
+    let word : IsWordKept m kept = are.0 in
     let total : sum (m ∷ lengths) ≡ m + sum lengths = sum_by-cons (λ (x : ℕ). x) m lengths in
     let behind : length (drop m kept) ≡ length kept - m = length-drop m kept in
     let more : AreKept (lengths ++ n ∷ []) (drop m kept ++ take n block) =
@@ -118,7 +118,7 @@ unpacked_more [] [] block n are all long some most is =
     ∙ append-nil block
 unpacked_more [] (b ∷ kept) block n are all long some most is = absurd (omega (arith, all))
 unpacked_more (m ∷ lengths) kept block n are all long some most is =
-    let word : IsKept m kept = are.0 in
+    let word : IsWordKept m kept = are.0 in
     let total : sum (m ∷ lengths) ≡ m + sum lengths = sum_by-cons (λ (x : ℕ). x) m lengths in
     let behind : length (drop m kept) ≡ length kept - m = length-drop m kept in
     ap (λ (l : List ℕ). l ++ unpacked (lengths ++ n ∷ []) (drop m (kept ++ take n block))) (block_of_front m kept (take n block) word.some word.whole)
@@ -128,7 +128,7 @@ unpacked_more (m ∷ lengths) kept block n are all long some most is =
 
 -- the i-th word, and what is after it
 pub record NextWord (lengths kept : List ℕ) (i n : ℕ) : Type 0 where
-  pub word : IsKept n kept
+  pub word : IsWordKept n kept
   pub others : AreKept (drop (i + 1) lengths) (drop n kept)
   pub bytes : unpacked (drop i lengths) kept ≡ block_of n kept ++ unpacked (drop (i + 1) lengths) (drop n kept)
 
@@ -147,7 +147,7 @@ pub no_word : (lengths kept : List ℕ) (i : ℕ) → length lengths ≤ i → u
 no_word lengths kept i le = ap (λ (l : List ℕ). unpacked l kept) (drop_all i lengths le)
 
 -- the text of a block is that of its word
-word_text_of : (n : ℕ) (kept : List ℕ) → IsKept n kept → word_text (block_of n kept) ≡ codes " *" ++ encode_lower (take n kept)
+word_text_of : (n : ℕ) (kept : List ℕ) → IsWordKept n kept → word_text (block_of n kept) ≡ codes " *" ++ encode_lower (take n kept)
 word_text_of n kept word =
     let front : length (take n (block_of n kept)) ≡ n = length-take n (block_of n kept) ∙ omega (arith, word.most, length-block_of n kept) in
     let back : length (take n kept) ≡ n = length-take n kept ∙ omega (arith, word.whole) in

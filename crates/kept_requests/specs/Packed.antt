@@ -13,7 +13,7 @@ unpacked [] kept = kept
 unpacked (n ∷ lengths) kept = block_of n kept ++ unpacked lengths (drop n kept)
 
 -- each word is kept whole, and is the shortest that its block repeats
-pub record IsKept (n : ℕ) (kept : List ℕ) : Type 0 where
+pub record IsWordKept (n : ℕ) (kept : List ℕ) : Type 0 where
   pub some : 0 < n
   pub most : n ≤ 512
   pub whole : n ≤ length kept
@@ -21,4 +21,4 @@ pub record IsKept (n : ℕ) (kept : List ℕ) : Type 0 where
 
 abbrev pub AreKept : List ℕ → List ℕ → Type 0
 AreKept [] kept = ⊤
-AreKept (n ∷ lengths) kept = IsKept n kept × AreKept lengths (drop n kept)
+AreKept (n ∷ lengths) kept = IsWordKept n kept × AreKept lengths (drop n kept)

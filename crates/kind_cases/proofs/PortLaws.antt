@@ -3,7 +3,7 @@ use Rattle.std.proofs.Common.{◌≡◌, ℕ, zero, suc, ◌+◌, ◌*◌, ◌�
 use Rattle.std.specs.Prelude.{◌||◌, if◌then◌else◌, ⊤}
 use Rattle.runs.specs.Run.{Run}
 use Rattle.lane_kinds.proofs.Sums.{and_left, and_right}
-use Rattle.lane_kinds.specs.Lanes.{CalmTurn, EachStep, IsSilent, LaneFalls, LaneRests, all_calm}
+use Rattle.lane_kinds.specs.Lanes.{CalmTurn, EachStep, IsSilent, LaneFalls, ComesToRest, all_calm}
 use Rattle.kind_cases.specs.Ports.{WayHasRoom, IsClean, IsEither, IsGuest, IsLossless, IsPortTurn, IsSwitch, IsUnforged, Port, PortEvent, PortStep, if_so, is_none, port_calm, port_gets, port_raises, port_remaining, port_silent, port_waits, ports}
 use Rattle.kind_cases.specs.Ports.{Blocked, Forged, Given, GuestIdle, Joined, Lost, Published, SwitchIdle, Switched, Taken, Tick}
 
@@ -224,7 +224,7 @@ port_falls = record {
   tick_falls = tick_falls;
 }
 
-pub port_rests : LaneRests ports WayHasRoom IsUnforged IsLossless
+pub port_rests : ComesToRest ports WayHasRoom IsUnforged IsLossless
 port_rests = record {
   turn_steps = turn_steps;
   reached = has_room;

@@ -8,8 +8,8 @@ use Rattle.lane_kinds.proofs.Leading.{part_leads}
 use Rattle.lane_kinds.proofs.Moving.{lanes_end, lanes_lead, lanes_skip}
 use Rattle.lane_kinds.proofs.Standing.{ends_with}
 use Rattle.lane_kinds.specs.Both.{BothHold, BothStand, OnFirst, OnSecond, Two}
-use Rattle.lane_kinds.specs.Lanes.{AllMove, AreClean, EachMarked, EachOf, IsAtRest, Reads, lanes_of, sum_of}
-use Rattle.lane_kinds.specs.Laws.{AnswersLead, Falls, Keeps, Leads}
+use Rattle.lane_kinds.specs.Lanes.{AllMove, AreClean, EachMarked, EachOf, IsLaneAtRest, Reads, lanes_of, sum_of}
+use Rattle.lane_kinds.specs.Laws.{AnswersLead, Falls, KeepsStanding, Leads}
 use Rattle.lane_kinds.specs.Settles.{EndsWith, SettlePart, Settles, most_rounds}
 use Rattle.kind_cases.proofs.PortLaws.{port_bound, port_falls, port_rests, port_silence}
 use Rattle.kind_cases.specs.Ports.{WayHasRoom, IsClean, IsLossless, IsUnforged, Port, port_raises, port_remaining, ports}
@@ -48,7 +48,7 @@ two_settle start part behind at settle =
     ends_settled two_switches (BothHold Clean Clean) (λ w. sum_of port_remaining w.first + sum_of port_remaining w.second) falls start part behind at (clean_few start at) settle
 
 -- BEHIND IT each port is finished, or was forged and had its tick
-pub keeps : Keeps two_switches (BothStand (EachMarked Whole) (EachMarked Whole))
+pub keeps : KeepsStanding two_switches (BothStand (EachMarked Whole) (EachMarked Whole))
 keeps =
     both_keep (lanes_of ports of_ports) (lanes_of ports of_twins) (EachMarked Whole) (EachMarked Whole)
     (lanes_keep ports WayHasRoom IsUnforged IsLossless port_rests of_ports) (lanes_keep ports WayHasRoom IsUnforged IsLossless port_rests of_twins)
@@ -61,7 +61,7 @@ begins start at = record {
 }
 
 pub two_rest : (start : Two (List Port) (List Port)) (part : List WorldEntry) (behind : Two (List Port) (List Port)) (at : Settles two_switches start part behind)
-    → BothHold (EachOf WayHasRoom) (EachOf WayHasRoom) start → BothStand (EachMarked (IsAtRest ports IsUnforged)) (EachMarked (IsAtRest ports IsUnforged)) behind at.now.marks
+    → BothHold (EachOf WayHasRoom) (EachOf WayHasRoom) start → BothStand (EachMarked (IsLaneAtRest ports IsUnforged)) (EachMarked (IsLaneAtRest ports IsUnforged)) behind at.now.marks
 two_rest start part behind at rooms =
     let last : EndsWith two_switches (BothStand (EachMarked Whole) (EachMarked Whole)) behind at.now.marks =
     ends_with two_switches (BothStand (EachMarked Whole) (EachMarked Whole)) keeps start part behind at (begins start rooms) in

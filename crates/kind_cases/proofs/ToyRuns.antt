@@ -8,15 +8,15 @@ use Rattle.ldc_queue.specs.Transcript.{Heard, Said}
 use Rattle.map_table.proofs.Each.{each_replicate}
 use Rattle.vio_handshake.specs.Acceptance.{hold_ring}
 use Rattle.vio_handshake.specs.Offers.{FitsRing, Match}
-use Rattle.channel_laws.specs.HandshakeOrder.{HandshakeOrder}
-use Rattle.channel_laws.specs.TranscriptLog.{transcript_of}
-use Rattle.channel_laws.specs.WireEvent as event
-use Rattle.channel_laws.proofs.EndsAtRest.{two_at_rest_open}
-use Rattle.channel_laws.proofs.OpeningOrder.{opens_hearing, opens_saying}
-use Rattle.channel_laws.proofs.Sessions.{open_sessions_one}
-use Rattle.channel_laws.specs.EndsAtRest.{IsAtRest}
-use Rattle.channel_laws.specs.LaneCore.{CoreEvent, CoreFits, CoreStep, OfferFits, OnChannel, role_of, transcript_behind}
-use Rattle.channel_laws.specs.OneSession.{AreOneSession}
+use Rattle.lane_models.specs.HandshakeOrder.{HandshakeOrder}
+use Rattle.lane_models.specs.TranscriptLog.{transcript_of}
+use Rattle.lane_models.specs.WireEvent as event
+use Rattle.lane_models.proofs.EndsAtRest.{two_at_rest_open}
+use Rattle.lane_models.proofs.OpeningOrder.{opens_hearing, opens_saying}
+use Rattle.lane_models.proofs.Sessions.{open_sessions_one}
+use Rattle.lane_models.specs.EndsAtRest.{IsEndAtRest}
+use Rattle.lane_models.specs.LaneCore.{CoreEvent, CoreFits, CoreStep, OfferFits, OnChannel, role_of, transcript_behind}
+use Rattle.lane_models.specs.OneSession.{AreOneSession}
 use Rattle.kind_cases.specs.ToyKind.{ToyLane, ToyStep, fresh_toys, toy_lane, toy_offer}
 
 offer_fits : OfferFits toy_offer
@@ -51,7 +51,7 @@ pub toys_are_one : (events : List CoreEvent) (s : ToyLane) → Run ToyStep fresh
 toys_are_one events s run clean opened peer_opened =
     open_sessions_one 8 toy_offer toy_offer events (toy_lane s) fits matched (toy_run fresh_toys s events run) clean opened peer_opened
 
-pub toys_rest : (events : List CoreEvent) (s : ToyLane) → Run ToyStep fresh_toys events s → s.wire.forged ≡ false → s.wire.lossy ≡ false → IsAtRest A (toy_lane s) → IsAtRest B (toy_lane s)
+pub toys_rest : (events : List CoreEvent) (s : ToyLane) → Run ToyStep fresh_toys events s → s.wire.forged ≡ false → s.wire.lossy ≡ false → IsEndAtRest A (toy_lane s) → IsEndAtRest B (toy_lane s)
     → (is_some s.a.told ≡ true) × (is_some s.b.told ≡ true)
 toys_rest events s run clean whole one other =
     two_at_rest_open 8 toy_offer toy_offer events (toy_lane s) fits matched (toy_run fresh_toys s events run) clean whole one other

@@ -9,9 +9,9 @@ use Rattle.map_table.specs.declared.cookie.Cookie.{Cookie}
 use Rattle.vio_handshake.specs.declared.handshake.Handshake.{Handshake}
 use Rattle.vio_handshake.specs.declared.session.Offer.{Offer}
 use Rattle.vio_handshake.specs.State.{fresh_handshake}
-use Rattle.channel_laws.specs.WireLog.{WireLog, nothing_on_wire}
-use Rattle.channel_laws.specs.EndCore.{EndCore}
-use Rattle.channel_laws.specs.LaneCore.{CoreEvent, CoreStep, LaneCore}
+use Rattle.lane_models.specs.WireLog.{WireLog, nothing_on_wire}
+use Rattle.lane_models.specs.EndCore.{EndCore}
+use Rattle.lane_models.specs.LaneCore.{CoreEvent, CoreStep, LaneCore}
 
 -- both ends offer a ring of eight slots of 64 bytes, and expect such a one
 abbrev pub toy_cookie : Cookie

@@ -3,7 +3,7 @@
 ghost use Rattle.std.specs.Prelude.{ℕ, ◌≤◌, List, length};
 ghost use Rattle.lane_kinds.specs.Both.{BothHold, BothStand, Two};
 ghost use Rattle.lane_kinds.specs.Fronts.{SettleFront};
-ghost use Rattle.lane_kinds.specs.Lanes.{AllMove, AreClean, EachMarked, EachOf, IsAtRest};
+ghost use Rattle.lane_kinds.specs.Lanes.{AllMove, AreClean, EachMarked, EachOf, IsLaneAtRest};
 ghost use Rattle.lane_kinds.specs.Settles.{most_rounds, RunsOut, SettlePart, Settles};
 ghost use Rattle.lane_kinds.specs.Stuck.{NeverThree, sum_over};
 ghost use Rattle.kind_cases.specs.PortCounts.{moves, port_stuck, port_ticks};
@@ -23,7 +23,7 @@ pub fn two_switches_end_settled()
 pub fn ports_are_finished_behind_a_settle()
     ensures { (start : Two (List Port) (List Port)) (part : List WorldEntry) (behind : Two (List Port) (List Port))
         (at : Settles two_switches start part behind) → BothHold (EachOf WayHasRoom) (EachOf WayHasRoom) start
-        → BothStand (EachMarked (IsAtRest ports IsUnforged)) (EachMarked (IsAtRest ports IsUnforged)) behind
+        → BothStand (EachMarked (IsLaneAtRest ports IsUnforged)) (EachMarked (IsLaneAtRest ports IsUnforged)) behind
         at.now.marks }
 {}
 

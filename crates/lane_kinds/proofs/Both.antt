@@ -5,7 +5,7 @@ use Rattle.runs.specs.Run.{Run}
 use Rattle.lane_kinds.proofs.Stuck.{sum_both}
 use Rattle.lane_kinds.proofs.Sums.{and_left, and_right, both_lower, both_unless, or_left, or_right}
 use Rattle.lane_kinds.specs.Both.{BothHold, BothStand, BothStep, Ignores, OnFirst, OnSecond, Skips, Two, both}
-use Rattle.lane_kinds.specs.Laws.{CountsRounds, AnswersLead, Falls, Keeps, Leads, Moves, Names, Unsticks}
+use Rattle.lane_kinds.specs.Laws.{CountsRounds, AnswersLead, Falls, KeepsStanding, Leads, Moves, Names, Unsticks}
 use Rattle.lane_kinds.specs.Rounds.{Rounds}
 use Rattle.lane_kinds.specs.Settles.{EndsWith}
 use Rattle.lane_kinds.specs.Stuck.{sum_over}
@@ -64,7 +64,7 @@ module _ {W V E : Type 0} (Step : W → E → W → Type 0) (Other : V → E →
 
 module _ {W V M N R Q E : Type 0} (K : Rounds W M R E) (L : Rounds V N Q E) where
   -- WHAT STANDS OF EACH stands of both
-  pub both_keep : (P : W → M → Type 0) (S : V → N → Type 0) → Keeps K P → Keeps L S → Keeps (both K L) (BothStand P S)
+  pub both_keep : (P : W → M → Type 0) (S : V → N → Type 0) → KeepsStanding K P → KeepsStanding L S → KeepsStanding (both K L) (BothStand P S)
   both_keep P S one two = grind (arith, and_left, and_right)
 
   -- THE LAST ROUND of both is that of each

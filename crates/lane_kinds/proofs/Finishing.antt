@@ -5,11 +5,11 @@ use Rattle.std.specs.Prelude.{◌||◌, if◌then◌else◌}
 use Rattle.runs.specs.Run.{Run}
 use Rattle.lane_kinds.proofs.Lanes.{round_calmly}
 use Rattle.lane_kinds.proofs.Sums.{or_left, or_right}
-use Rattle.lane_kinds.specs.Lanes.{AllStep, CalmTurn, Calmly, EachMarked, EachOf, EachStep, Entries, IsAtRest, LaneKind, LaneRests, MakeTurns, StepOf, TickAll, TicksIf, gets_tick, lanes_of, marked, own_or, some_tick, unmarked}
-use Rattle.lane_kinds.specs.Laws.{Keeps}
+use Rattle.lane_kinds.specs.Lanes.{AllStep, CalmTurn, Calmly, EachMarked, EachOf, EachStep, Entries, IsLaneAtRest, LaneKind, ComesToRest, MakeTurns, StepOf, TickAll, TicksIf, gets_tick, lanes_of, marked, own_or, some_tick, unmarked}
+use Rattle.lane_kinds.specs.Laws.{KeepsStanding}
 use Rattle.lane_kinds.specs.Settles.{EndsWith}
 
-module _ {S V : Type 0} (K : LaneKind S V) (Reached Unforged Lossless : S → Type 0) (laws : LaneRests K Reached Unforged Lossless) where
+module _ {S V : Type 0} (K : LaneKind S V) (Reached Unforged Lossless : S → Type 0) (laws : ComesToRest K Reached Unforged Lossless) where
   run_reached : (s : S) (events : List V) (t : S) → Reached s → Run K.Step s events t → Reached t
   run_reached s [] t at run = subst Reached run at
   run_reached s (event ∷ events) t at run = run_reached run.0 events t (laws.reached s event run.0 at run.1) run.2
@@ -54,7 +54,7 @@ module _ {S V : Type 0} (K : LaneKind S V) (Reached Unforged Lossless : S → Ty
       grind (arith, tick_whole, ticks_whole lanes turns between marks behind was.1 whole.1 calm.1 ticks.1)
   ticks_whole lanes turns between marks behind was whole calm ticks = grind arith
 
-  pub lanes_keep : {E : Type 0} (N : Entries V E) → Keeps (lanes_of K N) (EachMarked IsWhole)
+  pub lanes_keep : {E : Type 0} (N : Entries V E) → KeepsStanding (lanes_of K N) (EachMarked IsWhole)
   lanes_keep N = record {
     round = λ w m r v at made. turns_whole 0 w r v m at made.turns_made;
     ticks = λ w m r v u at made quiet ticks. ticks_whole w r v m u at (turns_whole 0 w r v m at made.turns_made) (round_calmly K laws.calm_gives w r v quiet made) ticks;
@@ -73,7 +73,7 @@ module _ {S V : Type 0} (K : LaneKind S V) (Reached Unforged Lossless : S → Ty
   finished_by had s r t at turn (inl finished) clean = finished
   finished_by had s r t at turn (inr marked) clean = laws.finishes s r t at.reached (run_unforged s r t (laws.turn_steps r turn.of_turn) turn.run clean) (at.whole marked) turn
 
-  lane_rests : (had : Bool) (s : S) (r : List V) (t : S) → IsWhole s had → CalmTurn K s r t → gets_tick K t had ≡ false → IsAtRest K Unforged t had
+  lane_rests : (had : Bool) (s : S) (r : List V) (t : S) → IsWhole s had → CalmTurn K s r t → gets_tick K t had ≡ false → IsLaneAtRest K Unforged t had
   lane_rests had s r t at turn none = record {
     ticked = ticked_or had (K.waits_on t) none;
     finished = λ clean. finished_by had s r t at turn (ticked_or had (K.waits_on t) none) clean;
@@ -91,5 +91,5 @@ module _ {S V : Type 0} (K : LaneKind S V) (Reached Unforged Lossless : S → Ty
     all_each N behind marks at = last_each at.before at.steps behind marks at.stands (round_calmly K laws.calm_gives at.before at.steps behind at.quiet at.made) at.no_tick
 
   pub all_rest : {E : Type 0} (N : Entries V E) (behind : List S) (marks : List Bool) → EndsWith (lanes_of K N) (EachMarked IsWhole) behind marks
-      → EachMarked (IsAtRest K Unforged) behind marks
-  all_rest N behind marks at = all_each (IsAtRest K Unforged) lane_rests N behind marks at
+      → EachMarked (IsLaneAtRest K Unforged) behind marks
+  all_rest N behind marks at = all_each (IsLaneAtRest K Unforged) lane_rests N behind marks at

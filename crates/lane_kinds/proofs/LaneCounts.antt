@@ -8,7 +8,7 @@ use Rattle.lane_kinds.proofs.Lanes.{as_many}
 use Rattle.lane_kinds.proofs.Stuck.{sum_both}
 use Rattle.lane_kinds.specs.Both.{Ignores}
 use Rattle.lane_kinds.specs.LaneCounts.{LaneMoves, LaneTicks, LaneUnsticks, TickWaits, mark_at, once}
-use Rattle.lane_kinds.specs.Lanes.{EachMarked, EachStep, Entries, LaneKind, LaneRests, MakeRound, MakeTurns, StepOf, TickAll, TicksIf, all_calm, are_still, gets_tick, lanes_of, left_names, marked, round_entries, some_tick, tick_entries, turn_entries, unmarked}
+use Rattle.lane_kinds.specs.Lanes.{EachMarked, EachStep, Entries, LaneKind, ComesToRest, MakeRound, MakeTurns, StepOf, TickAll, TicksIf, all_calm, are_still, gets_tick, lanes_of, left_names, marked, round_entries, some_tick, tick_entries, turn_entries, unmarked}
 use Rattle.lane_kinds.specs.Laws.{CountsRounds, Moves, Names, Unsticks}
 use Rattle.lane_kinds.specs.Stuck.{sum_over}
 use Rattle.runs.specs.Run.{Run}
@@ -197,7 +197,7 @@ module _ {S V E : Type 0} (K : LaneKind S V) (N : Entries V E) where
   round_many : (lanes : List S) (turns : List (List V)) (behind : List S) → MakeRound K lanes turns behind → length turns ≡ length behind
   round_many lanes turns behind made = made.many ∙ sym (turns_many K 0 lanes turns behind made.turns_made)
 
-  module _ (Reached Unforged Lossless : S → Type 0) (laws : LaneRests K Reached Unforged Lossless) (waits : TickWaits K Reached) where
+  module _ (Reached Unforged Lossless : S → Type 0) (laws : ComesToRest K Reached Unforged Lossless) (waits : TickWaits K Reached) where
     named_where : (quiet waiting : Bool) (x : E) (rest : List E) → waiting ≡ true → 1 ≤ length ((if quiet && (if waiting then false else true) then [] else x ∷ []) ++ rest)
     named_where quiet waiting x rest is = grind arith
 

@@ -1,11 +1,11 @@
 -- What stands of the lanes and their marks stays through the rounds of a settle.
 use Rattle.std.proofs.Common.{List, arith}
 use Rattle.runs.specs.Run.{Run, run_keeps}
-use Rattle.lane_kinds.specs.Laws.{Keeps}
+use Rattle.lane_kinds.specs.Laws.{KeepsStanding}
 use Rattle.lane_kinds.specs.Rounds.{Rounds}
 use Rattle.lane_kinds.specs.Settles.{EndsWith, GoesOn, SettleRound, Settles, Settling}
 
-module _ {W M R E : Type 0} (K : Rounds W M R E) (Stands : W → M → Type 0) (laws : Keeps K Stands) where
+module _ {W M R E : Type 0} (K : Rounds W M R E) (Stands : W → M → Type 0) (laws : KeepsStanding K Stands) where
   pub goes_on : (w : Settling W M) (round : SettleRound R E) (v : Settling W M) → GoesOn K w round v → Stands w.lanes w.marks → Stands v.lanes v.marks
   goes_on w round v goes given = grind arith
 

@@ -189,7 +189,7 @@ pub record LaneFalls {S V : Type 0} (K : LaneKind S V) (Clean : S → Type 0) (r
 
 -- WHAT STANDS BEHIND A SETTLE: a lane that nobody forged and that lost nothing is finished by a calm turn; and a tick
 -- leaves nothing lost. Forging isn't undone.
-pub record LaneRests {S V : Type 0} (K : LaneKind S V) (Reached Unforged Lossless : S → Type 0) : Type 0 where
+pub record ComesToRest {S V : Type 0} (K : LaneKind S V) (Reached Unforged Lossless : S → Type 0) : Type 0 where
   pub turn_steps : (events : List V) → K.IsTurn events → EachStep K events
   pub reached : (s : S) (event : V) (t : S) → Reached s → K.Step s event t → Reached t
   pub was_unforged : (s : S) (event : V) (t : S) → K.Step s event t → K.IsStep event → Unforged t → Unforged s
@@ -210,7 +210,7 @@ EachAt P j [] = ⊤
 EachAt P j (s ∷ lanes) = P j s × EachAt P (j + 1) lanes
 
 -- it is finished, or had its tick; and where nobody forged it, it is finished, also beside lanes that somebody forged
-pub record IsAtRest {S V : Type 0} (K : LaneKind S V) (Unforged : S → Type 0) (s : S) (had : Bool) : Type 0 where
+pub record IsLaneAtRest {S V : Type 0} (K : LaneKind S V) (Unforged : S → Type 0) (s : S) (had : Bool) : Type 0 where
   pub ticked : (K.waits_on s ≡ false) ⊎ (had ≡ true)
   pub finished : Unforged s → K.waits_on s ≡ false
 

@@ -14,14 +14,14 @@ LowersUnless b n m = ((b ≡ false) × (m ≤ n)) ⊎ (m < n)
 
 -- WHAT STANDS of the lanes and their marks stays through rounds, and through the ticks after a round in which all
 -- were quiet
-pub record Keeps {W M R E : Type 0} (K : Rounds W M R E) (Stands : W → M → Type 0) : Type 0 where
+pub record KeepsStanding {W M R E : Type 0} (K : Rounds W M R E) (Stands : W → M → Type 0) : Type 0 where
   pub round : (w : W) (m : M) (r : R) (v : W) → Stands w m → K.Makes w r v → Stands v m
   pub ticks : (w : W) (m : M) (r : R) (v u : W) → Stands w m → K.Makes w r v → K.quiet r ≡ true → K.Ticks v m u → Stands u (K.marked v m)
 
 -- WHAT REMAINS of clean lanes falls by a round, or all are quiet in it; and then it falls by the ticks, or none gets
 -- one
 pub record Falls {W M R E : Type 0} (K : Rounds W M R E) (Clean : W → Type 0) (remaining : W → ℕ) : Type 0 where
-  pub keeps : Keeps K (λ w m. Clean w)
+  pub keeps : KeepsStanding K (λ w m. Clean w)
   pub round : (w : W) (r : R) (v : W) → Clean w → K.Makes w r v → Lowers (K.quiet r) (remaining w) (remaining v)
   pub ticks : (w : W) (m : M) (r : R) (v u : W) → Clean w → K.Makes w r v → K.quiet r ≡ true → K.Ticks v m u → LowersUnless (K.some_ticks v m) (remaining v) (remaining u)
 
@@ -34,7 +34,7 @@ pub record Leads {W M R E : Type 0} (K : Rounds W M R E) (To : W → List E → 
 
 -- the same of lanes of which something stands; and where all were quiet, those of the round with the ticks behind it
 pub record LeadsWhere {W M R E : Type 0} (K : Rounds W M R E) (Stands : W → M → Type 0) (To : W → List E → W → Type 0) : Type 0 where
-  pub keeps : Keeps K Stands
+  pub keeps : KeepsStanding K Stands
   pub none : (w : W) → To w [] w
   pub both : (w m v : W) (one two : List E) → To w one m → To m two v → To w (one ++ two) v
   pub round : (w : W) (m : M) (r : R) (v : W) → Stands w m → K.Makes w r v → To w (K.leaves r) v

@@ -32,7 +32,7 @@ pub record GoesOn {W M R E : Type 0} (K : Rounds W M R E) (w : Settling W M) (ro
   pub behind : TicksBehind K (K.quiet round.steps) w round.steps between round.entries v
 
 -- THE LAST ROUND: all lanes are quiet in it, and after it none gets a tick
-pub record IsLast {W M R E : Type 0} (K : Rounds W M R E) (w : Settling W M) (steps : R) (behind : W) : Type 0 where
+pub record IsLastRound {W M R E : Type 0} (K : Rounds W M R E) (w : Settling W M) (steps : R) (behind : W) : Type 0 where
   pub made : K.Makes w.lanes steps behind
   pub quiet : K.quiet steps ≡ true
   pub no_tick : K.some_ticks behind w.marks ≡ false
@@ -52,7 +52,7 @@ pub record Settles {W M R E : Type 0} (K : Rounds W M R E) (start : W) (part : L
   pub run : Run (GoesOn K) (begin K start) rounds now
   pub few : length rounds < most_rounds K start
   pub steps : R
-  pub last : IsLast K now steps behind
+  pub last : IsLastRound K now steps behind
   pub is : part ≡ entries_of_rounds rounds ++ K.leaves steps ++ K.settled ∷ []
 
 -- OR NOT: the most rounds were made and all went on; those of the lanes that are left over are named

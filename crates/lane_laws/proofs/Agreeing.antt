@@ -7,21 +7,21 @@ use Rattle.ldc_queue.specs.declared.end.ChannelState.TheVariants.{Up}
 use Rattle.ldc_queue.specs.declared.end.End.TheVariants.{A, B}
 use Rattle.ldc_queue.specs.OneStream.{IsFront}
 use Rattle.vio_handshake.specs.declared.session.Offer.{Offer}
-use Rattle.channel_laws.specs.Sayings.{heard, said}
-use Rattle.channel_laws.specs.TranscriptLog.{TranscriptLog}
-use Rattle.channel_laws.specs.WireAt.{IsUp}
-use Rattle.channel_laws.specs.WireLog.{WireLog}
-use Rattle.channel_laws.proofs.Apart.{some_same}
+use Rattle.lane_models.specs.Sayings.{heard, said}
+use Rattle.lane_models.specs.TranscriptLog.{TranscriptLog}
+use Rattle.lane_models.specs.WireAt.{IsUp}
+use Rattle.lane_models.specs.WireLog.{WireLog}
+use Rattle.lane_models.proofs.Apart.{some_same}
 use Rattle.lane_laws.specs.Agreement.{ClientAgrees, ClientCountsAgree, ServerAgrees}
 use Rattle.lane_laws.specs.DiskLog.{DiskLog, after, nothing_yet}
 use Rattle.lane_laws.specs.WorkLaws.{IfServer}
 use Rattle.lane_laws.specs.WorkLog.{ClientCounts, ServerCounts}
-use Rattle.disk_model.specs.ClientState.{ClientSession}
-use Rattle.disk_model.specs.DiskEvent.{DiskEvent}
-use Rattle.disk_model.specs.LaneState.{IsShape, LaneState, Shape, fresh}
-use Rattle.disk_model.specs.LaneStep.{LaneStep}
-use Rattle.disk_model.specs.Offering.{client_offer, own_cookies}
-use Rattle.disk_model.specs.ServerState.{ServerSession, Work}
+use Rattle.lane_models.specs.ClientState.{ClientSession}
+use Rattle.lane_models.specs.DiskEvent.{DiskEvent}
+use Rattle.lane_models.specs.LaneState.{IsShape, LaneState, Shape, fresh}
+use Rattle.lane_models.specs.LaneStep.{LaneStep}
+use Rattle.lane_models.specs.Offering.{client_offer, own_cookies}
+use Rattle.lane_models.specs.ServerState.{ServerSession, Work}
 use Rattle.lane_laws.proofs.CarriedRuns.{AllStand, all_step, fresh_all}
 use Rattle.lane_laws.proofs.HeardFront.{heard_messages}
 use Rattle.lane_laws.proofs.LaneCounting.{Knows, run_knows}
@@ -33,7 +33,7 @@ use Rattle.lane_laws.proofs.RingRuns.{issued_behind}
 use Rattle.lane_laws.specs.Counted.{InServerOrder, ServerOrder, acked_of, announced_of, range_sum}
 use Rattle.lane_laws.specs.LaneTranscripts.{transcript_behind}
 use Rattle.lane_laws.specs.OneSession.{AreOneSession}
-use Rattle.channel_laws.specs.Ranges.{wrapped}
+use Rattle.lane_models.specs.Ranges.{wrapped}
 use Rattle.lane_laws.specs.Remaining.{total}
 use Rattle.lane_laws.specs.RingAgreed.{AlwaysAgree, OneRing}
 use Rattle.lane_laws.proofs.Sharing.{in_order}
@@ -56,8 +56,8 @@ issued_few shape events s sound run =
 pub server_open : (o : Option ServerSession) (w : Option Work) (q : Option ServerCounts) (d : ServerCounts) → q ≡ Some d → ServerAgrees o w q → is_some o ≡ true
 server_open o w q d is agrees = grind arith
 
-order_of : (slots : ℕ) (o : Option ServerSession) (q : Option ServerCounts) (d : ServerCounts) (transcript : TranscriptLog) → q ≡ Some d → is_some o ≡ true → ServerOrder slots o q transcript.server
-    → (session : ServerSession) × InServerOrder slots session d transcript.server
+order_of : (slots : ℕ) (o : Option ServerSession) (q : Option ServerCounts) (d : ServerCounts) (transcript : TranscriptLog) → q ≡ Some d → is_some o ≡ true → ServerOrder slots o q transcript.b
+    → (session : ServerSession) × InServerOrder slots session d transcript.b
 order_of slots o q d transcript is now order = grind arith
 
 record ClientOpen (o : Option ClientSession) (done : ℕ) (q : Option ClientCounts) : Type 0 where
@@ -107,13 +107,13 @@ one_ring shape events s sound run clean up d is =
     let client = knows.counted.client in
     let server = knows.counted.server in
     let v_open : is_some s.server.session ≡ true = server_open s.server.session s.server.work l.work.server d is server.agrees in
-    let heard_v = heard l.transcript.server in
-    let said_v = said l.transcript.server in
-    let heard_c = heard l.transcript.client in
-    let said_c = said l.transcript.client in
+    let heard_v = heard l.transcript.b in
+    let said_v = said l.transcript.b in
+    let heard_c = heard l.transcript.a in
+    let said_c = said l.transcript.a in
     let peer = client_in_session shape events s sound run clean up v_open in
-    let front_b : IsFront heard_v said_c = subst (λ (t : TranscriptLog). IsFront (heard t.server) (said t.client)) (sym transcript) (heard_messages shape events s B sound run clean up) in
-    let front_a : IsFront heard_c said_v = subst (λ (t : TranscriptLog). IsFront (heard t.client) (said t.server)) (sym transcript) (heard_messages shape events s A sound run clean peer.up) in
+    let front_b : IsFront heard_v said_c = subst (λ (t : TranscriptLog). IsFront (heard t.b) (said t.a)) (sym transcript) (heard_messages shape events s B sound run clean up) in
+    let front_a : IsFront heard_c said_v = subst (λ (t : TranscriptLog). IsFront (heard t.a) (said t.b)) (sym transcript) (heard_messages shape events s A sound run clean peer.up) in
     let k = counts_of s.client.session l.work.done l.work.client peer.opened client.agrees in
     let order = in_order (length s.client.pending) s.client.session k.session k.session_is knows.all.sound.counts in
     let v_order = (order_of l.shape.slots s.server.session l.work.server d l.transcript is v_open server.order).1 in
@@ -181,7 +181,7 @@ client_offers shape events s sound run = (run_knows shape events s sound run).re
 
 -- WHAT A SERVER WAS ASKED FOR, where its end is up
 pub record AskedWithin (s : LaneState) (l : DiskLog) (session : ServerSession) : Type 0 where
-  pub asked : session.asked ≡ range_sum l.shape.slots 1 (heard l.transcript.server)
+  pub asked : session.asked ≡ range_sum l.shape.slots 1 (heard l.transcript.b)
   pub small : session.asked < 2 ^ 64
   pub within : session.asked ≤ total (length s.client.pending) s.client.session
   pub up : s.wire.wire.end_a ≡ Up

@@ -5,9 +5,9 @@ use Rattle.runs.specs.Run.{Run}
 use Rattle.ldc_link.specs.declared.phase.Role.TheVariants.{Initiator, Responder}
 use Rattle.lane_laws.specs.Agreement.{AgreesWithLog}
 use Rattle.lane_laws.specs.DiskLog.{after, nothing_yet}
-use Rattle.disk_model.specs.DiskEvent.{DiskEvent}
-use Rattle.disk_model.specs.LaneState.{IsShape, LaneState, Shape, fresh}
-use Rattle.disk_model.specs.LaneStep.{LaneStep}
+use Rattle.lane_models.specs.DiskEvent.{DiskEvent}
+use Rattle.lane_models.specs.LaneState.{IsShape, LaneState, Shape, fresh}
+use Rattle.lane_models.specs.LaneStep.{LaneStep}
 use Rattle.lane_laws.proofs.EndsFold.{client_end, run_both, server_end}
 use Rattle.lane_laws.proofs.FailedRuns.{run_failed}
 use Rattle.lane_laws.proofs.FirstStays.{run_first}
@@ -37,8 +37,8 @@ run_agrees shape events s sound run =
       table = working.table;
       stopped = stands.stopped;
       failed = run_failed shape events s run;
-      client_link = link_agrees Initiator (client_core s.client) l.transcript.client (client_stands shape events s sound run);
-      server_link = link_agrees Responder (server_core s.server) l.transcript.server (server_stands shape events s sound run);
+      client_link = link_agrees Initiator (client_core s.client) l.transcript.a (client_stands shape events s sound run);
+      server_link = link_agrees Responder (server_core s.server) l.transcript.b (server_stands shape events s sound run);
       sids = run_sids shape events s sound run;
       client_end = client_end s l both folds.a (run_sids shape events s sound run);
       server_end = server_end s l both folds.b (no_sids shape events s sound run) first;

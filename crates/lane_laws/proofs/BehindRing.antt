@@ -14,10 +14,10 @@ use Rattle.vio_bytes.proofs.Putting.{drop-put_at, length-put_at}
 use Rattle.vio_bytes.proofs.Ranges.{range_at-put_at_part}
 use Rattle.vio_bytes.specs.Place.{put_at}
 use Rattle.vio_bytes.specs.Range.{range_at}
-use Rattle.disk_model.specs.ClientStep.{filled_buffer, published_memory}
-use Rattle.disk_model.specs.ServerState.{ServerState, Work}
+use Rattle.lane_models.specs.ClientStep.{filled_buffer, published_memory}
+use Rattle.lane_models.specs.ServerState.{ServerState, Work}
 use Rattle.cookie_copy.specs.Reach.{Reach}
-use Rattle.disk_model.specs.ServerWork.{header_of, with_done, with_status, with_word, word_fault}
+use Rattle.lane_models.specs.ServerWork.{header_of, with_done, with_status, with_word, word_fault}
 use Rattle.lane_laws.proofs.MemoryStanding.{desc_long, filled_long, word_long}
 use Rattle.lane_laws.proofs.RingServer.{Reaches, header_long, status_is_long}
 use Rattle.lane_laws.proofs.RingWrites.{ring_word}

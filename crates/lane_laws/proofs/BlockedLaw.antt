@@ -6,30 +6,30 @@ use Rattle.ldc_link.specs.Putting.{owes, owes_control, owes_in}
 use Rattle.ldc_queue.specs.declared.end.End.TheVariants.{A, B}
 use Rattle.vio_tag.specs.declared.message.Message.{Message}
 use Rattle.vio_handshake.specs.declared.handshake.Handshake.{Handshake}
-use Rattle.channel_laws.specs.Sayings.{half_said}
-use Rattle.disk_model.specs.ClientPutting.{client_holds, is_announcing}
-use Rattle.disk_model.specs.ClientRule as client
-use Rattle.disk_model.specs.ClientState.{ClientSession, ClientState}
-use Rattle.disk_model.specs.LaneState.{LaneState}
-use Rattle.disk_model.specs.ServerPutting.{server_holds}
-use Rattle.disk_model.specs.ServerRule as server
-use Rattle.disk_model.specs.ServerState.{ServerSession, ServerState, SlotRange}
-use Rattle.channel_laws.proofs.Apart.{none_is_some, some_is_none}
-use Rattle.channel_laws.specs.EndFold.{link_phase}
+use Rattle.lane_models.specs.Sayings.{half_said}
+use Rattle.lane_models.specs.ClientPutting.{client_holds, is_announcing}
+use Rattle.lane_models.specs.ClientRule as client
+use Rattle.lane_models.specs.ClientState.{ClientSession, ClientState}
+use Rattle.lane_models.specs.LaneState.{LaneState}
+use Rattle.lane_models.specs.ServerPutting.{server_holds}
+use Rattle.lane_models.specs.ServerRule as server
+use Rattle.lane_models.specs.ServerState.{ServerSession, ServerState, SlotRange}
+use Rattle.lane_models.proofs.Apart.{none_is_some, some_is_none}
+use Rattle.lane_models.specs.EndFold.{link_phase}
 use Rattle.lane_laws.specs.ChannelEnds.{client_core}
 use Rattle.lane_laws.specs.DiskLog.{DiskLog}
 use Rattle.lane_laws.specs.OrderLaws.{HasToPut}
 use Rattle.lane_laws.specs.RuleFacts.{ClientMay}
 use Rattle.lane_laws.specs.Sound.{SessionInOrder}
 use Rattle.lane_laws.specs.WorkLaws.{client_handshake, server_handshake}
-use Rattle.channel_laws.proofs.EndSending.{calm_up, sends_some}
+use Rattle.lane_models.proofs.EndSending.{calm_up, sends_some}
 use Rattle.lane_laws.proofs.ClientPutCounting.{OwnInfo, own_info}
 use Rattle.lane_laws.proofs.EndsFold.{BothAre}
 use Rattle.lane_laws.proofs.RangeLaw.{AreTold}
 use Rattle.lane_laws.proofs.RulesFree.{ServerFree, puts_owe, server_free}
 use Rattle.lane_laws.proofs.Ruling.{client_may}
 use Rattle.lane_laws.proofs.Sharing.{in_order}
-use Rattle.channel_laws.proofs.MessagesHeld.{owed_held}
+use Rattle.lane_models.proofs.MessagesHeld.{owed_held}
 use Rattle.lane_laws.proofs.WorkNumbers.{Grounded}
 use Rattle.lane_laws.proofs.LaneViews.{at_client, at_server}
 
@@ -38,8 +38,8 @@ pub record Told (s : LaneState) (l : DiskLog) : Type 0 where
   pub grounded : Grounded s l
   pub both : BothAre s l
   pub are : AreTold s l
-  pub client_phase : s.client.link.phase ≡ link_phase Initiator l.transcript.client
-  pub server_phase : s.server.link.phase ≡ link_phase Responder l.transcript.server
+  pub client_phase : s.client.link.phase ≡ link_phase Initiator l.transcript.a
+  pub server_phase : s.server.link.phase ≡ link_phase Responder l.transcript.b
 
 some_owed : (h g : Handshake) (message : Message) → h ≡ g → h.owed ≡ Some message → g.owed ≢ None
 some_owed h g message same owed none = some_is_none (sym owed ∙ ap (λ (x : Handshake). x.owed) same ∙ none)
@@ -56,13 +56,13 @@ more_published s l session grounded is more = grind arith
 client_left : (s : LaneState) (l : DiskLog) (own : Bool) → Told s l → is_announcing s.client.session ≡ own → 1 ≤ length s.client.link.to_send → HasToPut A l
 client_left s l true told own some =
     let grounded = told.grounded in
-    let info : OwnInfo s.client (half_said l.transcript.client ++ s.client.link.to_send) =
-    own_info s.client l.transcript.client s.client.session refl own grounded.knows.counted.client.holds in
+    let info : OwnInfo s.client (half_said l.transcript.a ++ s.client.link.to_send) =
+    own_info s.client l.transcript.a s.client.session refl own grounded.knows.counted.client.holds in
     let order : SessionInOrder (length s.client.pending) info.session =
     in_order (length s.client.pending) s.client.session info.session info.is grounded.knows.all.sound.counts in
     more_published s l info.session grounded info.is (order.own info.announcing)
 client_left s l false told own some =
-    let holds = owed_held Initiator (client_core s.client) l.transcript.client told.grounded.knows.rests.client.stands own some in
+    let holds = owed_held Initiator (client_core s.client) l.transcript.a told.grounded.knows.rests.client.stands own some in
     inr (inl (some_owed s.client.handshake (client_handshake l) holds.message told.are.client holds.owed))
 
 client_puts : (s : LaneState) (l : DiskLog) (rule : client.ClientRule) (held : ClientState) → Told s l → client.client_rule s.client (at_client s) ≡ rule

@@ -5,11 +5,11 @@ use Rattle.runs.specs.Run.{Run}
 use Rattle.vdisk_msg.specs.declared.request.Request.TheVariants.{Write}
 use Rattle.vdisk_msg.specs.Requested.{buffer_of, buffer_place}
 use Rattle.vio_bytes.specs.Range.{range_at}
-use Rattle.channel_laws.specs.WireLog.{WireLog}
+use Rattle.lane_models.specs.WireLog.{WireLog}
 use Rattle.lane_laws.specs.DiskLog.{after, nothing_yet}
-use Rattle.disk_model.specs.DiskEvent.{DiskEvent}
-use Rattle.disk_model.specs.LaneState.{IsShape, LaneState, Shape, fresh}
-use Rattle.disk_model.specs.LaneStep.{LaneStep}
+use Rattle.lane_models.specs.DiskEvent.{DiskEvent}
+use Rattle.lane_models.specs.LaneState.{IsShape, LaneState, Shape, fresh}
+use Rattle.lane_models.specs.LaneStep.{LaneStep}
 use Rattle.lane_laws.specs.Contents.{ContentsStand, WorkHeld, WritesHeld}
 use Rattle.lane_laws.specs.LaneView.{view_of}
 use Rattle.lane_laws.proofs.BehindRing.{range_behind, ring_end}

@@ -4,18 +4,18 @@ use Rattle.ldc_queue.specs.declared.end.End.{End}
 use Rattle.ldc_queue.specs.declared.end.End.TheVariants.{A, B}
 use Rattle.ldc_queue.specs.Wire.{peer_behind}
 use Rattle.vio_tag.specs.declared.cause.Cause.{Cause}
-use Rattle.channel_laws.specs.WireEvent.{Reset, Sent, Took, WireEvent}
-use Rattle.channel_laws.specs.WireLog.{WireLog, wire_moved}
-use Rattle.channel_laws.proofs.Apart.{ends_differ, some_same}
+use Rattle.lane_models.specs.WireEvent.{Reset, Sent, Took, WireEvent}
+use Rattle.lane_models.specs.WireLog.{WireLog, wire_moved}
+use Rattle.lane_models.proofs.Apart.{ends_differ, some_same}
 use Rattle.lane_laws.specs.DiskLog.{DiskLog, after}
 use Rattle.lane_laws.specs.WorkLaws.{IfServer}
 use Rattle.lane_laws.specs.WorkLog.{ServerCounts}
-use Rattle.disk_model.specs.ClientState.{ClientSession, ClientState, opened_session}
-use Rattle.disk_model.specs.DiskEvent.{Accepted, Admitted, Asks, Calm, DiskEvent, Full, Off, OnWire, Refused, Calms, Started, Stopped, Switched, Switches}
-use Rattle.disk_model.specs.LaneState.{LaneState, NearCounts}
-use Rattle.disk_model.specs.LaneStep.{LaneStep, CalmStep, SwitchedStep, WireStep}
-use Rattle.channel_laws.specs.Seeing.{seen}
-use Rattle.disk_model.specs.ServerState.{Work}
+use Rattle.lane_models.specs.ClientState.{ClientSession, ClientState, opened_session}
+use Rattle.lane_models.specs.DiskEvent.{Accepted, Admitted, Asks, Calm, DiskEvent, Full, Off, OnWire, Refused, Calms, Started, Stopped, Switched, Switches}
+use Rattle.lane_models.specs.LaneState.{LaneState, NearCounts}
+use Rattle.lane_models.specs.LaneStep.{LaneStep, CalmStep, SwitchedStep, WireStep}
+use Rattle.lane_models.specs.Seeing.{seen}
+use Rattle.lane_models.specs.ServerState.{Work}
 use Rattle.lane_laws.proofs.RingWire.{published_of, sent_clears, wire_same}
 use Rattle.lane_laws.proofs.SlotsStepping.{StepFacts}
 use Rattle.lane_laws.proofs.StandingSteps.{wire_only}

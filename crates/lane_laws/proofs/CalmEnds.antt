@@ -13,34 +13,34 @@ use Rattle.ldc_queue.specs.declared.end.End.{End}
 use Rattle.ldc_queue.specs.declared.end.End.TheVariants.{A, B}
 use Rattle.ldc_queue.specs.OneStream.{IsFront}
 use Rattle.ldc_queue.specs.Wire.{peer_of}
-use Rattle.channel_laws.specs.Sayings.{heard, said}
-use Rattle.channel_laws.specs.TranscriptLog.{TranscriptLog}
-use Rattle.channel_laws.specs.WireEvent.{Idle}
+use Rattle.lane_models.specs.Sayings.{heard, said}
+use Rattle.lane_models.specs.TranscriptLog.{TranscriptLog}
+use Rattle.lane_models.specs.WireEvent.{Idle}
 use Rattle.lane_laws.specs.DiskLog.{after, nothing_yet}
-use Rattle.disk_model.specs.ClientPutting.{client_holds}
-use Rattle.disk_model.specs.ClientRule as client_rules
-use Rattle.disk_model.specs.ClientState.{ClientState, is_nothing}
-use Rattle.disk_model.specs.DiskEvent.{DiskEvent, OnWire}
-use Rattle.disk_model.specs.LaneState.{IsShape, LaneState, Shape, fresh}
-use Rattle.disk_model.specs.LaneStep.{LaneStep}
-use Rattle.disk_model.specs.ServerPutting.{server_holds}
-use Rattle.disk_model.specs.ServerRule as server_rules
-use Rattle.disk_model.specs.ServerState.{ServerState}
+use Rattle.lane_models.specs.ClientPutting.{client_holds}
+use Rattle.lane_models.specs.ClientRule as client_rules
+use Rattle.lane_models.specs.ClientState.{ClientState, is_nothing}
+use Rattle.lane_models.specs.DiskEvent.{DiskEvent, OnWire}
+use Rattle.lane_models.specs.LaneState.{IsShape, LaneState, Shape, fresh}
+use Rattle.lane_models.specs.LaneStep.{LaneStep}
+use Rattle.lane_models.specs.ServerPutting.{server_holds}
+use Rattle.lane_models.specs.ServerRule as server_rules
+use Rattle.lane_models.specs.ServerState.{ServerState}
 use Rattle.lane_laws.proofs.LaneCores.{transcript_is}
 use Rattle.lane_laws.proofs.HeardFront.{heard_messages}
 use Rattle.lane_laws.specs.LaneTranscripts.{transcript_behind}
 use Rattle.lane_laws.proofs.CalmSteps.{ClientCalm, ServerCalm, client_calm, server_calm, are_still, waits_up_a, waits_up_b}
 use Rattle.lane_laws.proofs.IdleLaw.{not_below as no_room}
-use Rattle.channel_laws.proofs.Apart.{true_is_false}
-use Rattle.channel_laws.proofs.EndsAtRest.{none_waits}
+use Rattle.lane_models.proofs.Apart.{true_is_false}
+use Rattle.lane_models.proofs.EndsAtRest.{none_waits}
 use Rattle.lane_laws.proofs.IdleRules.{client_idles, server_idles}
-use Rattle.channel_laws.specs.LinkPlaces.{live_phase, phase_at}
+use Rattle.lane_models.specs.LinkPlaces.{live_phase, phase_at}
 use Rattle.lane_laws.proofs.LaneChannel.{answers_of, asks_of, lane_links, lane_meets}
 use Rattle.lane_laws.specs.ChannelEnds.{server_core}
-use Rattle.channel_laws.proofs.HandshakePlaces.{deal, open_place}
-use Rattle.channel_laws.proofs.WhoOwes.{never_both}
+use Rattle.lane_models.proofs.HandshakePlaces.{deal, open_place}
+use Rattle.lane_models.proofs.WhoOwes.{never_both}
 use Rattle.vio_handshake.proofs.Places.{AllSaid}
-use Rattle.channel_laws.proofs.ManyWait.{many_wait}
+use Rattle.lane_models.proofs.ManyWait.{many_wait}
 use Rattle.lane_laws.proofs.NeverBoth.{client_owes, holds_urgent, server_owes}
 use Rattle.lane_laws.proofs.QuietEnds.{BothRest, Finished, quiet_ends}
 use Rattle.lane_laws.proofs.WorkNumbers.{Grounded}
@@ -85,20 +85,20 @@ both_wait shape events s c v at up_a up_b holds full_b holds_v full_a =
     let phase_b : s.server.link.phase ≡ phase.Established =
     sym (ap (λ (x : ChannelState). live_phase x phase.AwaitsVersInfo s.server.link.phase) up_b) ∙ links.theirs ∙ ap (phase_at Responder) both in
     let first = first_of s.wire.wire.to_a many_a in
-    let owed = client_owes s.client l.transcript.client grounded.knows.rests.client.stands phase_a (holds_urgent s.client (at_client s) first.0 c first.1 holds) in
-    let owing = server_owes l.shape s.server (at_server s) l.transcript.server l.work.server v grounded.knows.counted.server phase_b holds_v in
+    let owed = client_owes s.client l.transcript.a grounded.knows.rests.client.stands phase_a (holds_urgent s.client (at_client s) first.0 c first.1 holds) in
+    let owing = server_owes l.shape s.server (at_server s) l.transcript.b l.work.server v grounded.knows.counted.server phase_b holds_v in
     let on = lane_meets shape events s at.sound at.run at.clean in
     let d = deal (asks_of shape) (answers_of shape) on.meets.handshakes.sid in
     let there = on.meets.handshakes.theirs up_b (ap is_established phase_b) in
     let owns : (is_some s.server.handshake.owed ≡ true) ⊎ (there.place ≡ AllSaid) =
     elim owing [
       | inl owes ↦ inl owes
-      | inr opened ↦ inr (open_place false d Responder (server_core s.server) l.transcript.server on.stand.theirs there opened)
+      | inr opened ↦ inr (open_place false d Responder (server_core s.server) l.transcript.b on.stand.theirs there opened)
     ] in
     let transcript : l.transcript ≡ transcript_behind events = transcript_is (nothing_yet shape) events in
-    never_both false d s.client.handshake s.server.handshake l.transcript.client l.transcript.server (on.meets.handshakes.mine up_a (ap is_established phase_a)) there owed owns
-    (subst (λ (x : TranscriptLog). IsFront (heard x.server) (said x.client)) (sym transcript) (heard_messages shape events s B at.sound at.run at.clean up_b))
-    (subst (λ (x : TranscriptLog). IsFront (heard x.client) (said x.server)) (sym transcript) (heard_messages shape events s A at.sound at.run at.clean up_a))
+    never_both false d s.client.handshake s.server.handshake l.transcript.a l.transcript.b (on.meets.handshakes.mine up_a (ap is_established phase_a)) there owed owns
+    (subst (λ (x : TranscriptLog). IsFront (heard x.b) (said x.a)) (sym transcript) (heard_messages shape events s B at.sound at.run at.clean up_b))
+    (subst (λ (x : TranscriptLog). IsFront (heard x.a) (said x.b)) (sym transcript) (heard_messages shape events s A at.sound at.run at.clean up_a))
 
 -- BOTH ARE IDLE
 pub record BothIdle (e : End) (s : LaneState) (one next : DiskEvent) (t : LaneState) : Type 0 where

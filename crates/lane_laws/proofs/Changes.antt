@@ -6,9 +6,9 @@ use Rattle.vdisk_msg.specs.declared.request.Request.TheVariants.{Flush, Read, Wr
 use Rattle.vdisk_msg.specs.Requests.{AreSound, written}
 use Rattle.vio_bytes.specs.Place.{put_at}
 use Rattle.vio_bytes.specs.Range.{range_at}
-use Rattle.disk_model.specs.ClientState.{ClientSession}
-use Rattle.disk_model.specs.ServerState.{Ends, Flushes, Gathers, Gives, Progress, Reads, Work, Writes}
-use Rattle.disk_model.specs.ServerWork.{gathers_next, reads_next, unit_length}
+use Rattle.lane_models.specs.ClientState.{ClientSession}
+use Rattle.lane_models.specs.ServerState.{Ends, Flushes, Gathers, Gives, Progress, Reads, Work, Writes}
+use Rattle.lane_models.specs.ServerWork.{gathers_next, reads_next, unit_length}
 use Rattle.lane_laws.specs.ImageStep.{front_done}
 use Rattle.lane_laws.specs.LaneView.{View, place_of}
 

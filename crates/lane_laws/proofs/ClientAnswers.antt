@@ -15,11 +15,11 @@ use Rattle.vio_tag.specs.declared.message.TagFault.{TagFault}
 use Rattle.vio_tag.specs.Decoding.{Decodes}
 use Rattle.vio_handshake.specs.declared.handshake.Handshake.{Handshake}
 use Rattle.vio_handshake.specs.Rules.{Faults, Goes, GoesOpen, HandshakeTake, handshake_take, sid_fault}
-use Rattle.channel_laws.specs.EndStep.{IsOwn}
-use Rattle.channel_laws.specs.Ranges.{is_other}
+use Rattle.lane_models.specs.EndStep.{IsOwnMessage}
+use Rattle.lane_models.specs.Ranges.{is_other}
 use Rattle.dring.specs.Slots.{range_length}
-use Rattle.disk_model.specs.ClientState.{ClientSession, ClientState, slot_in}
-use Rattle.disk_model.specs.ClientTaking.{ClientTake, ClientTakes, GoesOn, HearsLink, HearsWhole, Resets, acknowledged, by_handshake, hears_message, in_session, reads, takes_ack}
+use Rattle.lane_models.specs.ClientState.{ClientSession, ClientState, slot_in}
+use Rattle.lane_models.specs.ClientTaking.{ClientTake, ClientTakes, GoesOn, HearsLink, HearsWhole, Resets, acknowledged, by_handshake, hears_message, in_session, reads, takes_ack}
 
 -- a handshake after a message, whether its session opens by it or not
 abbrev pub HandshakesTo : Handshake → HandshakeTake → Bool → Handshake → Type 0
@@ -52,7 +52,7 @@ AckFails ident start end the_cause.Refused = ⊤
 AckFails ident start end cause = ⊥
 
 pub record Refuses (s : ClientState) (message : Message) (cause : Cause) : Type 0 where
-  pub own : IsOwn s.handshake (is_some s.session) message
+  pub own : IsOwnMessage s.handshake (is_some s.session) message
   pub seq : ℕ
   pub ident : ℕ
   pub start : ℕ

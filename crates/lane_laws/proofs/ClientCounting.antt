@@ -6,18 +6,18 @@ use Rattle.ldc_queue.specs.Transcript.{Heard as Heard_, Utterance}
 use Rattle.vio_tag.specs.Spelling.{canonical}
 use Rattle.vio_handshake.specs.declared.handshake.Handshake.{Handshake}
 use Rattle.vio_handshake.specs.declared.session.Session.{Session}
-use Rattle.channel_laws.specs.Sayings.{half_heard, half_said, heard}
+use Rattle.lane_models.specs.Sayings.{half_heard, half_said, heard}
 use Rattle.lane_laws.specs.Agreement.{ClientAgrees}
-use Rattle.channel_laws.specs.Messages.{range_ended, range_in}
+use Rattle.lane_models.specs.Messages.{range_ended, range_in}
 use Rattle.lane_laws.specs.WorkLog.{ClientCounts, change_client, length_in}
-use Rattle.disk_model.specs.ClientPutting.{announcement}
-use Rattle.disk_model.specs.ClientState.{ClientSession, ClientState, joined_client}
-use Rattle.disk_model.specs.ClientTaking.{acknowledged}
-use Rattle.disk_model.specs.LaneState.{Shape}
+use Rattle.lane_models.specs.ClientPutting.{announcement}
+use Rattle.lane_models.specs.ClientState.{ClientSession, ClientState, joined_client}
+use Rattle.lane_models.specs.ClientTaking.{acknowledged}
+use Rattle.lane_models.specs.LaneState.{Shape}
 use Rattle.dring.specs.Slots.{range_length}
 use Rattle.lane_laws.proofs.ClientTaken.{ClientAcked, ClientHearsPart, ClientHandshakes, ClientTook}
-use Rattle.channel_laws.proofs.Apart.{some_same}
-use Rattle.channel_laws.proofs.EndStanding.{open_declines}
+use Rattle.lane_models.proofs.Apart.{some_same}
+use Rattle.lane_models.proofs.EndStanding.{open_declines}
 use Rattle.lane_laws.proofs.RangeSums.{sum_heard, sum_more}
 use Rattle.lane_laws.proofs.RangesSaid.{IsNoData, heard_no_range, heard_range, no_data}
 use Rattle.lane_laws.specs.Counted.{ClientCounted, acked_of, announced_of, infos_of, range_sum}

@@ -4,11 +4,11 @@ use Rattle.std.specs.Prelude.{is_some, ◌&&◌}
 use Rattle.std.proofs.lemmas.Bool.{and_parts}
 use Rattle.ldc_link.specs.declared.phase.Role.TheVariants.{Initiator}
 use Rattle.ldc_queue.specs.Transcript.{Utterance}
-use Rattle.disk_model.specs.ClientPutting.{is_announcing}
-use Rattle.disk_model.specs.ClientState.{ClientState}
-use Rattle.channel_laws.proofs.EndSending.{and_false, sends_some, some_holds, stuck_own}
-use Rattle.channel_laws.proofs.EndStanding.{open_up}
-use Rattle.channel_laws.specs.Blockage.{Blockage, Clear, EndSends, is_stuck_with_own}
+use Rattle.lane_models.specs.ClientPutting.{is_announcing}
+use Rattle.lane_models.specs.ClientState.{ClientState}
+use Rattle.lane_models.proofs.EndSending.{and_false, sends_some, some_holds, stuck_own}
+use Rattle.lane_models.proofs.EndStanding.{open_up}
+use Rattle.lane_models.specs.Blockage.{Blockage, Clear, EndSends, is_stuck_with_own}
 use Rattle.lane_laws.specs.ChannelEnds.{client_core}
 use Rattle.lane_laws.specs.LaneRests.{ClientRests}
 use Rattle.lane_laws.specs.Sound.{ClientSound}

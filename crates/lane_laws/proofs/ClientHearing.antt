@@ -3,10 +3,10 @@ use Rattle.std.proofs.Common.{◌≡◌, ℕ, List, length, refl, sym, ap, ◌�
 use Rattle.std.specs.Prelude.{is_some, ⊤}
 use Rattle.ldc_link.specs.LinkState.{LinkState, cleared}
 use Rattle.vio_tag.specs.declared.message.Message.{Message}
-use Rattle.disk_model.specs.ClientPutting.{is_announcing}
-use Rattle.disk_model.specs.ClientState.{ClientState}
-use Rattle.disk_model.specs.ClientTaking.{ClientTake, ClientTakes, GoesOn, Resets}
-use Rattle.channel_laws.proofs.EndStanding.{heard_leaves}
+use Rattle.lane_models.specs.ClientPutting.{is_announcing}
+use Rattle.lane_models.specs.ClientState.{ClientState}
+use Rattle.lane_models.specs.ClientTaking.{ClientTake, ClientTakes, GoesOn, Resets}
+use Rattle.lane_models.proofs.EndStanding.{heard_leaves}
 use Rattle.lane_laws.proofs.ClientAnswers.{Answers, comes_to, goes_by}
 use Rattle.lane_laws.specs.Standing.{SessionStands}
 use Rattle.lane_laws.specs.Sound.{ClientSound, CountsInOrder}

@@ -2,11 +2,11 @@
 use Rattle.std.proofs.Common.{◌≡◌, ℕ, ◌≤◌, ◌<◌, Bool, true, false, Some, List, [], length, refl, ap, arith}
 use Rattle.ldc_queue.specs.declared.end.ChannelState.TheVariants.{Up}
 use Rattle.vio_tag.specs.declared.message.Message.{Message}
-use Rattle.disk_model.specs.ClientPutting.{announcement, announcing, client_holds, holding}
-use Rattle.disk_model.specs.ClientRule.{ClientRule}
-use Rattle.disk_model.specs.ClientState.{ClientSession, ClientState}
-use Rattle.channel_laws.specs.Seeing.{Seen}
-use Rattle.channel_laws.proofs.Short.{some_bytes}
+use Rattle.lane_models.specs.ClientPutting.{announcement, announcing, client_holds, holding}
+use Rattle.lane_models.specs.ClientRule.{ClientRule}
+use Rattle.lane_models.specs.ClientState.{ClientSession, ClientState}
+use Rattle.lane_models.specs.Seeing.{Seen}
+use Rattle.lane_models.proofs.Short.{some_bytes}
 use Rattle.lane_laws.specs.RuleFacts.{ClientMay}
 use Rattle.lane_laws.specs.Sound.{ClientSound}
 

@@ -19,23 +19,23 @@ use Rattle.vio_tag.specs.Spelling.{SpellsMessage}
 use Rattle.vio_handshake.proofs.Agreeable.{same_number}
 use Rattle.vio_handshake.proofs.Places.{AllSaid, Deal}
 use Rattle.vio_handshake.specs.Rules.{sid_fault}
-use Rattle.channel_laws.specs.Sayings.{heard, said}
-use Rattle.channel_laws.specs.TranscriptLog.{TranscriptLog}
-use Rattle.channel_laws.specs.WireLog.{WireLog}
+use Rattle.lane_models.specs.Sayings.{heard, said}
+use Rattle.lane_models.specs.TranscriptLog.{TranscriptLog}
+use Rattle.lane_models.specs.WireLog.{WireLog}
 use Rattle.lane_laws.specs.DiskLog.{after, nothing_yet}
 use Rattle.lane_laws.specs.WorkLog.{ServerCounts}
-use Rattle.disk_model.specs.ClientState.{ClientSession, ClientState, slot_in}
-use Rattle.disk_model.specs.ClientTaking.{ClientTake, GoesOn, HearsWhole, acknowledged, hears_message, reads, sid_first, takes_ack}
-use Rattle.disk_model.specs.DiskEvent.{DiskEvent}
-use Rattle.disk_model.specs.LaneState.{IsShape, LaneState, Shape, fresh}
-use Rattle.disk_model.specs.LaneStep.{LaneStep}
-use Rattle.channel_laws.specs.Ranges.{is_other}
+use Rattle.lane_models.specs.ClientState.{ClientSession, ClientState, slot_in}
+use Rattle.lane_models.specs.ClientTaking.{ClientTake, GoesOn, HearsWhole, acknowledged, hears_message, reads, sid_first, takes_ack}
+use Rattle.lane_models.specs.DiskEvent.{DiskEvent}
+use Rattle.lane_models.specs.LaneState.{IsShape, LaneState, Shape, fresh}
+use Rattle.lane_models.specs.LaneStep.{LaneStep}
+use Rattle.lane_models.specs.Ranges.{is_other}
 use Rattle.dring.specs.Slots.{range_length}
-use Rattle.disk_model.specs.ServerState.{ServerSession}
-use Rattle.channel_laws.proofs.Apart.{some_same}
-use Rattle.channel_laws.proofs.EndStanding.{open_up}
-use Rattle.channel_laws.proofs.HandshakePlaces.{AtPlace, deal, open_place}
-use Rattle.channel_laws.specs.Sides.{sides_of}
+use Rattle.lane_models.specs.ServerState.{ServerSession}
+use Rattle.lane_models.proofs.Apart.{some_same}
+use Rattle.lane_models.proofs.EndStanding.{open_up}
+use Rattle.lane_models.proofs.HandshakePlaces.{AtPlace, deal, open_place}
+use Rattle.lane_models.specs.Sides.{sides_of}
 use Rattle.lane_laws.proofs.Agreeing.{front_sum}
 use Rattle.lane_laws.proofs.LaneCores.{shape_of, transcript_is}
 use Rattle.lane_laws.proofs.DataHeard.{data_spells, decodes_to, read_data}
@@ -103,7 +103,7 @@ ack_fits shape d c session turns bytes at last open_is slots few acked is most =
 pub client_hears_in_session : (shape : Shape) (events : List DiskEvent) (s : LaneState) (session : ClientSession) (k : LinkState) (bytes : List ℕ) (take : ClientTake)
     → IsShape shape → Run LaneStep (fresh shape) events s → (log_of after (nothing_yet shape) events).wire.forged ≡ false
     → s.client.session ≡ Some session → s.wire.wire.end_a ≡ Up → s.wire.wire.end_b ≡ Up
-    → IsFront (heard (log_of after (nothing_yet shape) events).transcript.client ++ bytes ∷ []) (said (log_of after (nothing_yet shape) events).transcript.server)
+    → IsFront (heard (log_of after (nothing_yet shape) events).transcript.a ++ bytes ∷ []) (said (log_of after (nothing_yet shape) events).transcript.b)
     → HearsWhole (record s.client { link = k }) (Some bytes) take → (t : ClientState) × (take ≡ GoesOn t)
 client_hears_in_session shape events s session k bytes take sound run clean open_is up_a up_b front hears =
     let l = log_of after (nothing_yet shape) events in
@@ -114,28 +114,28 @@ client_hears_in_session shape events s session k bytes take sound run clean open
     let sid = on.meets.handshakes.sid in
     let d = deal (asks_of shape) (answers_of shape) sid in
     let open_one : is_some s.client.session ≡ true = ap is_some open_is in
-    let at = on.meets.handshakes.mine up_a (open_up Initiator (client_core s.client) l.transcript.client on.stand.mine open_one) in
-    let last : at.place ≡ AllSaid = open_place false d Initiator (client_core s.client) l.transcript.client on.stand.mine at open_one in
+    let at = on.meets.handshakes.mine up_a (open_up Initiator (client_core s.client) l.transcript.a on.stand.mine open_one) in
+    let last : at.place ≡ AllSaid = open_place false d Initiator (client_core s.client) l.transcript.a on.stand.mine at open_one in
     let client = counted_client shape s l shape_is knows in
     let server = counted_server shape s l shape_is knows in
-    let tells : EachSaid Responder shape.slots 0 0 (said l.transcript.server) =
-    subst (λ (x : Shape). EachSaid Responder x.slots 0 0 (said l.transcript.server)) shape_is (they_tell shape events s sound run clean).server in
-    let sum = range_sum shape.slots 2 (heard l.transcript.client) in
-    let is : IsData Responder shape.slots sid (range_count 2 (heard l.transcript.client)) sum bytes =
+    let tells : EachSaid Responder shape.slots 0 0 (said l.transcript.b) =
+    subst (λ (x : Shape). EachSaid Responder x.slots 0 0 (said l.transcript.b)) shape_is (they_tell shape events s sound run clean).server in
+    let sum = range_sum shape.slots 2 (heard l.transcript.a) in
+    let is : IsData Responder shape.slots sid (range_count 2 (heard l.transcript.a)) sum bytes =
     next_data shape Initiator (sides_of (core_of s) l.transcript) bytes on up_a open_one up_b front tells in
     let transcript : l.transcript ≡ transcript_behind events = transcript_is (nothing_yet shape) events in
-    let front_b : IsFront (heard l.transcript.server) (said l.transcript.client) =
-    subst (λ (t : TranscriptLog). IsFront (heard t.server) (said t.client)) (sym transcript) (heard_messages shape events s B sound run clean_s up_b) in
-    let announced : session.announced ≡ range_sum shape.slots 1 (said l.transcript.client) = ap announced_of (sym open_is) ∙ client.announced in
-    let most : range_sum shape.slots 2 (heard l.transcript.client ++ bytes ∷ []) ≤ session.announced =
+    let front_b : IsFront (heard l.transcript.b) (said l.transcript.a) =
+    subst (λ (t : TranscriptLog). IsFront (heard t.b) (said t.a)) (sym transcript) (heard_messages shape events s B sound run clean_s up_b) in
+    let announced : session.announced ≡ range_sum shape.slots 1 (said l.transcript.a) = ap announced_of (sym open_is) ∙ client.announced in
+    let most : range_sum shape.slots 2 (heard l.transcript.a ++ bytes ∷ []) ≤ session.announced =
     omega (
       arith,
-      front_sum shape.slots 2 (heard l.transcript.client ++ bytes ∷ []) (said l.transcript.server) front,
-      answered_asked shape.slots s.server.session l.work.server l.transcript.server server.order,
-      front_sum shape.slots 1 (heard l.transcript.server) (said l.transcript.client) front_b,
+      front_sum shape.slots 2 (heard l.transcript.a ++ bytes ∷ []) (said l.transcript.b) front,
+      answered_asked shape.slots s.server.session l.work.server l.transcript.b server.order,
+      front_sum shape.slots 1 (heard l.transcript.b) (said l.transcript.a) front_b,
       announced,
     ) in
-    let fits = ack_fits shape d s.client session l.transcript.client bytes at last open_is client.slots sound.most_slots client.acked is most in
+    let fits = ack_fits shape d s.client session l.transcript.a bytes at last open_is client.slots sound.most_slots client.acked is most in
     let start = sum % shape.slots in
     let ends = is.ends in
     let small = on.meets.handshakes.small in

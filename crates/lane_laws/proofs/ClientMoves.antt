@@ -14,21 +14,21 @@ use Rattle.vio_tag.specs.declared.cause.Cause.TheVariants as the_cause
 use Rattle.vio_tag.specs.declared.message.Message.{Message}
 use Rattle.vio_tag.specs.Decoding.{Decodes}
 use Rattle.vio_tag.specs.Spelling.{canonical}
-use Rattle.disk_model.specs.ClientPutting.{announcement, announcing, client_holds, client_opens, client_put, holding, is_announcing, session_behind}
-use Rattle.disk_model.specs.ClientRule.{Announces, ClientRule, Completes, Puts, Says, Takes, client_rule}
-use Rattle.disk_model.specs.ClientState.{ClientSession, ClientState, joined_client}
-use Rattle.disk_model.specs.ClientStep.{ClientAdmits, ClientCompletes, ClientFails, ClientPublishes, ClientSends}
-use Rattle.disk_model.specs.ClientTaking.{ClientTake, ClientTakes, GoesOn, HearsLink, Resets}
-use Rattle.disk_model.specs.DiskEvent.{Admitted}
-use Rattle.channel_laws.specs.EndPuts.{ending, kind_in}
-use Rattle.disk_model.specs.Offering.{client_offer}
-use Rattle.channel_laws.specs.Seeing.{Seen}
-use Rattle.channel_laws.proofs.Apart.{none_is_some, some_same, true_is_false}
-use Rattle.channel_laws.specs.EndCore.{EndCore, holds}
-use Rattle.channel_laws.specs.EndStep.{EndBegins, EndFails, EndHears, EndSays, EndStays, EndWaits, HearsWhole, Holding, Holds, HoldsOn, HoldsOwed, HoldsOwn, KeepsOwn, LinkFails, MayTake, WholeFails}
+use Rattle.lane_models.specs.ClientPutting.{announcement, announcing, client_holds, client_opens, client_put, holding, is_announcing, session_behind}
+use Rattle.lane_models.specs.ClientRule.{Announces, ClientRule, Completes, Puts, Says, Takes, client_rule}
+use Rattle.lane_models.specs.ClientState.{ClientSession, ClientState, joined_client}
+use Rattle.lane_models.specs.ClientStep.{ClientAdmits, ClientCompletes, ClientFails, ClientPublishes, ClientSends}
+use Rattle.lane_models.specs.ClientTaking.{ClientTake, ClientTakes, GoesOn, HearsLink, Resets}
+use Rattle.lane_models.specs.DiskEvent.{Admitted}
+use Rattle.lane_models.specs.EndPuts.{ending, kind_in}
+use Rattle.lane_models.specs.Offering.{client_offer}
+use Rattle.lane_models.specs.Seeing.{Seen}
+use Rattle.lane_models.proofs.Apart.{none_is_some, some_same, true_is_false}
+use Rattle.lane_models.specs.EndCore.{EndCore, holds}
+use Rattle.lane_models.specs.EndStep.{EndBegins, EndFails, EndHears, EndSays, EndStays, EndWaits, HearsWhole, Holding, Holds, HoldsOn, HoldsOwed, HoldsOwn, KeepsOwn, LinkFails, MayTake, WholeFails}
 use Rattle.lane_laws.proofs.ClientAnswers.{Answers, comes_to, goes_by}
 use Rattle.lane_laws.proofs.ClientHolding.{client_held, not_own}
-use Rattle.channel_laws.proofs.EndStanding.{up_empty}
+use Rattle.lane_models.proofs.EndStanding.{up_empty}
 use Rattle.lane_laws.proofs.RulesFree.{nothing_owed, puts_owe, takes_calm}
 use Rattle.lane_laws.proofs.Ruling.{client_may}
 use Rattle.lane_laws.proofs.Sharing.{in_order, infos_few}

@@ -8,18 +8,18 @@ use Rattle.ldc_packet.specs.declared.packet.Subtype.TheVariants.{Info}
 use Rattle.ldc_queue.specs.Transcript.{Said, Utterance}
 use Rattle.vio_tag.specs.Spelling.{canonical}
 use Rattle.vio_handshake.specs.declared.handshake.Handshake.{Handshake}
-use Rattle.channel_laws.specs.Sayings.{half_said, said}
+use Rattle.lane_models.specs.Sayings.{half_said, said}
 use Rattle.lane_laws.specs.Agreement.{ClientAgrees}
-use Rattle.channel_laws.specs.Messages.{range_ended, range_in}
+use Rattle.lane_models.specs.Messages.{range_ended, range_in}
 use Rattle.lane_laws.specs.WorkLog.{ClientCounts, change_client, length_in, one_in, opened_client}
-use Rattle.disk_model.specs.ClientPutting.{announcement, announced, is_announcing, session_behind}
-use Rattle.disk_model.specs.ClientState.{ClientSession, ClientState, slot_in}
-use Rattle.channel_laws.specs.EndPuts.{ComesUp, EndsOwn, Goes, PutKind, handshake_behind}
-use Rattle.disk_model.specs.LaneState.{Shape}
-use Rattle.channel_laws.specs.Ranges.{wrapped}
+use Rattle.lane_models.specs.ClientPutting.{announcement, announced, is_announcing, session_behind}
+use Rattle.lane_models.specs.ClientState.{ClientSession, ClientState, slot_in}
+use Rattle.lane_models.specs.EndPuts.{ComesUp, EndsOwn, Goes, PutKind, handshake_behind}
+use Rattle.lane_models.specs.LaneState.{Shape}
+use Rattle.lane_models.specs.Ranges.{wrapped}
 use Rattle.dring.specs.Slots.{range_length}
-use Rattle.channel_laws.proofs.Apart.{false_is_true, some_same}
-use Rattle.channel_laws.proofs.PutSayings.{SaysWhole, SaysOn}
+use Rattle.lane_models.proofs.Apart.{false_is_true, some_same}
+use Rattle.lane_models.proofs.PutSayings.{SaysWhole, SaysOn}
 use Rattle.lane_laws.proofs.RangeSums.{count_more, count_said, sum_more, sum_said}
 use Rattle.lane_laws.proofs.RangeLaps.{range_turns}
 use Rattle.lane_laws.proofs.RangesSaid.{said_one, said_range}

@@ -5,9 +5,9 @@ use Rattle.std.proofs.lemmas.Bool.{leb-false}
 use Rattle.ldc_link.specs.declared.phase.LinkPhase.{LinkPhase}
 use Rattle.ldc_link.specs.declared.phase.LinkPhase.TheVariants as phase
 use Rattle.ldc_link.specs.Putting.{left_behind_put}
-use Rattle.disk_model.specs.ClientPutting.{announced, client_put, is_announcing, opened_if, session_behind}
-use Rattle.disk_model.specs.ClientState.{ClientSession, ClientState}
-use Rattle.channel_laws.specs.EndPuts.{EndsHandshake, PutKind, ending, kind_in, put_opens}
+use Rattle.lane_models.specs.ClientPutting.{announced, client_put, is_announcing, opened_if, session_behind}
+use Rattle.lane_models.specs.ClientState.{ClientSession, ClientState}
+use Rattle.lane_models.specs.EndPuts.{EndsHandshake, PutKind, ending, kind_in, put_opens}
 use Rattle.lane_laws.specs.Sound.{ClientSound, CountsInOrder}
 
 behind_counts : (kind : PutKind) (c : ClientState) → CountsInOrder (length c.pending) c.session → CountsInOrder (length c.pending) (session_behind kind c)

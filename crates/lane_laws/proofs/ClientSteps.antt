@@ -2,12 +2,12 @@
 use Rattle.std.proofs.Common.{◌≡◌, ℕ, ◌+◌, ◌≤◌, ◌<◌, Bool, Some, List, [], ◌∷◌, length, sym, subst, arith, length-append, ◌++◌}
 use Rattle.std.specs.Prelude.{slice_get}
 use Rattle.vdisk_msg.specs.declared.request.Request.{Request}
-use Rattle.disk_model.specs.ClientPutting.{client_holds}
-use Rattle.disk_model.specs.ClientRule.{client_rule}
-use Rattle.disk_model.specs.ClientState.{ClientState, joined_client}
-use Rattle.disk_model.specs.ClientStep.{ClientAdmits, ClientCompletes, ClientPublishes, ClientSends}
-use Rattle.disk_model.specs.DiskEvent.{Admitted}
-use Rattle.channel_laws.specs.Seeing.{Seen}
+use Rattle.lane_models.specs.ClientPutting.{client_holds}
+use Rattle.lane_models.specs.ClientRule.{client_rule}
+use Rattle.lane_models.specs.ClientState.{ClientState, joined_client}
+use Rattle.lane_models.specs.ClientStep.{ClientAdmits, ClientCompletes, ClientPublishes, ClientSends}
+use Rattle.lane_models.specs.DiskEvent.{Admitted}
+use Rattle.lane_models.specs.Seeing.{Seen}
 use Rattle.lane_laws.proofs.ClientHolding.{client_held}
 use Rattle.lane_laws.proofs.ClientSending.{client_put_sound}
 use Rattle.lane_laws.proofs.Ruling.{client_may}

@@ -10,16 +10,16 @@ use Rattle.vio_tag.specs.Form.{IsWellFormed}
 use Rattle.vio_tag.specs.Spelling.{SpellsMessage}
 use Rattle.vio_handshake.specs.declared.handshake.Handshake.{Handshake}
 use Rattle.vio_handshake.specs.Rules.{handshake_take}
-use Rattle.disk_model.specs.ClientState.{ClientState}
-use Rattle.disk_model.specs.ClientTaking.{ClientTake, ClientTakes, GoesOn, Resets, acknowledged}
+use Rattle.lane_models.specs.ClientState.{ClientState}
+use Rattle.lane_models.specs.ClientTaking.{ClientTake, ClientTakes, GoesOn, Resets, acknowledged}
 use Rattle.dring.specs.Slots.{range_length}
-use Rattle.channel_laws.specs.Sayings.{heard}
+use Rattle.lane_models.specs.Sayings.{heard}
 use Rattle.lane_laws.proofs.ClientAnswers.{Acks, Answers, GoesBy, HandshakesTo, comes_to, goes_by}
-use Rattle.channel_laws.proofs.Apart.{none_is_some}
-use Rattle.channel_laws.proofs.EndStanding.{heard_leaves}
-use Rattle.channel_laws.proofs.EndCases.{HearsUp, link_hears}
-use Rattle.channel_laws.proofs.HandshakeCases.{HandshakeTook, goes_took, opens_took}
-use Rattle.channel_laws.proofs.UtteranceCases.{with_whole}
+use Rattle.lane_models.proofs.Apart.{none_is_some}
+use Rattle.lane_models.proofs.EndStanding.{heard_leaves}
+use Rattle.lane_models.proofs.EndCases.{HearsUp, link_hears}
+use Rattle.lane_models.proofs.HandshakeCases.{HandshakeTook, goes_took, opens_took}
+use Rattle.lane_models.proofs.UtteranceCases.{with_whole}
 
 -- a message is whole by the packet
 pub record HearsMessage (turns : List Utterance) (packet : List ℕ) (message : Message) : Type 0 where

@@ -12,22 +12,22 @@ use Rattle.vio_tag.specs.Spelling.{canonical}
 use Rattle.vio_handshake.specs.declared.handshake.Phase.{Phase}
 use Rattle.vio_handshake.specs.declared.handshake.Phase.TheVariants.{Open, PeerReadyTaken}
 use Rattle.vio_handshake.specs.Rules.{opens_by_put, handshake_sent}
-use Rattle.channel_laws.specs.Sayings.{half_said, said}
-use Rattle.channel_laws.proofs.MessagesHeld.{owed_held}
+use Rattle.lane_models.specs.Sayings.{half_said, said}
+use Rattle.lane_models.proofs.MessagesHeld.{owed_held}
 use Rattle.lane_laws.specs.Agreement.{ClientAgrees}
-use Rattle.channel_laws.specs.Messages.{range_in}
+use Rattle.lane_models.specs.Messages.{range_in}
 use Rattle.lane_laws.specs.WorkLog.{ClientCounts, change_client}
-use Rattle.disk_model.specs.ClientPutting.{announcement, announcing, client_holds, holding, is_announcing, opened_if}
-use Rattle.disk_model.specs.ClientRule.{Announces, ClientRule, Publishes, Puts, Says}
-use Rattle.disk_model.specs.ClientState.{ClientSession, ClientState, first_id, opened_session}
-use Rattle.disk_model.specs.ClientStep.{ClientAdmits, ClientCompletes, ClientPublishes}
-use Rattle.disk_model.specs.DiskEvent.{Admitted}
-use Rattle.disk_model.specs.LaneState.{Shape}
-use Rattle.channel_laws.specs.Seeing.{Seen}
+use Rattle.lane_models.specs.ClientPutting.{announcement, announcing, client_holds, holding, is_announcing, opened_if}
+use Rattle.lane_models.specs.ClientRule.{Announces, ClientRule, Publishes, Puts, Says}
+use Rattle.lane_models.specs.ClientState.{ClientSession, ClientState, first_id, opened_session}
+use Rattle.lane_models.specs.ClientStep.{ClientAdmits, ClientCompletes, ClientPublishes}
+use Rattle.lane_models.specs.DiskEvent.{Admitted}
+use Rattle.lane_models.specs.LaneState.{Shape}
+use Rattle.lane_models.specs.Seeing.{Seen}
 use Rattle.lane_laws.proofs.ClientPutCounting.{counts_as, none_left, put_as, same_said, says_agrees}
-use Rattle.channel_laws.proofs.Apart.{false_is_true, none_is_some, some_same}
-use Rattle.channel_laws.proofs.PutSayings.{SaysWhole}
-use Rattle.channel_laws.proofs.EndStanding.{open_up, up_empty}
+use Rattle.lane_models.proofs.Apart.{false_is_true, none_is_some, some_same}
+use Rattle.lane_models.proofs.PutSayings.{SaysWhole}
+use Rattle.lane_models.proofs.EndStanding.{open_up, up_empty}
 use Rattle.lane_laws.proofs.RangeSums.{count_more, sum_more}
 use Rattle.lane_laws.proofs.RangesSaid.{owed_no_range}
 use Rattle.lane_laws.proofs.RulesFree.{publishes_free}
@@ -35,10 +35,10 @@ use Rattle.lane_laws.proofs.Ruling.{client_may}
 use Rattle.lane_laws.specs.Counted.{ClientCounted, acked_of, announced_of, infos_of, range_count, range_sum}
 use Rattle.lane_laws.specs.LaneRests.{ClientRests, ClientUtters}
 use Rattle.lane_laws.specs.RuleFacts.{ClientMay}
-use Rattle.channel_laws.specs.HandshakeFits.{MayOwe, OwedFits}
+use Rattle.lane_models.specs.HandshakeFits.{MayOwe, OwedFits}
 use Rattle.lane_laws.specs.Sound.{ClientSound}
 use Rattle.lane_laws.specs.ChannelEnds.{client_core}
-use Rattle.channel_laws.specs.EndPuts.{EndsHandshake, put_opens}
+use Rattle.lane_models.specs.EndPuts.{EndsHandshake, put_opens}
 
 -- A MESSAGE OF THE HANDSHAKE is put whole: by the agreement to RDX the session opens
 pub opens_phase : (role : Role) (phase : Phase) → opens_by_put role phase ≡ true → phase ≡ PeerReadyTaken

@@ -11,7 +11,7 @@ use Rattle.vdisk_msg.specs.declared.request.Request.TheVariants.{Flush, Read, Wr
 use Rattle.vdisk_msg.specs.Requested.{size_of}
 use Rattle.vdisk_msg.specs.Requests.{written}
 use Rattle.vio_bytes.proofs.Ranges.{range_at-put_at_same}
-use Rattle.disk_model.specs.ClientState.{ClientSession}
+use Rattle.lane_models.specs.ClientState.{ClientSession}
 use Rattle.lane_laws.proofs.MemorySteps.{got_sound}
 use Rattle.lane_laws.specs.Contents.{ContentsStand, HoldsWritten, WritesStand}
 use Rattle.lane_laws.specs.LaneView.{View, place_of}
@@ -19,7 +19,7 @@ use Rattle.lane_laws.proofs.Buffers.{other_buffer, other_slot}
 use Rattle.lane_laws.proofs.Changes.{Accepts, Completes, Disturbs, Keeps, Opens, Placed, Publishes, Unchanged, filled}
 use Rattle.lane_laws.proofs.NearSteps.{get_within}
 use Rattle.lane_laws.proofs.SlotBytes.{same_request}
-use Rattle.channel_laws.proofs.Apart.{none_is_some, some_same}
+use Rattle.lane_models.proofs.Apart.{none_is_some, some_same}
 
 -- THE SESSION'S PLACES
 pub same_place : (slots i : ℕ) (one other : ClientSession) → one.completed ≡ other.completed → place_of slots one i ≡ place_of slots other i

@@ -4,9 +4,9 @@ use Rattle.runs.specs.Lawful.{Lawful}
 use Rattle.runs.specs.Run.{Run}
 use Rattle.lane_laws.specs.DiskLog.{DiskLog, after, nothing_yet}
 use Rattle.lane_laws.specs.RequestLaws.{OnceAt}
-use Rattle.disk_model.specs.DiskEvent.{DiskEvent}
-use Rattle.disk_model.specs.LaneState.{IsShape, LaneState, Shape, fresh}
-use Rattle.disk_model.specs.LaneStep.{LaneStep}
+use Rattle.lane_models.specs.DiskEvent.{DiskEvent}
+use Rattle.lane_models.specs.LaneState.{IsShape, LaneState, Shape, fresh}
+use Rattle.lane_models.specs.LaneStep.{LaneStep}
 use Rattle.lane_laws.proofs.StandingRuns.{once_lawful}
 use Rattle.lane_laws.specs.CompletedIds.{CountsFrom, done_ids, id_in, with_id}
 

@@ -2,10 +2,10 @@
 use Rattle.std.proofs.Common.{◌≡◌, ℕ, zero, suc, ◌^◌, ◌%◌, ◌≤◌, ◌⊎◌, Option, Some, ap, ◌∙◌, arith, inl, inr}
 use Rattle.lane_laws.specs.Agreement.{ClientAgrees, ClientCountsAgree, ServerAgrees, ServerCountsAgree, WorkAgrees}
 use Rattle.lane_laws.specs.WorkLog.{ClientCounts, ServerCounts}
-use Rattle.disk_model.specs.ClientState.{ClientSession}
-use Rattle.channel_laws.specs.OwnMemory.{IsPowerOfTwo}
-use Rattle.channel_laws.specs.Ranges.{wrapped}
-use Rattle.disk_model.specs.ServerState.{ServerSession, Work}
+use Rattle.lane_models.specs.ClientState.{ClientSession}
+use Rattle.vio_bytes.specs.Powers.{IsPowerOfTwo}
+use Rattle.lane_models.specs.Ranges.{wrapped}
+use Rattle.lane_models.specs.ServerState.{ServerSession, Work}
 
 -- a client's session is open in the log too, with its counts
 pub record OfClient (session : ClientSession) (done : ℕ) (k : Option ClientCounts) : Type 0 where

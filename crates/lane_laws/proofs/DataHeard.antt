@@ -12,7 +12,7 @@ use Rattle.vio_tag.specs.declared.message.TagFault.{TagFault}
 use Rattle.vio_tag.specs.Decoding.{Decodes}
 use Rattle.vio_tag.specs.Form.{IsWellFormed}
 use Rattle.vio_tag.specs.Spelling.{SpellsMessage, canonical, envelope_at, sid_at, subtype_at, type_at}
-use Rattle.channel_laws.proofs.Apart.{some_is_none}
+use Rattle.lane_models.proofs.Apart.{some_is_none}
 
 -- bytes that spell a message decode to it
 pub decodes_to : (bytes : List ℕ) (m : Message) (decoded : Result Message TagFault) → IsWellFormed m → SpellsMessage bytes m → Decodes bytes decoded → decoded ≡ Ok m

@@ -4,12 +4,12 @@ use Rattle.std.specs.Prelude.{⊤}
 use Rattle.runs.specs.Lawful.{log_of, run_lawful}
 use Rattle.runs.specs.Run.{Run}
 use Rattle.ldc_queue.specs.declared.end.End.TheVariants.{A, B}
-use Rattle.channel_laws.specs.WireEvent.{Joined, Reset, Sent, Took}
-use Rattle.channel_laws.specs.WireLog.{WireLog}
+use Rattle.lane_models.specs.WireEvent.{Joined, Reset, Sent, Took}
+use Rattle.lane_models.specs.WireLog.{WireLog}
 use Rattle.lane_laws.specs.DiskLog.{DiskLog, after, nothing_yet}
-use Rattle.disk_model.specs.DiskEvent.{Accepted, Asks, DiskEvent, Done, Finished, OnWire, Stopped, Stored, Switches, Works}
-use Rattle.disk_model.specs.LaneState.{IsShape, LaneState, NearCounts, Shape, fresh, near_disturbed}
-use Rattle.disk_model.specs.LaneStep.{LaneStep}
+use Rattle.lane_models.specs.DiskEvent.{Accepted, Asks, DiskEvent, Done, Finished, OnWire, Stopped, Stored, Switches, Works}
+use Rattle.lane_models.specs.LaneState.{IsShape, LaneState, NearCounts, Shape, fresh, near_disturbed}
+use Rattle.lane_models.specs.LaneStep.{LaneStep}
 use Rattle.lane_laws.proofs.RingRuns.{before as clean_before}
 use Rattle.lane_laws.specs.LaterDisturbed.{LaterDisturbed}
 use Rattle.lane_laws.proofs.LaneRuns.{AlongContents, at_step, contents_step, run_contents}

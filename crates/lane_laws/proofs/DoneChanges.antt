@@ -5,18 +5,18 @@ use Rattle.std.proofs.lemmas.Nat.{mod_below}
 use Rattle.ldc_queue.specs.declared.end.End.TheVariants.{A, B}
 use Rattle.vdisk_msg.proofs.Written.{is_admitted}
 use Rattle.vdisk_msg.specs.declared.request.Request.{Request}
-use Rattle.channel_laws.proofs.Apart.{some_same}
+use Rattle.lane_models.proofs.Apart.{some_same}
 use Rattle.lane_laws.specs.DiskLog.{DiskLog}
-use Rattle.disk_model.specs.ClientRule as client_rules
-use Rattle.disk_model.specs.ClientState.{ClientState}
-use Rattle.disk_model.specs.ClientStep.{completed_slot}
-use Rattle.disk_model.specs.DiskEvent.{Done, Finished, Published as PublishedEvent, Works}
-use Rattle.disk_model.specs.LaneState.{LaneState, NearCounts, pages_of, risen}
-use Rattle.disk_model.specs.LaneStep.{WorkStep, reach}
-use Rattle.channel_laws.specs.Seeing.{seen}
-use Rattle.disk_model.specs.ServerRule as server_rules
-use Rattle.disk_model.specs.ServerState.{ServerState}
-use Rattle.disk_model.specs.ServerWork.{with_done}
+use Rattle.lane_models.specs.ClientRule as client_rules
+use Rattle.lane_models.specs.ClientState.{ClientState}
+use Rattle.lane_models.specs.ClientStep.{completed_slot}
+use Rattle.lane_models.specs.DiskEvent.{Done, Finished, Published as PublishedEvent, Works}
+use Rattle.lane_models.specs.LaneState.{LaneState, NearCounts, pages_of, risen}
+use Rattle.lane_models.specs.LaneStep.{WorkStep, reach}
+use Rattle.lane_models.specs.Seeing.{seen}
+use Rattle.lane_models.specs.ServerRule as server_rules
+use Rattle.lane_models.specs.ServerState.{ServerState}
+use Rattle.lane_models.specs.ServerWork.{with_done}
 use Rattle.lane_laws.proofs.MemorySteps.{got_sound}
 use Rattle.lane_laws.proofs.RingEnds.{work_below}
 use Rattle.lane_laws.proofs.RingWork.{at_work, numbered}

@@ -3,22 +3,22 @@ use Rattle.std.proofs.Common.{◌≡◌, ℕ, Bool, List, refl, sym, subst, arit
 use Rattle.ldc_link.specs.declared.phase.Role.TheVariants.{Initiator, Responder}
 use Rattle.ldc_queue.specs.declared.end.End.{End}
 use Rattle.ldc_queue.specs.declared.end.End.TheVariants.{A, B}
-use Rattle.channel_laws.specs.TranscriptLog.{TranscriptLog}
-use Rattle.channel_laws.specs.WireEvent.{Blocked, Giver, Idle, Joined, Reset, Sent, Took}
-use Rattle.disk_model.specs.DiskEvent.{Desc, DiskEvent, Done, Finished, Moved, OnWire, Published, Stopped, Stored, Switches, Works}
+use Rattle.lane_models.specs.TranscriptLog.{TranscriptLog}
+use Rattle.lane_models.specs.WireEvent.{Blocked, Giver, Idle, Joined, Reset, Sent, Took}
+use Rattle.lane_models.specs.DiskEvent.{Desc, DiskEvent, Done, Finished, Moved, OnWire, Published, Stopped, Stored, Switches, Works}
 use Rattle.lane_laws.specs.DiskLog.{after_transcript}
-use Rattle.disk_model.specs.LaneState.{LaneState}
-use Rattle.disk_model.specs.LaneStep.{LaneStep}
-use Rattle.channel_laws.specs.EndStep.{EndHears, EndStep}
-use Rattle.channel_laws.specs.LaneCore.{move_of, reset_move, transcript_after}
+use Rattle.lane_models.specs.LaneState.{LaneState}
+use Rattle.lane_models.specs.LaneStep.{LaneStep}
+use Rattle.lane_models.specs.EndStep.{EndHears, EndStep}
+use Rattle.lane_models.specs.LaneCore.{move_of, reset_move, transcript_after}
 use Rattle.lane_laws.proofs.ClientMoves.{client_asked, client_begins, client_completed, client_fails, client_hears, client_published, client_same, client_says, client_waits}
 use Rattle.lane_laws.proofs.ServerMoves.{server_begins, server_fails, server_fetched, server_finished, server_hears, server_moved, server_renews, server_same, server_says, server_stored, server_waits}
 use Rattle.lane_laws.specs.ChannelEnds.{client_core, core_event, server_core}
 use Rattle.lane_laws.specs.Sound.{ClientSound}
 use Rattle.lane_laws.proofs.LaneViews.{Beside, ClientActs, ClientAsked, ClientCalled, ClientStays, ClientView, IsOwnStep, ServerActs, ServerCalled, ServerRenewed, ServerStays, ServerStopped, ServerView, at_client, at_server, lane_view, reach_of}
-use Rattle.channel_laws.specs.EndCore.{EndMove, Stays}
-use Rattle.disk_model.specs.ClientStep.{ClientStep}
-use Rattle.disk_model.specs.ServerStep.{ServerStep}
+use Rattle.lane_models.specs.EndCore.{EndMove, Stays}
+use Rattle.lane_models.specs.ClientStep.{ClientStep}
+use Rattle.lane_models.specs.ServerStep.{ServerStep}
 
 -- what always holds of its client, before the event and after it
 pub record Sound (s t : LaneState) : Type 0 where

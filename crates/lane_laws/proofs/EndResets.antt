@@ -13,28 +13,28 @@ use Rattle.vio_tag.specs.declared.cause.Cause.TheVariants as the_cause
 use Rattle.vio_tag.specs.declared.message.Message.{Message}
 use Rattle.vio_tag.specs.Decoding.{Decodes}
 use Rattle.vio_tag.proofs.NoFault.{spelled_no_fault}
-use Rattle.channel_laws.specs.ResetSays.{ResetSays}
-use Rattle.channel_laws.specs.WireAt.{GapOf}
-use Rattle.disk_model.specs.ClientRule as client_rule
-use Rattle.disk_model.specs.ClientState.{ClientState}
-use Rattle.disk_model.specs.ClientStep.{ClientFails}
-use Rattle.disk_model.specs.ClientTaking as client
-use Rattle.disk_model.specs.ServerRule as server_rule
-use Rattle.disk_model.specs.ServerState.{Ends, Progress, ServerSession, ServerState, Work}
-use Rattle.disk_model.specs.ServerStep.{ServerFails, WorkFails}
-use Rattle.disk_model.specs.ServerTaking as server
+use Rattle.lane_models.specs.ResetSays.{ResetSays}
+use Rattle.lane_models.specs.WireAt.{GapOf}
+use Rattle.lane_models.specs.ClientRule as client_rule
+use Rattle.lane_models.specs.ClientState.{ClientState}
+use Rattle.lane_models.specs.ClientStep.{ClientFails}
+use Rattle.lane_models.specs.ClientTaking as client
+use Rattle.lane_models.specs.ServerRule as server_rule
+use Rattle.lane_models.specs.ServerState.{Ends, Progress, ServerSession, ServerState, Work}
+use Rattle.lane_models.specs.ServerStep.{ServerFails, WorkFails}
+use Rattle.lane_models.specs.ServerTaking as server
 use Rattle.cookie_copy.specs.Reach.{Reach}
-use Rattle.disk_model.specs.ServerWork.{EndFails, FetchFails, cause_of, slot_at}
-use Rattle.channel_laws.proofs.Numbering.{heard_so}
+use Rattle.lane_models.specs.ServerWork.{EndFails, FetchFails, cause_of, slot_at}
+use Rattle.lane_models.proofs.Numbering.{heard_so}
 use Rattle.lane_laws.proofs.ClientAnswers as client_answers
 use Rattle.lane_laws.proofs.MessageResets.{client_says_why, server_says_why}
 use Rattle.lane_laws.proofs.ServerAnswers as server_answers
-use Rattle.channel_laws.proofs.HandshakeResets.{HandshakeWhy, Spelled, handshake_why}
-use Rattle.channel_laws.specs.Resetting.{LiesInPacket, SaysWhy}
-use Rattle.channel_laws.proofs.UtteranceCases.{EndsBy, EndsWhole, hears_on}
-use Rattle.channel_laws.proofs.Resets.{by_message}
-use Rattle.channel_laws.proofs.LinkResets.{link_why}
-use Rattle.channel_laws.proofs.LinkCases.{link_heard}
+use Rattle.lane_models.proofs.HandshakeResets.{HandshakeWhy, Spelled, handshake_why}
+use Rattle.lane_models.specs.Resetting.{LiesInPacket, SaysWhy}
+use Rattle.lane_models.proofs.UtteranceCases.{EndsBy, EndsWhole, hears_on}
+use Rattle.lane_models.proofs.Resets.{by_message}
+use Rattle.lane_models.proofs.LinkResets.{link_why}
+use Rattle.lane_models.proofs.LinkCases.{link_heard}
 
 -- the message that became whole
 ends_when : (turns : List Utterance) (bytes : List ℕ) (k m : LinkState) (message : List ℕ) → Follows k turns → k.whole ≡ None → TakesBytes k bytes (Heard m) → m.whole ≡ Some message

@@ -4,14 +4,14 @@ use Rattle.runs.specs.Lawful.{Lawful}
 use Rattle.runs.specs.Run.{Run}
 use Rattle.ldc_queue.specs.declared.end.End.{End}
 use Rattle.ldc_queue.specs.declared.end.End.TheVariants.{A, B}
-use Rattle.disk_model.specs.ClientRule as client_rules
-use Rattle.disk_model.specs.DiskEvent.{Desc, DiskEvent, Done, Misplaced, Published, Works}
+use Rattle.lane_models.specs.ClientRule as client_rules
+use Rattle.lane_models.specs.DiskEvent.{Desc, DiskEvent, Done, Misplaced, Published, Works}
 use Rattle.lane_laws.specs.DiskLog.{DiskLog, after, nothing_yet}
-use Rattle.disk_model.specs.LaneState.{IsShape, LaneState, Shape, fresh}
-use Rattle.disk_model.specs.LaneStep.{LaneStep}
-use Rattle.disk_model.specs.ServerRule as server_rules
-use Rattle.channel_laws.specs.WireAt.{IsUp}
-use Rattle.channel_laws.specs.WireLog.{WireLog}
+use Rattle.lane_models.specs.LaneState.{IsShape, LaneState, Shape, fresh}
+use Rattle.lane_models.specs.LaneStep.{LaneStep}
+use Rattle.lane_models.specs.ServerRule as server_rules
+use Rattle.lane_models.specs.WireAt.{IsUp}
+use Rattle.lane_models.specs.WireLog.{WireLog}
 use Rattle.lane_laws.specs.WorkLaws.{WorksAt}
 use Rattle.lane_laws.proofs.WorkNumbers.{Grounded}
 use Rattle.lane_laws.proofs.WorkRuns.{grounded_lawful}

@@ -1,6 +1,6 @@
 -- Each event leaves in order what was ever published.
 use Rattle.std.proofs.Common.{◌≡◌, ℕ, ◌+◌, Option, Some, subst, arith}
-use Rattle.disk_model.specs.ClientState.{ClientSession, ClientState}
+use Rattle.lane_models.specs.ClientState.{ClientSession, ClientState}
 use Rattle.lane_laws.specs.Standing.{SessionStands}
 use Rattle.lane_laws.proofs.Leaving.{ClientLeaves}
 use Rattle.lane_laws.proofs.Standing.{EverStands}

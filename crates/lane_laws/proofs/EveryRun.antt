@@ -2,11 +2,11 @@
 use Rattle.std.proofs.Common.{List}
 use Rattle.runs.specs.Lawful.{log_of}
 use Rattle.runs.specs.Run.{Run, run_push}
-use Rattle.disk_model.specs.DiskEvent.{DiskEvent}
+use Rattle.lane_models.specs.DiskEvent.{DiskEvent}
 use Rattle.lane_laws.specs.DiskLog.{after, nothing_yet}
 use Rattle.lane_laws.specs.May.{IsLawful, May}
-use Rattle.disk_model.specs.LaneState.{IsShape, LaneState, Shape, fresh}
-use Rattle.disk_model.specs.LaneStep.{LaneStep}
+use Rattle.lane_models.specs.LaneState.{IsShape, LaneState, Shape, fresh}
+use Rattle.lane_models.specs.LaneStep.{LaneStep}
 use Rattle.lane_laws.proofs.AlongRuns.{OneMore, lawful_last, reached_lawful}
 use Rattle.lane_laws.proofs.CarriedRuns.{carries_lawful}
 use Rattle.lane_laws.proofs.EndsWorking.{works_lawful}

@@ -3,9 +3,9 @@ use Rattle.std.proofs.Common.{◌≡◌, ℕ, Bool, true, false, List, refl, sym
 use Rattle.std.specs.Prelude.{◌||◌, ⊤}
 use Rattle.runs.specs.Lawful.{log_of, run_lawful}
 use Rattle.runs.specs.Run.{Run}
-use Rattle.disk_model.specs.DiskEvent.{DiskEvent, Stored, Works}
-use Rattle.disk_model.specs.LaneState.{LaneState, Shape, fresh}
-use Rattle.disk_model.specs.LaneStep.{LaneStep, ServerWorks}
+use Rattle.lane_models.specs.DiskEvent.{DiskEvent, Stored, Works}
+use Rattle.lane_models.specs.LaneState.{LaneState, Shape, fresh}
+use Rattle.lane_models.specs.LaneStep.{LaneStep, ServerWorks}
 use Rattle.lane_laws.specs.DiskLog.{DiskLog, after, after_failed, nothing_yet}
 use Rattle.lane_laws.proofs.LaneViews.{lane_view}
 

@@ -6,25 +6,25 @@ use Rattle.ldc_queue.specs.declared.end.ChannelState.TheVariants.{Up}
 use Rattle.ldc_queue.specs.declared.end.End.{End}
 use Rattle.ldc_queue.specs.declared.end.End.TheVariants.{A, B}
 use Rattle.ldc_queue.specs.Transcript.{Heard as Heard_, Utterance}
-use Rattle.channel_laws.specs.Seeing.{seen}
-use Rattle.channel_laws.specs.WireAt.{IsUp}
-use Rattle.channel_laws.specs.WireEvent.{Took}
-use Rattle.disk_model.specs.ClientState.{ClientState}
-use Rattle.disk_model.specs.DiskEvent.{DiskEvent, OnWire}
-use Rattle.disk_model.specs.LaneState.{IsShape, LaneState, Shape, fresh}
-use Rattle.disk_model.specs.LaneStep.{LaneStep}
-use Rattle.disk_model.specs.ServerRule as server_rules
-use Rattle.disk_model.specs.ServerState.{ServerState}
-use Rattle.channel_laws.proofs.PacketsTaken.{unforged_took}
-use Rattle.channel_laws.specs.LaneCore.{end_of}
-use Rattle.channel_laws.specs.PacketsLeft.{packets_left}
+use Rattle.lane_models.specs.Seeing.{seen}
+use Rattle.lane_models.specs.WireAt.{IsUp}
+use Rattle.lane_models.specs.WireEvent.{Took}
+use Rattle.lane_models.specs.ClientState.{ClientState}
+use Rattle.lane_models.specs.DiskEvent.{DiskEvent, OnWire}
+use Rattle.lane_models.specs.LaneState.{IsShape, LaneState, Shape, fresh}
+use Rattle.lane_models.specs.LaneStep.{LaneStep}
+use Rattle.lane_models.specs.ServerRule as server_rules
+use Rattle.lane_models.specs.ServerState.{ServerState}
+use Rattle.lane_models.proofs.PacketsTaken.{unforged_took}
+use Rattle.lane_models.specs.LaneCore.{end_of}
+use Rattle.lane_models.specs.PacketsLeft.{packets_left}
 use Rattle.lane_laws.proofs.Agreeing.{AskedWithin, asked_within}
 use Rattle.lane_laws.proofs.ClientTaken.{ClientTook, client_took_what}
 use Rattle.lane_laws.proofs.LaneChannel.{answers_of, asks_of, lane_matches}
 use Rattle.lane_laws.proofs.LaneCores.{lane_cores, lane_fits, lane_steps}
 use Rattle.lane_laws.proofs.LaneViews.{lane_view}
 use Rattle.lane_laws.specs.DiskLog.{DiskLog, after, after_wire, nothing_yet}
-use Rattle.channel_laws.specs.WireLog.{WireLog}
+use Rattle.lane_models.specs.WireLog.{WireLog}
 use Rattle.lane_laws.proofs.LaneCounting.{Knows, run_knows}
 use Rattle.lane_laws.proofs.OfferedRing.{four_cookies}
 use Rattle.lane_laws.proofs.RangeSums.{sum_front}
@@ -57,7 +57,7 @@ took_spends s t turns packet took = grind arith
 pub client_takes : (shape : Shape) (events : List DiskEvent) (s : LaneState) (packet : List ℕ) (opens : Bool) (t : LaneState) → IsShape shape → Run LaneStep (fresh shape) events s → s.wire.forged ≡ false
     → LaneStep s (OnWire (Took A packet opens)) t → ClientFalls 0 0 s.client t.client
 client_takes shape events s packet opens t sound run clean step =
-    let turns : List Utterance = (log_of after (nothing_yet shape) events).transcript.client in
+    let turns : List Utterance = (log_of after (nothing_yet shape) events).transcript.a in
     let knows = run_knows shape events s sound run in
     record {
       own = 0;
@@ -75,14 +75,14 @@ client_falls shape events s packet opens t sound run clean step =
 abbrev AsksMore : LaneState → LaneState → Type 0
 AsksMore s t = (asked_in s.server.session < asked_in t.server.session) × (asked_in t.server.session ≤ total_at s.wire.wire.end_a s.client)
 
-asks_more : (s t : LaneState) (l next : DiskLog) (turns : List Utterance) (packet : List ℕ) (opens : Bool) → (asks : ServerAsked s.server turns packet t.server opens) → l.transcript.server ≡ turns → next.transcript.server ≡ Heard_ packet ∷ turns
+asks_more : (s t : LaneState) (l next : DiskLog) (turns : List Utterance) (packet : List ℕ) (opens : Bool) → (asks : ServerAsked s.server turns packet t.server opens) → l.transcript.b ≡ turns → next.transcript.b ≡ Heard_ packet ∷ turns
     → next.shape.slots ≡ l.shape.slots → t.client ≡ s.client → t.wire.wire.end_a ≡ s.wire.wire.end_a → AskedWithin s l asks.info.session
     → AskedWithin t next (behind_ask s.server asks.info.session asks.info.range)
     → AsksMore s t
 asks_more s t l next turns packet opens asks transcript then_transcript shape client wire was now = grind (arith, sum_front)
 
 by_asked : (shape : Shape) (events : List DiskEvent) (s : LaneState) (packet : List ℕ) (opens : Bool) (t : LaneState) → IsShape shape → Run LaneStep (fresh shape) events s → s.wire.forged ≡ false → IsUp B s.wire.wire
-    → LaneStep s (OnWire (Took B packet opens)) t → ServerAsked s.server (log_of after (nothing_yet shape) events).transcript.server packet t.server opens → AsksMore s t
+    → LaneStep s (OnWire (Took B packet opens)) t → ServerAsked s.server (log_of after (nothing_yet shape) events).transcript.b packet t.server opens → AsksMore s t
 by_asked shape events s packet opens t sound run clean up step asks =
     let l = log_of after (nothing_yet shape) events in
     let event = OnWire (Took B packet opens) in
@@ -92,7 +92,7 @@ by_asked shape events s packet opens t sound run clean up step asks =
     let clean_t : t.wire.forged ≡ false = ap (λ (x : LaneState). x.wire.forged) step.1.is ∙ clean in
     let up_t : t.wire.wire.end_b ≡ Up = ap (λ (x : LaneState). x.wire.wire.end_b) step.1.is ∙ up in
     let now = asked_within shape more t (behind_ask s.server asks.info.session asks.info.range) sound then_run clean_t up_t (ap (λ (v : ServerState). v.session) asks.is) in
-    asks_more s t l (after l event) l.transcript.server packet opens asks refl refl refl (ap (λ (x : LaneState). x.client) step.1.is) (ap (λ (x : LaneState). x.wire.wire.end_a) step.1.is)
+    asks_more s t l (after l event) l.transcript.b packet opens asks refl refl refl (ap (λ (x : LaneState). x.client) step.1.is) (ap (λ (x : LaneState). x.wire.wire.end_a) step.1.is)
     (asked_within shape events s asks.info.session sound run clean up asks.info.session_is) (subst (λ (x : DiskLog). AskedWithin t x (behind_ask s.server asks.info.session asks.info.range)) behind now)
 
 pub server_takes : (shape : Shape) (events : List DiskEvent) (s : LaneState) (packet : List ℕ) (opens : Bool) (t : LaneState) → IsShape shape → Run LaneStep (fresh shape) events s → s.wire.forged ≡ false
@@ -103,10 +103,10 @@ server_takes shape events s packet opens t sound run clean step =
     let knows : Knows s l = run_knows shape events s sound run in
     let may : ServerMay s.server at (server_rules.Takes packet) = subst (ServerMay s.server at) step.1.step.1.0 (server_may s.server at) in
     let free : TakesFree s.server = subst (ServerFree s.server) step.1.step.1.0 (server_free s.server at) in
-    let took = server_took_what s.server l.transcript.server packet t.server opens knows.rests.server.stands.link.follows knows.rests.server.whole step.1.step.1.1 in
-    server_turns (total_at s.wire.wire.end_a s.client) s.server t.server l.transcript.server packet opens free (took_packets shape events s B packet opens t sound run clean step)
+    let took = server_took_what s.server l.transcript.b packet t.server opens knows.rests.server.stands.link.follows knows.rests.server.whole step.1.step.1.1 in
+    server_turns (total_at s.wire.wire.end_a s.client) s.server t.server l.transcript.b packet opens free (took_packets shape events s B packet opens t sound run clean step)
     (λ is.
-    let none = opens_new s.server t.server l.transcript.server packet knows.rests.server (subst (λ (b : Bool). ServerTook s.server l.transcript.server packet t.server b) is took) in
+    let none = opens_new s.server t.server l.transcript.b packet knows.rests.server (subst (λ (b : Bool). ServerTook s.server l.transcript.b packet t.server b) is took) in
     (none, no_work s.server.session s.server.work l.work.server none knows.counted.server.agrees))
     (by_asked shape events s packet opens t sound run clean may.0 step) took
 

@@ -5,19 +5,19 @@ use Rattle.runs.specs.Lawful.{log_of, run_lawful}
 use Rattle.runs.specs.Run.{Run}
 use Rattle.ldc_queue.specs.declared.end.End.TheVariants.{B}
 use Rattle.ldc_queue.specs.Transcript.{Utterance}
-use Rattle.channel_laws.specs.WireEvent.{Blocked, Idle, Joined, Reset, Sent, Took}
+use Rattle.lane_models.specs.WireEvent.{Blocked, Idle, Joined, Reset, Sent, Took}
 use Rattle.lane_laws.proofs.ServerSpeaking.{server_holds_link}
 use Rattle.lane_laws.specs.DiskLog.{DiskLog, after, nothing_yet}
-use Rattle.disk_model.specs.DiskEvent.{Desc, DiskEvent, Finished, Moved, OnWire, Stored, Works}
-use Rattle.disk_model.specs.LaneState.{IsShape, LaneState, Shape, fresh}
-use Rattle.disk_model.specs.LaneStep.{LaneStep}
-use Rattle.disk_model.specs.ServerPutting.{server_holds}
-use Rattle.disk_model.specs.ServerRule as server
-use Rattle.disk_model.specs.ServerState.{ServerState}
+use Rattle.lane_models.specs.DiskEvent.{Desc, DiskEvent, Finished, Moved, OnWire, Stored, Works}
+use Rattle.lane_models.specs.LaneState.{IsShape, LaneState, Shape, fresh}
+use Rattle.lane_models.specs.LaneStep.{LaneStep}
+use Rattle.lane_models.specs.ServerPutting.{server_holds}
+use Rattle.lane_models.specs.ServerRule as server
+use Rattle.lane_models.specs.ServerState.{ServerState}
 use Rattle.lane_laws.proofs.Agreeing.{always_agree}
 use Rattle.lane_laws.proofs.LaneCounting.{Knows, run_knows}
 use Rattle.lane_laws.proofs.LaneViews.{ServerSide, at_server, reach_of, server_keeps}
-use Rattle.disk_model.specs.ServerStep.{ServerStep}
+use Rattle.lane_models.specs.ServerStep.{ServerStep}
 use Rattle.lane_laws.proofs.RingAlong.{Along, along_run, along_step}
 use Rattle.lane_laws.proofs.ServerTaken.{ServerTook, server_took_what}
 -- the log keeps its disk
@@ -34,7 +34,7 @@ steps_first : (s : LaneState) (l : DiskLog) → Knows s l → (event : DiskEvent
     → ServerStep s.server (at_server s) (reach_of s) gave event t new → t.first ≡ s.server.first
 steps_first s l knows (OnWire (Joined B lost)) gave t new step = ap (λ (x : ServerState). x.first) step.2
 steps_first s l knows (OnWire (Took B packet opens)) gave t new step =
-    took_first s.server l.transcript.server packet t opens (server_took_what s.server l.transcript.server packet t opens knows.rests.server.stands.link.follows knows.rests.server.whole step.1)
+    took_first s.server l.transcript.b packet t opens (server_took_what s.server l.transcript.b packet t opens knows.rests.server.stands.link.follows knows.rests.server.whole step.1)
 steps_first s l knows (OnWire (Sent B packet opens)) gave t new step =
     ap (λ (x : ServerState). x.first) step.0.is ∙ held_first s.server (server.server_rule s.server (at_server s)) step.0.held step.0.holds
 steps_first s l knows (OnWire (Blocked B)) gave t new step = held_first s.server (server.server_rule s.server (at_server s)) t step.0

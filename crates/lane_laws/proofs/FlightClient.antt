@@ -1,8 +1,8 @@
 -- What a client has still to put, against the INFO that it began: each packet that it puts lowers the one or is the other.
 use Rattle.std.proofs.Common.{ℕ, ◌+◌, ◌≤◌, arith}
-use Rattle.disk_model.specs.ClientState.{ClientState}
-use Rattle.disk_model.specs.ClientStep.{ClientAdmits}
-use Rattle.disk_model.specs.DiskEvent.{Admitted}
+use Rattle.lane_models.specs.ClientState.{ClientState}
+use Rattle.lane_models.specs.ClientStep.{ClientAdmits}
+use Rattle.lane_models.specs.DiskEvent.{Admitted}
 use Rattle.lane_laws.proofs.RemainingClientPuts.{ClientFalls}
 use Rattle.lane_laws.specs.Budget.{infos_begun}
 use Rattle.lane_laws.specs.Remaining.{client_packets}

@@ -6,20 +6,20 @@ use Rattle.ldc_link.specs.declared.phase.Role.TheVariants.{Initiator, Responder}
 use Rattle.ldc_queue.specs.declared.end.End.{End}
 use Rattle.ldc_queue.specs.declared.end.End.TheVariants.{A, B}
 use Rattle.ldc_queue.specs.Transcript.{Heard as Heard_, Said as Said_, Utterance}
-use Rattle.channel_laws.specs.Sayings.{half_heard, heard}
-use Rattle.channel_laws.specs.WireEvent.{Blocked, Idle, Joined, Reset, Sent, Took, WireEvent}
-use Rattle.channel_laws.specs.WireLog.{wire_moved}
+use Rattle.lane_models.specs.Sayings.{half_heard, heard}
+use Rattle.lane_models.specs.WireEvent.{Blocked, Idle, Joined, Reset, Sent, Took, WireEvent}
+use Rattle.lane_models.specs.WireLog.{wire_moved}
 use Rattle.lane_laws.specs.DiskLog.{DiskLog, after, nothing_yet}
-use Rattle.channel_laws.specs.Messages.{range_ended}
+use Rattle.lane_models.specs.Messages.{range_ended}
 use Rattle.lane_laws.specs.WorkLog.{one_in}
-use Rattle.disk_model.specs.ClientRule as client_rules
-use Rattle.disk_model.specs.ClientState.{ClientState, joined_client}
-use Rattle.disk_model.specs.DiskEvent.{DiskEvent, OnWire}
-use Rattle.disk_model.specs.LaneState.{IsShape, LaneState, Shape, fresh}
-use Rattle.disk_model.specs.LaneStep.{EndOnWire, LaneStep}
-use Rattle.disk_model.specs.ServerRule as server_rules
-use Rattle.disk_model.specs.ServerState.{ServerState, joined_server}
-use Rattle.channel_laws.specs.Standing.{EndStands}
+use Rattle.lane_models.specs.ClientRule as client_rules
+use Rattle.lane_models.specs.ClientState.{ClientState, joined_client}
+use Rattle.lane_models.specs.DiskEvent.{DiskEvent, OnWire}
+use Rattle.lane_models.specs.LaneState.{IsShape, LaneState, Shape, fresh}
+use Rattle.lane_models.specs.LaneStep.{EndOnWire, LaneStep}
+use Rattle.lane_models.specs.ServerRule as server_rules
+use Rattle.lane_models.specs.ServerState.{ServerState, joined_server}
+use Rattle.lane_models.specs.Standing.{EndStands}
 use Rattle.lane_laws.proofs.ClientHolding.{holds_up}
 use Rattle.lane_laws.proofs.FallsByTaking.{client_takes, server_takes}
 use Rattle.lane_laws.proofs.FlightClient.{ClientFlies, falls_fly}
@@ -89,10 +89,10 @@ one_most None = omega arith
 one_most (Some message) = omega arith
 
 client_took : (shape : Shape) (events : List DiskEvent) (s : LaneState) (packet : List ℕ) (opens : Bool) (t : LaneState) → StepKnown shape events s (OnWire (Took A packet opens)) t
-    → InFlight s (log_at shape events).transcript.client → InFlight t (Heard_ packet ∷ (log_at shape events).transcript.client)
+    → InFlight s (log_at shape events).transcript.a → InFlight t (Heard_ packet ∷ (log_at shape events).transcript.a)
 client_took shape events s packet opens t known flight =
     let l = log_at shape events in
-    let turns : List Utterance = l.transcript.client in
+    let turns : List Utterance = l.transcript.a in
     let step = known.step in
     let may : ClientMay s.client (at_client s) (client_rules.Takes packet) = subst (ClientMay s.client (at_client s)) step.step.0 (client_may s.client (at_client s)) in
     let falls = client_takes shape events s packet opens t known.sound known.run known.clean_s step in
@@ -106,10 +106,10 @@ client_took shape events s packet opens t known flight =
 
 -- it puts one
 client_sent : (shape : Shape) (events : List DiskEvent) (s : LaneState) (packet : List ℕ) (opens : Bool) (t : LaneState) → StepKnown shape events s (OnWire (Sent A packet opens)) t
-    → InFlight s (log_at shape events).transcript.client → InFlight t (Said_ packet ∷ (log_at shape events).transcript.client)
+    → InFlight s (log_at shape events).transcript.a → InFlight t (Said_ packet ∷ (log_at shape events).transcript.a)
 client_sent shape events s packet opens t known flight =
     let l = log_at shape events in
-    let turns : List Utterance = l.transcript.client in
+    let turns : List Utterance = l.transcript.a in
     let step = known.step in
     let knows : Knows s l = knows_at shape events s (OnWire (Sent A packet opens)) t known in
     let up = holds_up s.client (at_client s) (client_rules.client_rule s.client (at_client s)) step.step.held (client_may s.client (at_client s)) step.step.holds in
@@ -121,26 +121,26 @@ client_sent shape events s packet opens t known flight =
     })
 
 pub client_wire : (shape : Shape) (events : List DiskEvent) (s : LaneState) (event : WireEvent) (t : LaneState) → StepKnown shape events s (OnWire event) t → EndOnWire A s event t
-    → InFlight s (log_at shape events).transcript.client → InFlight t (after (log_at shape events) (OnWire event)).transcript.client
+    → InFlight s (log_at shape events).transcript.a → InFlight t (after (log_at shape events) (OnWire event)).transcript.a
 client_wire shape events s (Joined A lost) t known step flight =
     flight_is (record s { wire = wire_moved s.wire (Joined A lost); client = t.client; memory = t.memory; near = s.near }) t [] step.is
-    (client_anew s t.client (log_at shape events).transcript.client (knows_at shape events s (OnWire (Joined A lost)) t known).rests.client.stands step.step.2 flight)
+    (client_anew s t.client (log_at shape events).transcript.a (knows_at shape events s (OnWire (Joined A lost)) t known).rests.client.stands step.step.2 flight)
 client_wire shape events s (Took A packet opens) t known step flight = client_took shape events s packet opens t known flight
 client_wire shape events s (Sent A packet opens) t known step flight = client_sent shape events s packet opens t known flight
 client_wire shape events s (Blocked A) t known step flight =
     let knows : Knows s (log_at shape events) = knows_at shape events s (OnWire (Blocked A)) t known in
-    client_on s t (log_at shape events).transcript.client (ap (λ (x : LaneState). x.wire) step.is) (ap (λ (x : LaneState). x.server) step.is)
+    client_on s t (log_at shape events).transcript.a (ap (λ (x : LaneState). x.wire) step.is) (ap (λ (x : LaneState). x.server) step.is)
     (falls_fly 0 0 s.client t.client
-    (blocked_falls s.client (at_client s) t.client (log_at shape events).transcript.client step.step.0 knows.all.sound knows.rests.client.stands)) flight
-client_wire shape events s (Idle A) t known step flight = flight_is s t (log_at shape events).transcript.client (client_same s t step) flight
+    (blocked_falls s.client (at_client s) t.client (log_at shape events).transcript.a step.step.0 knows.all.sound knows.rests.client.stands)) flight
+client_wire shape events s (Idle A) t known step flight = flight_is s t (log_at shape events).transcript.a (client_same s t step) flight
 client_wire shape events s (Reset A cause packet lost) t known step flight =
     flight_is (record s { wire = wire_moved s.wire (Joined A 0); client = t.client; memory = t.memory; near = _ }) t [] step.is
-    (client_anew s t.client (log_at shape events).transcript.client (knows_at shape events s (OnWire (Reset A cause packet lost)) t known).rests.client.stands step.step.2 flight)
+    (client_anew s t.client (log_at shape events).transcript.a (knows_at shape events s (OnWire (Reset A cause packet lost)) t known).rests.client.stands step.step.2 flight)
 client_wire shape events s _ t known step flight = absurd step.step
 
 -- THE SERVER takes a packet, and puts one
 server_took : (shape : Shape) (events : List DiskEvent) (s : LaneState) (packet : List ℕ) (opens : Bool) (t : LaneState) → StepKnown shape events s (OnWire (Took B packet opens)) t
-    → InFlight s (log_at shape events).transcript.client → InFlight t (log_at shape events).transcript.client
+    → InFlight s (log_at shape events).transcript.a → InFlight t (log_at shape events).transcript.a
 server_took shape events s packet opens t known flight =
     let l = log_at shape events in
     let step = known.step in
@@ -148,26 +148,26 @@ server_took shape events s packet opens t known flight =
     let may : ServerMay s.server (at_server s) (server_rules.Takes packet) = subst (ServerMay s.server (at_server s)) step.1.step.1.0 (server_may s.server (at_server s)) in
     let most = total_at s.wire.wire.end_a s.client in
     let turn : ServerHeard most s.server t.server = server_takes shape events s packet opens t known.sound known.run known.clean_s step in
-    let took = server_took_what s.server l.transcript.server packet t.server opens knows.rests.server.stands.link.follows knows.rests.server.whole step.1.step.1.1 in
-    let flies : ServerFlies 0 1 s.server t.server = server_takes_flies most s.server t.server l.transcript.server packet opens turn took in
-    flight_is (record s { wire = wire_moved s.wire (Took B packet opens); server = t.server; memory = t.memory; near = s.near }) t l.transcript.client step.1.is (record {
+    let took = server_took_what s.server l.transcript.b packet t.server opens knows.rests.server.stands.link.follows knows.rests.server.whole step.1.step.1.1 in
+    let flies : ServerFlies 0 1 s.server t.server = server_takes_flies most s.server t.server l.transcript.b packet opens turn took in
+    flight_is (record s { wire = wire_moved s.wire (Took B packet opens); server = t.server; memory = t.memory; near = s.near }) t l.transcript.a step.1.is (record {
       few = server_takes_one s.wire.wire.end_a s.wire.wire.end_b (length s.wire.wire.to_a) (length s.wire.wire.to_b) (length (drop 1 s.wire.wire.to_b)) s.wire.lossy (client_packets s.client)
-          (server_packets s.server) (server_packets t.server) (range_count 2 (heard l.transcript.client)) (infos_begun s.client.session) may.0 (first_gone packet s.wire.wire.to_b may.1) flies.packets flight.few;
+          (server_packets s.server) (server_packets t.server) (range_count 2 (heard l.transcript.a)) (infos_begun s.client.session) may.0 (first_gone packet s.wire.wire.to_b may.1) flies.packets flight.few;
       pieces = flies.pieces flight.pieces;
     })
 
 server_sent : (shape : Shape) (events : List DiskEvent) (s : LaneState) (packet : List ℕ) (opens : Bool) (t : LaneState) → StepKnown shape events s (OnWire (Sent B packet opens)) t
-    → InFlight s (log_at shape events).transcript.client → InFlight t (log_at shape events).transcript.client
+    → InFlight s (log_at shape events).transcript.a → InFlight t (log_at shape events).transcript.a
 server_sent shape events s packet opens t known flight =
     let l = log_at shape events in
     let step = known.step in
     let sends = step.1.step.1.0 in
     let up = server_holds_up s.server (at_server s) (server_rules.server_rule s.server (at_server s)) sends.held (server_may s.server (at_server s)) sends.holds in
     let flies : ServerFlies 1 0 s.server t.server = server_flies.falls_fly 1 s.server t.server
-    (server.sends_falls s.server (at_server s) packet opens t.server l.transcript.server sends (knows_at shape events s (OnWire (Sent B packet opens)) t known).rests.server.stands) in
-    flight_is (record s { wire = wire_moved s.wire (Sent B packet opens); server = t.server; memory = t.memory; near = s.near }) t l.transcript.client step.1.is (record {
+    (server.sends_falls s.server (at_server s) packet opens t.server l.transcript.b sends (knows_at shape events s (OnWire (Sent B packet opens)) t known).rests.server.stands) in
+    flight_is (record s { wire = wire_moved s.wire (Sent B packet opens); server = t.server; memory = t.memory; near = s.near }) t l.transcript.a step.1.is (record {
       few = server_puts_one s.wire.wire.end_a s.wire.wire.end_b (length s.wire.wire.to_a) (length (s.wire.wire.to_a ++ packet ∷ [])) (length s.wire.wire.to_b) s.wire.lossy (client_packets s.client)
-          (server_packets s.server) (server_packets t.server) (range_count 2 (heard l.transcript.client)) (infos_begun s.client.session) up (one_longer s.wire.wire.to_a packet) flies.packets flight.few;
+          (server_packets s.server) (server_packets t.server) (range_count 2 (heard l.transcript.a)) (infos_begun s.client.session) up (one_longer s.wire.wire.to_a packet) flies.packets flight.few;
       pieces = flies.pieces flight.pieces;
     })
 
@@ -176,26 +176,26 @@ pub began : (s : LaneState) (v : ServerState) (turns said : List Utterance) → 
 began s v turns said stands is flight = server_anew s v turns (ap server_packets is ∙ begun_answers s.server said stands) (ap (λ (x : ServerState). x.work) is) flight
 
 pub server_wire : (shape : Shape) (events : List DiskEvent) (s : LaneState) (event : WireEvent) (t : LaneState) → StepKnown shape events s (OnWire event) t → EndOnWire B s event t
-    → InFlight s (log_at shape events).transcript.client → InFlight t (after (log_at shape events) (OnWire event)).transcript.client
+    → InFlight s (log_at shape events).transcript.a → InFlight t (after (log_at shape events) (OnWire event)).transcript.a
 server_wire shape events s (Joined B lost) t known step flight =
-    flight_is (record s { wire = wire_moved s.wire (Joined B lost); server = t.server; memory = t.memory; near = s.near }) t (log_at shape events).transcript.client step.1.is
-    (began s t.server (log_at shape events).transcript.client (log_at shape events).transcript.server (knows_at shape events s (OnWire (Joined B lost)) t known).rests.server.stands
+    flight_is (record s { wire = wire_moved s.wire (Joined B lost); server = t.server; memory = t.memory; near = s.near }) t (log_at shape events).transcript.a step.1.is
+    (began s t.server (log_at shape events).transcript.a (log_at shape events).transcript.b (knows_at shape events s (OnWire (Joined B lost)) t known).rests.server.stands
     step.1.step.1.2 flight)
 server_wire shape events s (Took B packet opens) t known step flight = server_took shape events s packet opens t known flight
 server_wire shape events s (Sent B packet opens) t known step flight = server_sent shape events s packet opens t known flight
 server_wire shape events s (Blocked B) t known step flight =
     let knows : Knows s (log_at shape events) = knows_at shape events s (OnWire (Blocked B)) t known in
-    server_on s t (log_at shape events).transcript.client (ap (λ (x : LaneState). x.wire) step.1.is) (ap (λ (x : LaneState). x.client) step.1.is)
+    server_on s t (log_at shape events).transcript.a (ap (λ (x : LaneState). x.wire) step.1.is) (ap (λ (x : LaneState). x.client) step.1.is)
     (server_flies.falls_fly 0 s.server t.server
-    (server.blocked_falls s.server (at_server s) t.server (log_at shape events).transcript.server step.1.step.1.0 knows.rests.server.stands)) flight
-server_wire shape events s (Idle B) t known step flight = flight_is s t (log_at shape events).transcript.client (server_same s t step) flight
+    (server.blocked_falls s.server (at_server s) t.server (log_at shape events).transcript.b step.1.step.1.0 knows.rests.server.stands)) flight
+server_wire shape events s (Idle B) t known step flight = flight_is s t (log_at shape events).transcript.a (server_same s t step) flight
 server_wire shape events s (Reset B cause packet lost) t known step flight =
-    flight_is (record s { wire = wire_moved s.wire (Joined B 0); server = t.server; memory = t.memory; near = _ }) t (log_at shape events).transcript.client step.1.is
-    (began s t.server (log_at shape events).transcript.client (log_at shape events).transcript.server (knows_at shape events s (OnWire (Reset B cause packet lost)) t known).rests.server.stands
+    flight_is (record s { wire = wire_moved s.wire (Joined B 0); server = t.server; memory = t.memory; near = _ }) t (log_at shape events).transcript.a step.1.is
+    (began s t.server (log_at shape events).transcript.a (log_at shape events).transcript.b (knows_at shape events s (OnWire (Reset B cause packet lost)) t known).rests.server.stands
     step.1.step.1.2 flight)
 server_wire shape events s _ t known step flight = absurd step.1.step.1
 
 pub end_wire : (e : End) (shape : Shape) (events : List DiskEvent) (s : LaneState) (event : WireEvent) (t : LaneState) → StepKnown shape events s (OnWire event) t → EndOnWire e s event t
-    → InFlight s (log_at shape events).transcript.client → InFlight t (after (log_at shape events) (OnWire event)).transcript.client
+    → InFlight s (log_at shape events).transcript.a → InFlight t (after (log_at shape events) (OnWire event)).transcript.a
 end_wire A shape events s event t known step flight = client_wire shape events s event t known step flight
 end_wire B shape events s event t known step flight = server_wire shape events s event t known step flight

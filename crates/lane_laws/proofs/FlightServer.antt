@@ -6,12 +6,12 @@ use Rattle.cookie_copy.specs.declared.fault.CopyFault.{CopyFault}
 use Rattle.ldc_queue.specs.Transcript.{Utterance}
 use Rattle.vdisk_msg.specs.Descriptor as slot_says
 use Rattle.vdisk_msg.specs.Pieces.{unit_count}
-use Rattle.channel_laws.specs.Seeing.{Seen}
-use Rattle.disk_model.specs.ServerRule.{Fetches}
-use Rattle.disk_model.specs.ServerState.{ServerSession, ServerState, Work}
-use Rattle.disk_model.specs.ServerStep.{ServerFetches, ServerFinishes, ServerMoves, ServerStores}
+use Rattle.lane_models.specs.Seeing.{Seen}
+use Rattle.lane_models.specs.ServerRule.{Fetches}
+use Rattle.lane_models.specs.ServerState.{ServerSession, ServerState, Work}
+use Rattle.lane_models.specs.ServerStep.{ServerFetches, ServerFinishes, ServerMoves, ServerStores}
 use Rattle.cookie_copy.specs.Reach.{Reach}
-use Rattle.disk_model.specs.ServerWork.{desc_of}
+use Rattle.lane_models.specs.ServerWork.{desc_of}
 use Rattle.lane_laws.proofs.RemainingServerPuts.{ServerFalls}
 use Rattle.lane_laws.proofs.RemainingServerSteps.{few_pieces, moves_less, stores_less}
 use Rattle.lane_laws.proofs.Ruling.{server_may}

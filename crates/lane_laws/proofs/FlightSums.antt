@@ -5,10 +5,10 @@ use Rattle.ldc_queue.specs.declared.end.ChannelState.{ChannelState}
 use Rattle.ldc_queue.specs.declared.end.ChannelState.TheVariants.{Down, Resetting, Up}
 use Rattle.ldc_queue.specs.Transcript.{Utterance}
 use Rattle.ldc_queue.specs.Wire.{peer_behind, queue_behind}
-use Rattle.channel_laws.specs.Sayings.{heard}
-use Rattle.channel_laws.specs.WireLog.{WireLog, lossy_behind}
-use Rattle.disk_model.specs.ClientState.{ClientState}
-use Rattle.disk_model.specs.ServerState.{ServerState}
+use Rattle.lane_models.specs.Sayings.{heard}
+use Rattle.lane_models.specs.WireLog.{WireLog, lossy_behind}
+use Rattle.lane_models.specs.ClientState.{ClientState}
+use Rattle.lane_models.specs.ServerState.{ServerState}
 use Rattle.lane_laws.proofs.FlightServer.{FewPieces}
 use Rattle.lane_laws.specs.Budget.{infos_begun, one_if}
 use Rattle.lane_laws.specs.Counted.{range_count}

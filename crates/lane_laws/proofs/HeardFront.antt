@@ -8,17 +8,17 @@ use Rattle.ldc_queue.specs.declared.end.End.TheVariants.{A, B}
 use Rattle.ldc_queue.specs.OneStream.{IsFront}
 use Rattle.ldc_queue.specs.Transcript.{numbered_heard, numbered_said}
 use Rattle.ldc_queue.specs.Wire.{peer_of}
-use Rattle.channel_laws.specs.Sayings.{heard, said}
-use Rattle.channel_laws.specs.TranscriptLog.{TranscriptLog, transcript_of}
-use Rattle.channel_laws.specs.WireAt.{IsUp}
-use Rattle.disk_model.specs.DiskEvent.{DiskEvent}
-use Rattle.disk_model.specs.LaneState.{IsShape, LaneState, Shape, fresh}
-use Rattle.disk_model.specs.LaneStep.{LaneStep}
-use Rattle.channel_laws.proofs.ConversingRuns as core
-use Rattle.channel_laws.proofs.CoreLaws.{conversing}
-use Rattle.channel_laws.proofs.Sessions.{open_sessions_up}
-use Rattle.channel_laws.specs.Conversing.{Converse}
-use Rattle.channel_laws.specs.Sides.{sides_of}
+use Rattle.lane_models.specs.Sayings.{heard, said}
+use Rattle.lane_models.specs.TranscriptLog.{TranscriptLog, transcript_of}
+use Rattle.lane_models.specs.WireAt.{IsUp}
+use Rattle.lane_models.specs.DiskEvent.{DiskEvent}
+use Rattle.lane_models.specs.LaneState.{IsShape, LaneState, Shape, fresh}
+use Rattle.lane_models.specs.LaneStep.{LaneStep}
+use Rattle.lane_models.proofs.ConversingRuns as core
+use Rattle.lane_models.proofs.CoreLaws.{conversing}
+use Rattle.lane_models.proofs.Sessions.{open_sessions_up}
+use Rattle.lane_models.specs.Conversing.{Converse}
+use Rattle.lane_models.specs.Sides.{sides_of}
 use Rattle.lane_laws.proofs.LaneChannel.{answers_of, asks_of}
 use Rattle.lane_laws.proofs.LaneCores.{lane_cores, lane_fits, said_same}
 use Rattle.lane_laws.specs.ChannelEnds.{core_event, core_of}
@@ -46,7 +46,7 @@ lane_converses shape events s sound run clean =
 
 -- WHERE THE OTHER END ISN'T UP nothing was heard
 pub unheard_client : (shape : Shape) (events : List DiskEvent) (s : LaneState) → IsShape shape → Run LaneStep (fresh shape) events s → s.wire.forged ≡ false
-    → IsUp A s.wire.wire → (s.wire.wire.end_b ≡ Up → ⊥) → heard (transcript_behind events).client ≡ []
+    → IsUp A s.wire.wire → (s.wire.wire.end_b ≡ Up → ⊥) → heard (transcript_behind events).a ≡ []
 unheard_client shape events s sound run clean up not =
     core.unheard Initiator (sides_of (core_of s) (transcript_behind events)) (lane_converses shape events s sound run clean) up not
 

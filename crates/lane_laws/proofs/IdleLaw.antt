@@ -6,19 +6,19 @@ use Rattle.ldc_queue.specs.declared.end.End.{End}
 use Rattle.ldc_queue.specs.declared.end.End.TheVariants.{A, B}
 use Rattle.ldc_queue.specs.Wire.{waiting_for}
 use Rattle.vdisk_msg.specs.declared.request.Request.{Request}
-use Rattle.channel_laws.specs.WireEvent.{Idle}
-use Rattle.channel_laws.specs.WireLog.{WireLog}
-use Rattle.channel_laws.proofs.Apart.{some_same}
-use Rattle.channel_laws.proofs.EndsAtRest.{none_waits}
+use Rattle.lane_models.specs.WireEvent.{Idle}
+use Rattle.lane_models.specs.WireLog.{WireLog}
+use Rattle.lane_models.proofs.Apart.{some_same}
+use Rattle.lane_models.proofs.EndsAtRest.{none_waits}
 use Rattle.lane_laws.specs.Agreement.{ClientAgrees}
 use Rattle.lane_laws.specs.DiskLog.{DiskLog}
 use Rattle.lane_laws.specs.QuietLaws.{ClientIsIdle, EndIsIdle, IdleAt, ServerIsIdle}
 use Rattle.lane_laws.specs.WorkLaws.{IfClient, IfServer}
 use Rattle.lane_laws.specs.WorkLog.{ClientCounts}
-use Rattle.disk_model.specs.ClientState.{ClientSession}
-use Rattle.disk_model.specs.DiskEvent.{DiskEvent, OnWire}
-use Rattle.disk_model.specs.LaneState.{LaneState}
-use Rattle.disk_model.specs.LaneStep.{EndOnWire, LaneStep}
+use Rattle.lane_models.specs.ClientState.{ClientSession}
+use Rattle.lane_models.specs.DiskEvent.{DiskEvent, OnWire}
+use Rattle.lane_models.specs.LaneState.{LaneState}
+use Rattle.lane_models.specs.LaneStep.{EndOnWire, LaneStep}
 use Rattle.lane_laws.proofs.Sharing.{in_order}
 use Rattle.lane_laws.specs.Sound.{SessionInOrder}
 use Rattle.lane_laws.proofs.Counting.{of_client}

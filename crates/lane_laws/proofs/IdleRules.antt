@@ -2,11 +2,11 @@
 -- announce: it has published all that is pending.
 use Rattle.std.proofs.Common.{◌≡◌, false, Some, None, arith}
 use Rattle.ldc_link.specs.Putting.{owes}
-use Rattle.disk_model.specs.ClientRule as client
-use Rattle.disk_model.specs.ClientState.{ClientSession, ClientState}
-use Rattle.channel_laws.specs.Seeing.{Seen}
-use Rattle.disk_model.specs.ServerRule as server
-use Rattle.disk_model.specs.ServerState.{ServerSession, ServerState}
+use Rattle.lane_models.specs.ClientRule as client
+use Rattle.lane_models.specs.ClientState.{ClientSession, ClientState}
+use Rattle.lane_models.specs.Seeing.{Seen}
+use Rattle.lane_models.specs.ServerRule as server
+use Rattle.lane_models.specs.ServerState.{ServerSession, ServerState}
 use Rattle.lane_laws.proofs.RuleTests.{ClientIdles, PublishedAll, client_test, server_tested}
 
 pub client_idles : (s : ClientState) (at : Seen) → client.client_rule s at ≡ client.Idles → ClientIdles s at

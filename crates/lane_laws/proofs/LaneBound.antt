@@ -6,13 +6,13 @@ use Rattle.runs.specs.Run.{Run}
 use Rattle.ldc_link.specs.declared.phase.Role.TheVariants.{Initiator}
 use Rattle.ldc_queue.specs.declared.end.ChannelState.{ChannelState}
 use Rattle.ldc_queue.specs.declared.end.ChannelState.TheVariants.{Up}
-use Rattle.channel_laws.specs.Sayings.{heard}
+use Rattle.lane_models.specs.Sayings.{heard}
 use Rattle.lane_laws.specs.DiskLog.{after, nothing_yet}
-use Rattle.disk_model.specs.ClientState.{ClientState}
-use Rattle.disk_model.specs.DiskEvent.{DiskEvent}
-use Rattle.disk_model.specs.LaneState.{IsShape, LaneState, Shape, fresh}
-use Rattle.disk_model.specs.LaneStep.{LaneStep}
-use Rattle.disk_model.specs.ServerState.{ServerState}
+use Rattle.lane_models.specs.ClientState.{ClientState}
+use Rattle.lane_models.specs.DiskEvent.{DiskEvent}
+use Rattle.lane_models.specs.LaneState.{IsShape, LaneState, Shape, fresh}
+use Rattle.lane_models.specs.LaneStep.{LaneStep}
+use Rattle.lane_models.specs.ServerState.{ServerState}
 use Rattle.lane_laws.proofs.FlightAlong.{run_flight}
 use Rattle.lane_laws.proofs.FlightRuns.{InFlight}
 use Rattle.lane_laws.proofs.FlightSums.{FewFly}
@@ -24,7 +24,7 @@ use Rattle.lane_laws.specs.LaneTranscripts.{transcript_behind}
 use Rattle.lane_laws.specs.Remaining.{absent, asked_remaining, client_remaining, client_packets, life, remaining, second_life, server_remaining, server_packets}
 use Rattle.lane_laws.proofs.HeardFront.{unheard_client}
 use Rattle.lane_laws.proofs.OneSession.{client_in_session}
-use Rattle.channel_laws.proofs.Sessions.{open_heard}
+use Rattle.lane_models.proofs.Sessions.{open_heard}
 use Rattle.lane_laws.specs.ChannelEnds.{client_core}
 
 -- an end that is up has no session where the other isn't
@@ -37,7 +37,7 @@ client_closed : (shape : Shape) (events : List DiskEvent) (s : LaneState) → Is
 client_closed shape events s sound run clean up alone =
     let rests = (run_rests shape events s sound run).client in
     closed_by s.client.session (λ now.
-    open_heard Initiator (client_core s.client) (transcript_behind events).client (record { stands = rests.stands; rests = rests.rests }) now (unheard_client shape events s sound run clean up alone))
+    open_heard Initiator (client_core s.client) (transcript_behind events).a (record { stands = rests.stands; rests = rests.rests }) now (unheard_client shape events s sound run clean up alone))
 
 server_closed : (shape : Shape) (events : List DiskEvent) (s : LaneState) → IsShape shape → Run LaneStep (fresh shape) events s → s.wire.forged ≡ false → s.wire.wire.end_b ≡ Up
     → (s.wire.wire.end_a ≡ Up → ⊥) → s.server.session ≡ None
@@ -60,8 +60,8 @@ life_most : (shape : Shape) (events : List DiskEvent) (s : LaneState) → IsShap
     → life s.wire.wire s.client s.server + 3 * one_if s.wire.lossy ≤ 36 + 16 * length s.client.pending
 life_most shape events s sound run clean =
     let transcript = (log_of after (nothing_yet shape) events).transcript in
-    let flight : InFlight s transcript.client = run_flight shape events s sound run clean in
-    most_in s.wire.wire.end_a s.wire.wire.end_b (length s.wire.wire.to_a) (length s.wire.wire.to_b) s.wire.lossy s.client s.server (range_count 2 (heard transcript.client)) (record {
+    let flight : InFlight s transcript.a = run_flight shape events s sound run clean in
+    most_in s.wire.wire.end_a s.wire.wire.end_b (length s.wire.wire.to_a) (length s.wire.wire.to_b) s.wire.lossy s.client s.server (range_count 2 (heard transcript.a)) (record {
       few = flight.few;
       client = λ up alone. client_closed shape events s sound run clean up alone;
       server = λ up alone. server_closed shape events s sound run clean up alone;

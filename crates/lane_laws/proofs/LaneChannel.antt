@@ -8,35 +8,35 @@ use Rattle.ldc_queue.specs.Transcript.{Utterance}
 use Rattle.vio_handshake.specs.declared.session.Offer.{Offer}
 use Rattle.vio_handshake.specs.Offers.{Match}
 use Rattle.lane_laws.proofs.EndMoves.{transcript_same}
-use Rattle.channel_laws.proofs.SameSayings.{half_heard_is}
+use Rattle.lane_models.proofs.SameSayings.{half_heard_is}
 use Rattle.lane_laws.specs.Agreement.{LinkAgrees}
-use Rattle.channel_laws.specs.TranscriptLog.{TranscriptLog}
-use Rattle.channel_laws.specs.WireAt.{WireHeardAt, WireSaidAt}
-use Rattle.channel_laws.specs.WireEvent.{WireEvent}
-use Rattle.disk_model.specs.DiskEvent.{DiskEvent, OnWire}
+use Rattle.lane_models.specs.TranscriptLog.{TranscriptLog}
+use Rattle.lane_models.specs.WireAt.{WireHeardAt, WireSaidAt}
+use Rattle.lane_models.specs.WireEvent.{WireEvent}
+use Rattle.lane_models.specs.DiskEvent.{DiskEvent, OnWire}
 use Rattle.lane_laws.specs.DiskLog.{DiskLog, after, after_transcript, nothing_yet}
-use Rattle.disk_model.specs.LaneState.{IsShape, LaneState, Shape, fresh}
-use Rattle.disk_model.specs.LaneStep.{LaneStep}
+use Rattle.lane_models.specs.LaneState.{IsShape, LaneState, Shape, fresh}
+use Rattle.lane_models.specs.LaneStep.{LaneStep}
 use Rattle.lane_laws.specs.May.{OfWire}
-use Rattle.disk_model.specs.Offering.{client_offer, server_offer}
-use Rattle.channel_laws.proofs.EndFolding.{FoldsSo, folds_run}
-use Rattle.channel_laws.proofs.CoreLaws.{links_placed, stands_a, stands_b}
-use Rattle.channel_laws.proofs.HandshakePlaces.{Matches}
-use Rattle.channel_laws.proofs.HandshakesPlaced.{Meets, meets_keep}
-use Rattle.channel_laws.proofs.Lifting.{BothStand, EndsAll}
-use Rattle.channel_laws.proofs.Numbering.{count_heard_is, count_said_is}
-use Rattle.channel_laws.proofs.Numbering as core
-use Rattle.channel_laws.proofs.PartsSaid.{PartsSaid, parts_run}
-use Rattle.channel_laws.proofs.Sessions.{meets_knows}
-use Rattle.channel_laws.proofs.Sessions as sessions
-use Rattle.channel_laws.proofs.Sids.{last_sid_counts, last_sid_none}
-use Rattle.channel_laws.specs.CoreLog.{CoreLog, OfChannel, comings_after}
-use Rattle.channel_laws.specs.CoreLog as core_log
-use Rattle.channel_laws.specs.EndCore.{EndCore}
-use Rattle.channel_laws.specs.LaneCore.{CoreEvent}
-use Rattle.channel_laws.specs.LinkPlaces.{LinksAt}
-use Rattle.channel_laws.specs.Sides.{Sides, sides_of, swapped}
-use Rattle.channel_laws.specs.Standing.{EndStands}
+use Rattle.lane_models.specs.Offering.{client_offer, server_offer}
+use Rattle.lane_models.proofs.EndFolding.{FoldsSo, folds_run}
+use Rattle.lane_models.proofs.CoreLaws.{links_placed, stands_a, stands_b}
+use Rattle.lane_models.proofs.HandshakePlaces.{Matches}
+use Rattle.lane_models.proofs.HandshakesPlaced.{Meets, meets_keep}
+use Rattle.lane_models.proofs.Lifting.{BothStand, EndsAll}
+use Rattle.lane_models.proofs.Numbering.{count_heard_is, count_said_is}
+use Rattle.lane_models.proofs.Numbering as core
+use Rattle.lane_models.proofs.PartsSaid.{PartsSaid, parts_run}
+use Rattle.lane_models.proofs.Sessions.{meets_knows}
+use Rattle.lane_models.proofs.Sessions as sessions
+use Rattle.lane_models.proofs.Sids.{last_sid_counts, last_sid_none}
+use Rattle.lane_models.specs.CoreLog.{CoreLog, OfChannel, comings_after}
+use Rattle.lane_models.specs.CoreLog as core_log
+use Rattle.lane_models.specs.EndCore.{EndCore}
+use Rattle.lane_models.specs.LaneCore.{CoreEvent}
+use Rattle.lane_models.specs.LinkPlaces.{LinksAt}
+use Rattle.lane_models.specs.Sides.{Sides, sides_of, swapped}
+use Rattle.lane_models.specs.Standing.{EndStands}
 use Rattle.lane_laws.proofs.LaneCores.{lane_cores, lane_fits, said_in_log}
 use Rattle.lane_laws.proofs.OpeningDeal.{offers_match}
 use Rattle.lane_laws.specs.ChannelEnds.{client_core, core_event, core_of, server_core}
@@ -80,15 +80,15 @@ heard_lawful shape events s sound run =
 
 -- EACH END stands by its role, and its link agrees with what was said and heard
 pub client_stands : (shape : Shape) (events : List DiskEvent) (s : LaneState) → IsShape shape → Run LaneStep (fresh shape) events s
-    → EndStands Initiator (client_core s.client) (transcript_in shape events).client
+    → EndStands Initiator (client_core s.client) (transcript_in shape events).a
 client_stands shape events s sound run =
-    subst (λ (l : TranscriptLog). EndStands Initiator (client_core s.client) l.client) (said_in_log shape events)
+    subst (λ (l : TranscriptLog). EndStands Initiator (client_core s.client) l.a) (said_in_log shape events)
     (stands_a shape.entries (asks_of shape) (answers_of shape) (map core_event events) (core_of s) (lane_fits shape sound) (lane_cores shape events s sound run))
 
 pub server_stands : (shape : Shape) (events : List DiskEvent) (s : LaneState) → IsShape shape → Run LaneStep (fresh shape) events s
-    → EndStands Responder (server_core s.server) (transcript_in shape events).server
+    → EndStands Responder (server_core s.server) (transcript_in shape events).b
 server_stands shape events s sound run =
-    subst (λ (l : TranscriptLog). EndStands Responder (server_core s.server) l.server) (said_in_log shape events)
+    subst (λ (l : TranscriptLog). EndStands Responder (server_core s.server) l.b) (said_in_log shape events)
     (stands_b shape.entries (asks_of shape) (answers_of shape) (map core_event events) (core_of s) (lane_fits shape sound) (lane_cores shape events s sound run))
 
 -- and is what it said and heard; a server counts no sids

@@ -2,14 +2,14 @@
 use Rattle.std.proofs.Common.{◌≡◌, List, [], ◌∷◌, refl, sym, ap, ◌∙◌, subst, arith, map}
 use Rattle.runs.specs.Lawful.{log_of, run_lawful}
 use Rattle.runs.specs.Run.{Run}
-use Rattle.channel_laws.specs.TranscriptLog.{TranscriptLog, nothing_said}
-use Rattle.channel_laws.specs.WireLog.{WireLog}
-use Rattle.disk_model.specs.DiskEvent.{DiskEvent}
+use Rattle.lane_models.specs.TranscriptLog.{TranscriptLog, nothing_said}
+use Rattle.lane_models.specs.WireLog.{WireLog}
+use Rattle.lane_models.specs.DiskEvent.{DiskEvent}
 use Rattle.lane_laws.specs.DiskLog.{DiskLog, after, after_transcript, after_wire, nothing_yet}
-use Rattle.disk_model.specs.LaneState.{IsShape, LaneState, Shape, fresh}
-use Rattle.disk_model.specs.LaneStep.{LaneStep}
-use Rattle.disk_model.specs.Offering.{client_offer, server_offer}
-use Rattle.channel_laws.specs.LaneCore.{CoreFits, CoreStands, CoreStep, fresh_core, transcript_after, transcript_behind}
+use Rattle.lane_models.specs.LaneState.{IsShape, LaneState, Shape, fresh}
+use Rattle.lane_models.specs.LaneStep.{LaneStep}
+use Rattle.lane_models.specs.Offering.{client_offer, server_offer}
+use Rattle.lane_models.specs.LaneCore.{CoreFits, CoreStands, CoreStep, fresh_core, transcript_after, transcript_behind}
 use Rattle.lane_laws.proofs.OpeningDeal.{client_fits, server_fits}
 use Rattle.lane_laws.proofs.TableRuns.{QueuesStand, core_stands, fresh_queues, queues_step, wire_same}
 use Rattle.lane_laws.specs.ChannelEnds.{core_event, core_of}

@@ -7,17 +7,17 @@ use Rattle.ldc_queue.specs.declared.end.End.TheVariants.{A, B}
 use Rattle.ldc_queue.specs.Transcript.{Utterance}
 use Rattle.vio_tag.specs.declared.cause.Cause.{Cause}
 use Rattle.vio_tag.specs.declared.cause.Cause.TheVariants as the_cause
-use Rattle.channel_laws.specs.ResetSays.{WireResetAt}
-use Rattle.channel_laws.specs.TranscriptLog.{TranscriptLog, transcript_of}
-use Rattle.channel_laws.specs.WireAt.{WireGapAt}
-use Rattle.channel_laws.specs.WireEvent.{Reset, WireEvent}
+use Rattle.lane_models.specs.ResetSays.{WireResetAt}
+use Rattle.lane_models.specs.TranscriptLog.{TranscriptLog, transcript_of}
+use Rattle.lane_models.specs.WireAt.{WireGapAt}
+use Rattle.lane_models.specs.WireEvent.{Reset, WireEvent}
 use Rattle.lane_laws.specs.DiskLog.{DiskLog, after, after_transcript, nothing_yet}
-use Rattle.disk_model.specs.ClientRule.{client_rule}
-use Rattle.disk_model.specs.DiskEvent.{DiskEvent, OnWire}
-use Rattle.disk_model.specs.LaneState.{IsShape, LaneState, Shape, fresh}
-use Rattle.disk_model.specs.LaneStep.{EndOnWire, LaneStep, WireStep, reach}
-use Rattle.channel_laws.specs.Seeing.{seen}
-use Rattle.disk_model.specs.ServerRule.{server_rule}
+use Rattle.lane_models.specs.ClientRule.{client_rule}
+use Rattle.lane_models.specs.DiskEvent.{DiskEvent, OnWire}
+use Rattle.lane_models.specs.LaneState.{IsShape, LaneState, Shape, fresh}
+use Rattle.lane_models.specs.LaneStep.{EndOnWire, LaneStep, WireStep, reach}
+use Rattle.lane_models.specs.Seeing.{seen}
+use Rattle.lane_models.specs.ServerRule.{server_rule}
 use Rattle.lane_laws.proofs.Speaking.{fresh_rests, rests_step}
 use Rattle.lane_laws.proofs.LaneStepping.{fresh_sound, sound_step}
 use Rattle.lane_laws.specs.LaneRests.{LaneRests}
@@ -36,19 +36,19 @@ asked_why turns cause packet is why = subst (λ (p : Option (List ℕ)). WhyRese
 end_why : (e : End) (s : LaneState) (transcript : TranscriptLog) (cause : Cause) (packet : Option (List ℕ)) (lost : ℕ) (t : LaneState) → Stands s transcript → EndOnWire e s (Reset e cause packet lost) t
     → WhyReset (transcript_of e transcript) packet cause
 end_why A s transcript cause packet lost t stands step =
-    client_fails transcript.client (client_rule s.client (seen A s.shape.entries s.wire.wire)) s.client s.memory cause packet stands.1.client.stands.link.follows stands.1.client.whole step.step.0
+    client_fails transcript.a (client_rule s.client (seen A s.shape.entries s.wire.wire)) s.client s.memory cause packet stands.1.client.stands.link.follows stands.1.client.whole step.step.0
 end_why B s transcript cause packet lost t stands step =
-    server_fails transcript.server (server_rule s.server (seen B s.shape.entries s.wire.wire)) s.server (reach s (seen B s.shape.entries s.wire.wire).both) cause packet t.memory
+    server_fails transcript.b (server_rule s.server (seen B s.shape.entries s.wire.wire)) s.server (reach s (seen B s.shape.entries s.wire.wire).both) cause packet t.memory
     stands.1.server.stands.link.follows stands.1.server.whole step.1.step.1.0
 
 -- the causes of those who give a reset
 pub by_giver : (e : End) (s : LaneState) (transcript : TranscriptLog) (cause : Cause) (packet : Option (List ℕ)) (lost : ℕ) (t : LaneState) → Stands s transcript → WireStep s (Reset e cause packet lost) t
     → WhyReset (transcript_of e transcript) packet cause
-by_giver A s transcript the_cause.Asked packet lost t stands step = asked_why transcript.client the_cause.Asked packet step.0 (record { says = tt; gap = tt; carried = tt })
-by_giver B s transcript the_cause.Asked packet lost t stands step = asked_why transcript.server the_cause.Asked packet step.1.0 (record { says = tt; gap = tt; carried = tt })
+by_giver A s transcript the_cause.Asked packet lost t stands step = asked_why transcript.a the_cause.Asked packet step.0 (record { says = tt; gap = tt; carried = tt })
+by_giver B s transcript the_cause.Asked packet lost t stands step = asked_why transcript.b the_cause.Asked packet step.1.0 (record { says = tt; gap = tt; carried = tt })
 by_giver A s transcript the_cause.Restart packet lost t stands step = absurd step
-by_giver B s transcript the_cause.Restart packet lost t stands step = asked_why transcript.server the_cause.Restart packet step.1.0 (record { says = tt; gap = tt; carried = tt })
-by_giver A s transcript the_cause.Tick packet lost t stands step = asked_why transcript.client the_cause.Tick packet step.1.0 (record { says = tt; gap = tt; carried = tt })
+by_giver B s transcript the_cause.Restart packet lost t stands step = asked_why transcript.b the_cause.Restart packet step.1.0 (record { says = tt; gap = tt; carried = tt })
+by_giver A s transcript the_cause.Tick packet lost t stands step = asked_why transcript.a the_cause.Tick packet step.1.0 (record { says = tt; gap = tt; carried = tt })
 by_giver B s transcript the_cause.Tick packet lost t stands step = absurd step
 by_giver e s transcript cause packet lost t stands step = end_why e s transcript cause packet lost t stands step
 

@@ -5,11 +5,11 @@ use Rattle.std.specs.Prelude.{⊤}
 use Rattle.runs.specs.Lawful.{log_of, run_lawful}
 use Rattle.runs.specs.Run.{Run}
 use Rattle.ldc_queue.specs.declared.end.ChannelState.TheVariants.{Up}
-use Rattle.channel_laws.specs.WireLog.{WireLog}
+use Rattle.lane_models.specs.WireLog.{WireLog}
 use Rattle.lane_laws.specs.DiskLog.{DiskLog, after, nothing_yet}
-use Rattle.disk_model.specs.DiskEvent.{Asks, Desc, DiskEvent, Done, Finished, Misplaced, Moved, OnWire, Published, Calms, Stored, Switches, Works}
-use Rattle.disk_model.specs.LaneState.{IsShape, LaneState, Shape, fresh}
-use Rattle.disk_model.specs.LaneStep.{LaneStep, ServerWorks}
+use Rattle.lane_models.specs.DiskEvent.{Asks, Desc, DiskEvent, Done, Finished, Misplaced, Moved, OnWire, Published, Calms, Stored, Switches, Works}
+use Rattle.lane_models.specs.LaneState.{IsShape, LaneState, Shape, fresh}
+use Rattle.lane_models.specs.LaneStep.{LaneStep, ServerWorks}
 use Rattle.lane_laws.proofs.Agreeing.{always_agree, server_alive}
 use Rattle.lane_laws.proofs.CarriedRuns.{all_step}
 use Rattle.lane_laws.proofs.LaneCounting.{run_knows}

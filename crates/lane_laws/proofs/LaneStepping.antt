@@ -2,14 +2,14 @@
 use Rattle.std.proofs.Common.{ℕ, List, sym, subst, arith}
 use Rattle.runs.specs.Run.{Run, run_keeps}
 use Rattle.ldc_queue.specs.declared.end.End.TheVariants.{A}
-use Rattle.channel_laws.specs.WireEvent.{Blocked, Idle, Joined, Reset, Sent, Took}
-use Rattle.disk_model.specs.DiskEvent.{DiskEvent, Done, OnWire, Published, Works}
-use Rattle.disk_model.specs.LaneState.{IsShape, LaneState, Shape, fresh}
-use Rattle.disk_model.specs.LaneStep.{LaneStep}
+use Rattle.lane_models.specs.WireEvent.{Blocked, Idle, Joined, Reset, Sent, Took}
+use Rattle.lane_models.specs.DiskEvent.{DiskEvent, Done, OnWire, Published, Works}
+use Rattle.lane_models.specs.LaneState.{IsShape, LaneState, Shape, fresh}
+use Rattle.lane_models.specs.LaneStep.{LaneStep}
 use Rattle.lane_laws.proofs.ClientHearing.{client_takes}
 use Rattle.lane_laws.proofs.LaneViews.{ClientActs, ClientAsked, ClientCalled, ClientStays, ClientView, at_client, lane_view}
-use Rattle.disk_model.specs.ClientState.{ClientState}
-use Rattle.disk_model.specs.ClientStep.{ClientStep}
+use Rattle.lane_models.specs.ClientState.{ClientState}
+use Rattle.lane_models.specs.ClientStep.{ClientStep}
 use Rattle.lane_laws.proofs.ClientSteps.{client_admits, client_blocked, client_completes, client_joined, client_publishes, client_sends}
 use Rattle.lane_laws.specs.Sound.{ClientSound}
 

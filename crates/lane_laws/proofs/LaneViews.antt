@@ -8,19 +8,19 @@ use Rattle.ldc_queue.specs.Transcript.{Utterance}
 use Rattle.ldc_queue.specs.Wire.{peer_of}
 use Rattle.vio_bytes.specs.Place.{put_at}
 use Rattle.vio_tag.specs.declared.cause.Cause.{Cause}
-use Rattle.channel_laws.specs.EndCore.{Begins, EndMove, Renews}
-use Rattle.channel_laws.specs.LaneCore.{reset_move}
-use Rattle.channel_laws.specs.Seeing.{Seen, seen}
-use Rattle.channel_laws.specs.WireEvent.{Blocked, ByRestart, ByScript, ByStep, ByTick, Declines, Giver, Idle, Injected, Joined, Lost, Poked, Reset, Sent, Took, WireEvent, giver}
+use Rattle.lane_models.specs.EndCore.{Begins, EndMove, Renews}
+use Rattle.lane_models.specs.LaneCore.{reset_move}
+use Rattle.lane_models.specs.Seeing.{Seen, seen}
+use Rattle.lane_models.specs.WireEvent.{Blocked, ByRestart, ByScript, ByStep, ByTick, Declines, Giver, Idle, Injected, Joined, Lost, Poked, Reset, Sent, Took, WireEvent, giver}
 use Rattle.cookie_copy.specs.Reach.{Reach}
-use Rattle.disk_model.specs.ClientState.{ClientState, joined_client}
-use Rattle.disk_model.specs.ClientStep.{ClientAdmits, ClientStep}
-use Rattle.disk_model.specs.DiskEvent.{Accepted, Admitted, Asks, Calm, CalmReset, Calms, DiskEvent, Done, Misplaced, OnWire, Published, Started, Stopped, Stored, Switched, Switches, Worked, Works}
-use Rattle.disk_model.specs.LaneState.{LaneState, NearCounts, near_disturbed}
-use Rattle.disk_model.specs.LaneStep.{EndOnWire, LaneStep, ResetBy, CalmStep, ServerWorks, SwitchedStep, WireStep, WorkStep, failed_worked, near_on_wire, near_worked, reach}
-use Rattle.disk_model.specs.ServerState.{ServerState, joined_server, restarted_server}
-use Rattle.disk_model.specs.ServerStep.{ServerStep}
-use Rattle.channel_laws.specs.Blockage.{Blockage, Clear}
+use Rattle.lane_models.specs.ClientState.{ClientState, joined_client}
+use Rattle.lane_models.specs.ClientStep.{ClientAdmits, ClientStep}
+use Rattle.lane_models.specs.DiskEvent.{Accepted, Admitted, Asks, Calm, CalmReset, Calms, DiskEvent, Done, Misplaced, OnWire, Published, Started, Stopped, Stored, Switched, Switches, Worked, Works}
+use Rattle.lane_models.specs.LaneState.{LaneState, NearCounts, near_disturbed}
+use Rattle.lane_models.specs.LaneStep.{EndOnWire, LaneStep, ResetBy, CalmStep, ServerWorks, SwitchedStep, WireStep, WorkStep, failed_worked, near_on_wire, near_worked, reach}
+use Rattle.lane_models.specs.ServerState.{ServerState, joined_server, restarted_server}
+use Rattle.lane_models.specs.ServerStep.{ServerStep}
+use Rattle.lane_models.specs.Blockage.{Blockage, Clear}
 use Rattle.lane_laws.specs.DiskLog.{DiskLog, after, after_failed, after_wire}
 use Rattle.lane_laws.specs.WorkLog.{ClientCounts, ServerCounts}
 
@@ -271,7 +271,7 @@ pub record ClientSide : Type 0 where
   pub counts : Option ClientCounts
 
 abbrev pub client_side : DiskLog → ClientSide
-client_side l = record { utterances = l.transcript.client; blocked = l.blocked.client; done = l.work.done; counts = l.work.client }
+client_side l = record { utterances = l.transcript.a; blocked = l.blocked.client; done = l.work.done; counts = l.work.client }
 
 pub record ServerSide : Type 0 where
   pub utterances : List Utterance
@@ -279,7 +279,7 @@ pub record ServerSide : Type 0 where
   pub counts : Option ServerCounts
 
 abbrev pub server_side : DiskLog → ServerSide
-server_side l = record { utterances = l.transcript.server; blocked = l.blocked.server; counts = l.work.server }
+server_side l = record { utterances = l.transcript.b; blocked = l.blocked.server; counts = l.work.server }
 
 pub client_side_stays : (l : DiskLog) (event : DiskEvent) → Beside A event → client_side (after l event) ≡ client_side l
 client_side_stays l event beside = grind arith

@@ -3,7 +3,7 @@ use Rattle.std.proofs.Common.{◌≡◌, ℕ, zero, suc, ◌*◌, ◌<◌, ◌�
 use Rattle.std.specs.Prelude.{slice_get}
 use Rattle.vdisk_msg.specs.declared.request.Request.{Request}
 use Rattle.vdisk_msg.specs.Requests.{AreSound, after_request}
-use Rattle.channel_laws.proofs.Apart.{some_same}
+use Rattle.lane_models.proofs.Apart.{some_same}
 use Rattle.lane_laws.specs.Blocks.{WritesBlock, Reaches, after_requests, block_at}
 use Rattle.lane_laws.specs.Headline.{LastAmong, LastWrite, NoneAmong}
 use Rattle.lane_laws.proofs.BlockWrites.{after_long, after_missed, after_reached, reaches_or_not}

@@ -2,18 +2,18 @@
 use Rattle.std.proofs.Common.{◌≡◌, ℕ, Bool, true, false, Option, Some, None, List, inl, inr, refl, sym, ap, ◌∙◌, subst, arith}
 use Rattle.ldc_link.specs.Following.{Follows}
 use Rattle.ldc_queue.specs.Transcript.{Utterance}
-use Rattle.disk_model.specs.ClientPutting.{client_holds, client_kind, opened_if, session_behind}
-use Rattle.disk_model.specs.ClientRule as client
-use Rattle.disk_model.specs.ClientState.{ClientSession, ClientState, first_id, opened_session}
-use Rattle.disk_model.specs.ClientStep.{ClientSends}
-use Rattle.disk_model.specs.ClientTaking.{ClientTakes, GoesOn}
-use Rattle.channel_laws.specs.EndPuts.{EndsHandshake, PutKind, put_opens}
-use Rattle.channel_laws.specs.Seeing.{Seen}
-use Rattle.disk_model.specs.ServerPutting.{server_holds}
-use Rattle.disk_model.specs.ServerRule as server
-use Rattle.disk_model.specs.ServerState.{ServerState}
-use Rattle.disk_model.specs.ServerStep.{ServerSends}
-use Rattle.disk_model.specs.ServerTaking.{ServerTakes, GoesOn as ServerGoesOn}
+use Rattle.lane_models.specs.ClientPutting.{client_holds, client_kind, opened_if, session_behind}
+use Rattle.lane_models.specs.ClientRule as client
+use Rattle.lane_models.specs.ClientState.{ClientSession, ClientState, first_id, opened_session}
+use Rattle.lane_models.specs.ClientStep.{ClientSends}
+use Rattle.lane_models.specs.ClientTaking.{ClientTakes, GoesOn}
+use Rattle.lane_models.specs.EndPuts.{EndsHandshake, PutKind, put_opens}
+use Rattle.lane_models.specs.Seeing.{Seen}
+use Rattle.lane_models.specs.ServerPutting.{server_holds}
+use Rattle.lane_models.specs.ServerRule as server
+use Rattle.lane_models.specs.ServerState.{ServerState}
+use Rattle.lane_models.specs.ServerStep.{ServerSends}
+use Rattle.lane_models.specs.ServerTaking.{ServerTakes, GoesOn as ServerGoesOn}
 use Rattle.lane_laws.proofs.ServerSpeaking.{server_holds_link}
 use Rattle.lane_laws.proofs.ClientTaken.{ClientTook, client_took_what}
 use Rattle.lane_laws.proofs.Ruling.{client_may}

@@ -6,17 +6,17 @@ use Rattle.runs.specs.Run.{Run}
 use Rattle.ldc_queue.specs.declared.end.ChannelState.TheVariants.{Up}
 use Rattle.ldc_queue.specs.declared.end.End.TheVariants.{A, B}
 use Rattle.ldc_queue.specs.OneStream.{IsFront}
-use Rattle.channel_laws.specs.Sayings.{heard, said}
-use Rattle.channel_laws.specs.TranscriptLog.{TranscriptLog}
+use Rattle.lane_models.specs.Sayings.{heard, said}
+use Rattle.lane_models.specs.TranscriptLog.{TranscriptLog}
 use Rattle.lane_laws.specs.Agreement.{ServerCountsAgree, WorkAgrees}
 use Rattle.lane_laws.specs.DiskLog.{DiskLog, after, nothing_yet}
 use Rattle.lane_laws.specs.WorkLog.{ServerCounts}
-use Rattle.disk_model.specs.ClientState.{ClientSession}
-use Rattle.disk_model.specs.DiskEvent.{DiskEvent}
-use Rattle.disk_model.specs.LaneState.{IsShape, LaneState, Shape, fresh}
-use Rattle.disk_model.specs.LaneStep.{LaneStep}
-use Rattle.channel_laws.specs.Ranges.{wrapped}
-use Rattle.disk_model.specs.ServerState.{ServerSession, SlotRange, Work}
+use Rattle.lane_models.specs.ClientState.{ClientSession}
+use Rattle.lane_models.specs.DiskEvent.{DiskEvent}
+use Rattle.lane_models.specs.LaneState.{IsShape, LaneState, Shape, fresh}
+use Rattle.lane_models.specs.LaneStep.{LaneStep}
+use Rattle.lane_models.specs.Ranges.{wrapped}
+use Rattle.lane_models.specs.ServerState.{ServerSession, SlotRange, Work}
 use Rattle.lane_laws.proofs.Agreeing.{asked_within, client_some, front_sum, one_ring}
 use Rattle.lane_laws.proofs.LaneCores.{transcript_is}
 use Rattle.lane_laws.proofs.FlightServer.{FewPieces}
@@ -29,7 +29,7 @@ use Rattle.lane_laws.specs.Counted.{InServerOrder, NothingAsked, RangeStands, Se
 use Rattle.lane_laws.specs.LaneTranscripts.{transcript_behind}
 use Rattle.lane_laws.specs.Remaining.{asked_in, requests_left, serving_left, total, unfinished, work_left}
 use Rattle.lane_laws.specs.Sound.{SessionInOrder}
-use Rattle.channel_laws.proofs.Apart.{true_is_false}
+use Rattle.lane_models.proofs.Apart.{true_is_false}
 use Rattle.lane_laws.proofs.ServerPutCounting.{work_most}
 
 -- THE REQUESTS of two ends that are up: what remains of them, and two packets for each INFO that isn't answered, are at most 16 for each
@@ -67,7 +67,7 @@ record Serving (s : LaneState) (l : DiskLog) (session : ServerSession) : Type 0 
   is : l.work.server ≡ Some counts
   agree : ServerCountsAgree session counts
   work : WorkAgrees s.server.work counts
-  order : InServerOrder l.shape.slots session counts l.transcript.server
+  order : InServerOrder l.shape.slots session counts l.transcript.b
 
 serving_of : (s : LaneState) (l : DiskLog) (session : ServerSession) → Knows s l → s.server.session ≡ Some session → Serving s l session
 serving_of s l session knows is = grind arith
@@ -95,18 +95,18 @@ all_outstanding infos acked announced answers said_count said_sum heard_count he
 -- WHERE BOTH SESSIONS are open
 both_open : (shape : Shape) (events : List DiskEvent) (s : LaneState) (c : ClientSession) (v : ServerSession) → IsShape shape → Run LaneStep (fresh shape) events s → s.wire.forged ≡ false
     → s.wire.wire.end_a ≡ Up → s.wire.wire.end_b ≡ Up → s.client.session ≡ Some c → s.server.session ≡ Some v → FewPieces s.server.work
-    → RequestsLeft (Some c) (Some v) s.server.work (length s.client.pending) (range_count 2 (heard (log_of after (nothing_yet shape) events).transcript.client))
+    → RequestsLeft (Some c) (Some v) s.server.work (length s.client.pending) (range_count 2 (heard (log_of after (nothing_yet shape) events).transcript.a))
 both_open shape events s c v sound run clean up_a up_b is_c is_v pieces =
     let l = log_of after (nothing_yet shape) events in
     let slots = l.shape.slots in
     let knows : Knows s l = run_knows shape events s sound run in
     let transcript : l.transcript ≡ transcript_behind events = transcript_is (nothing_yet shape) events in
-    let front_b : IsFront (heard l.transcript.server) (said l.transcript.client) = subst (λ (t : TranscriptLog). IsFront (heard t.server) (said t.client)) (sym transcript) (heard_messages shape events s B sound run clean up_b) in
-    let front_a : IsFront (heard l.transcript.client) (said l.transcript.server) = subst (λ (t : TranscriptLog). IsFront (heard t.client) (said t.server)) (sym transcript) (heard_messages shape events s A sound run clean up_a) in
+    let front_b : IsFront (heard l.transcript.b) (said l.transcript.a) = subst (λ (t : TranscriptLog). IsFront (heard t.b) (said t.a)) (sym transcript) (heard_messages shape events s B sound run clean up_b) in
+    let front_a : IsFront (heard l.transcript.a) (said l.transcript.b) = subst (λ (t : TranscriptLog). IsFront (heard t.a) (said t.b)) (sym transcript) (heard_messages shape events s A sound run clean up_a) in
     let order : SessionInOrder (length s.client.pending) c = in_order (length s.client.pending) s.client.session c is_c knows.all.sound.counts in
-    let announced : c.announced ≡ range_sum slots 1 (said l.transcript.client) = sym (ap announced_of is_c) ∙ knows.counted.client.announced in
-    let acked : c.acked ≡ range_sum slots 2 (heard l.transcript.client) = sym (ap acked_of is_c) ∙ knows.counted.client.acked in
-    let infos : c.infos ≡ range_count 1 (said l.transcript.client) = sym (ap infos_of is_c) ∙ knows.counted.client.infos in
+    let announced : c.announced ≡ range_sum slots 1 (said l.transcript.a) = sym (ap announced_of is_c) ∙ knows.counted.client.announced in
+    let acked : c.acked ≡ range_sum slots 2 (heard l.transcript.a) = sym (ap acked_of is_c) ∙ knows.counted.client.acked in
+    let infos : c.infos ≡ range_count 1 (said l.transcript.a) = sym (ap infos_of is_c) ∙ knows.counted.client.infos in
     let serves : Serving s l v = serving_of s l v knows is_v in
     let d = serves.counts in
     let within = asked_within shape events s v sound run clean up_b is_v in
@@ -117,33 +117,33 @@ both_open shape events s c v sound run clean up_a up_b is_c is_v pieces =
     let left : unfinished v + v.finished ≡ v.asked = left_of v.asked v.finished (omega (arith, within.small)) fetched in
     let serving : work_left (unfinished v) s.server.work ≤ 10 * unfinished v =
     serves_most s.server.work (unfinished v) pieces (λ some. more_left (unfinished v) v.finished v.asked d.finished d.asked left finished asked (working_more s.server.work d serves.work serves.order.descs some)) in
-    let outstanding : c.infos + c.acked ≤ c.announced + range_count 2 (heard l.transcript.client) =
-    all_outstanding c.infos c.acked c.announced (range_count 2 (heard l.transcript.client)) (range_count 1 (said l.transcript.client)) (range_sum slots 1 (said l.transcript.client)) (range_count 1 (heard l.transcript.server))
-    (range_sum slots 1 (heard l.transcript.server)) (range_count 2 (said l.transcript.server)) (range_sum slots 2 (said l.transcript.server)) (range_sum slots 2 (heard l.transcript.client)) (one_range v.range) infos acked
-    announced (front_counts slots 1 (heard l.transcript.server) (said l.transcript.client) front_b) (front_counts slots 2 (heard l.transcript.client) (said l.transcript.server) front_a) serves.order.replies
+    let outstanding : c.infos + c.acked ≤ c.announced + range_count 2 (heard l.transcript.a) =
+    all_outstanding c.infos c.acked c.announced (range_count 2 (heard l.transcript.a)) (range_count 1 (said l.transcript.a)) (range_sum slots 1 (said l.transcript.a)) (range_count 1 (heard l.transcript.b))
+    (range_sum slots 1 (heard l.transcript.b)) (range_count 2 (said l.transcript.b)) (range_sum slots 2 (said l.transcript.b)) (range_sum slots 2 (heard l.transcript.a)) (one_range v.range) infos acked
+    announced (front_counts slots 1 (heard l.transcript.b) (said l.transcript.a) front_b) (front_counts slots 2 (heard l.transcript.a) (said l.transcript.b) front_a) serves.order.replies
     (omega (arith, range_more slots v.range d serves.order.range, serves.order.asked, serves.order.answered)) in
-    all_requests (length s.client.pending) c.completed c.acked c.announced (one_if c.announcing) c.published c.infos (range_count 2 (heard l.transcript.client)) v.asked v.finished (work_left (unfinished v) s.server.work) order.completed
-    (omega (arith, acked, front_sum slots 2 (heard l.transcript.client) (said l.transcript.server) front_a, serves.order.answered, serves.order.finished, finished)) fetched
-    (omega (arith, announced, front_sum slots 1 (heard l.transcript.server) (said l.transcript.client) front_b, within.asked)) (own_within c.announcing c.announced c.published order.announced order.own) order.published outstanding (omega (arith, serving, left))
+    all_requests (length s.client.pending) c.completed c.acked c.announced (one_if c.announcing) c.published c.infos (range_count 2 (heard l.transcript.a)) v.asked v.finished (work_left (unfinished v) s.server.work) order.completed
+    (omega (arith, acked, front_sum slots 2 (heard l.transcript.a) (said l.transcript.b) front_a, serves.order.answered, serves.order.finished, finished)) fetched
+    (omega (arith, announced, front_sum slots 1 (heard l.transcript.b) (said l.transcript.a) front_b, within.asked)) (own_within c.announcing c.announced c.published order.announced order.own) order.published outstanding (omega (arith, serving, left))
 
 -- where the client's alone is open
 client_alone : (shape : Shape) (events : List DiskEvent) (s : LaneState) (c : ClientSession) → IsShape shape → Run LaneStep (fresh shape) events s → s.wire.forged ≡ false
     → s.wire.wire.end_a ≡ Up → s.client.session ≡ Some c → s.server.session ≡ None
-    → RequestsLeft (Some c) None s.server.work (length s.client.pending) (range_count 2 (heard (log_of after (nothing_yet shape) events).transcript.client))
+    → RequestsLeft (Some c) None s.server.work (length s.client.pending) (range_count 2 (heard (log_of after (nothing_yet shape) events).transcript.a))
 client_alone shape events s c sound run clean up_a is_c is_v =
     let l = log_of after (nothing_yet shape) events in
     let slots = l.shape.slots in
     let knows : Knows s l = run_knows shape events s sound run in
     let transcript : l.transcript ≡ transcript_behind events = transcript_is (nothing_yet shape) events in
-    let front_a : IsFront (heard l.transcript.client) (said l.transcript.server) = subst (λ (t : TranscriptLog). IsFront (heard t.client) (said t.server)) (sym transcript) (heard_messages shape events s A sound run clean up_a) in
+    let front_a : IsFront (heard l.transcript.a) (said l.transcript.b) = subst (λ (t : TranscriptLog). IsFront (heard t.a) (said t.b)) (sym transcript) (heard_messages shape events s A sound run clean up_a) in
     let order : SessionInOrder (length s.client.pending) c = in_order (length s.client.pending) s.client.session c is_c knows.all.sound.counts in
-    let announced : c.announced ≡ range_sum slots 1 (said l.transcript.client) = sym (ap announced_of is_c) ∙ knows.counted.client.announced in
-    let acked : c.acked ≡ range_sum slots 2 (heard l.transcript.client) = sym (ap acked_of is_c) ∙ knows.counted.client.acked in
-    let infos : c.infos ≡ range_count 1 (said l.transcript.client) = sym (ap infos_of is_c) ∙ knows.counted.client.infos in
-    let nothing : NothingAsked slots l.transcript.server = subst (λ (p : Option ServerSession). ServerOrder slots p l.work.server l.transcript.server) is_v knows.counted.server.order in
-    let none : c.acked ≡ 0 = omega (arith, acked, front_sum slots 2 (heard l.transcript.client) (said l.transcript.server) front_a, nothing.answered) in
-    all_requests (length s.client.pending) c.completed c.acked c.announced (one_if c.announcing) c.published c.infos (range_count 2 (heard l.transcript.client)) 0 0 0 order.completed (omega (arith, none)) (omega arith) (omega arith)
-    (own_within c.announcing c.announced c.published order.announced order.own) order.published (omega (arith, none, infos, announced, counts_fewer slots 1 (said l.transcript.client))) (omega arith)
+    let announced : c.announced ≡ range_sum slots 1 (said l.transcript.a) = sym (ap announced_of is_c) ∙ knows.counted.client.announced in
+    let acked : c.acked ≡ range_sum slots 2 (heard l.transcript.a) = sym (ap acked_of is_c) ∙ knows.counted.client.acked in
+    let infos : c.infos ≡ range_count 1 (said l.transcript.a) = sym (ap infos_of is_c) ∙ knows.counted.client.infos in
+    let nothing : NothingAsked slots l.transcript.b = subst (λ (p : Option ServerSession). ServerOrder slots p l.work.server l.transcript.b) is_v knows.counted.server.order in
+    let none : c.acked ≡ 0 = omega (arith, acked, front_sum slots 2 (heard l.transcript.a) (said l.transcript.b) front_a, nothing.answered) in
+    all_requests (length s.client.pending) c.completed c.acked c.announced (one_if c.announcing) c.published c.infos (range_count 2 (heard l.transcript.a)) 0 0 0 order.completed (omega (arith, none)) (omega arith) (omega arith)
+    (own_within c.announcing c.announced c.published order.announced order.own) order.published (omega (arith, none, infos, announced, counts_fewer slots 1 (said l.transcript.a))) (omega arith)
 
 -- BOTH ENDS ARE UP
 none_left : (work : Option Work) (pending answers : ℕ) → RequestsLeft None None work pending answers
@@ -151,9 +151,9 @@ none_left work pending answers = omega arith
 
 pub by_sessions : (o : Option ClientSession) (p : Option ServerSession) (shape : Shape) (events : List DiskEvent) (s : LaneState) → IsShape shape → Run LaneStep (fresh shape) events s → s.wire.forged ≡ false
     → s.wire.wire.end_a ≡ Up → s.wire.wire.end_b ≡ Up → s.client.session ≡ o → s.server.session ≡ p → FewPieces s.server.work
-    → RequestsLeft o p s.server.work (length s.client.pending) (range_count 2 (heard (log_of after (nothing_yet shape) events).transcript.client))
+    → RequestsLeft o p s.server.work (length s.client.pending) (range_count 2 (heard (log_of after (nothing_yet shape) events).transcript.a))
 by_sessions None None shape events s sound run clean up_a up_b is_c is_v pieces =
-    none_left s.server.work (length s.client.pending) (range_count 2 (heard (log_of after (nothing_yet shape) events).transcript.client))
+    none_left s.server.work (length s.client.pending) (range_count 2 (heard (log_of after (nothing_yet shape) events).transcript.a))
 by_sessions (Some c) None shape events s sound run clean up_a up_b is_c is_v pieces = client_alone shape events s c sound run clean up_a is_c is_v
 by_sessions (Some c) (Some v) shape events s sound run clean up_a up_b is_c is_v pieces = both_open shape events s c v sound run clean up_a up_b is_c is_v pieces
 by_sessions None (Some v) shape events s sound run clean up_a up_b is_c is_v pieces =

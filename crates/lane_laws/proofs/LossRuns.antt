@@ -2,12 +2,12 @@
 use Rattle.std.proofs.Common.{List, map, ap, subst}
 use Rattle.runs.specs.Lawful.{log_of}
 use Rattle.runs.specs.Run.{Run}
-use Rattle.channel_laws.specs.WireLog.{WireLog}
-use Rattle.channel_laws.proofs.LossesTold.{loss_kept, loss_told}
-use Rattle.disk_model.specs.DiskEvent.{DiskEvent}
-use Rattle.disk_model.specs.LaneState.{IsShape, LaneState, Shape, fresh}
-use Rattle.disk_model.specs.LaneStep.{LaneStep}
-use Rattle.disk_model.specs.Offering.{client_offer, server_offer}
+use Rattle.lane_models.specs.WireLog.{WireLog}
+use Rattle.lane_models.proofs.LossesTold.{loss_kept, loss_told}
+use Rattle.lane_models.specs.DiskEvent.{DiskEvent}
+use Rattle.lane_models.specs.LaneState.{IsShape, LaneState, Shape, fresh}
+use Rattle.lane_models.specs.LaneStep.{LaneStep}
+use Rattle.lane_models.specs.Offering.{client_offer, server_offer}
 use Rattle.lane_laws.specs.ChannelEnds.{core_event, core_of}
 use Rattle.lane_laws.specs.DiskLog.{after, nothing_yet}
 use Rattle.lane_laws.specs.LossTold.{TellsLoss}

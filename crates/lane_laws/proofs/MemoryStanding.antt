@@ -14,10 +14,10 @@ use Rattle.vdisk_msg.specs.Requested.{buffer_cookies, buffer_place, descriptor_o
 use Rattle.vdisk_msg.specs.Requests.{defect, given_count}
 use Rattle.vio_bytes.proofs.Putting.{length-put_at}
 use Rattle.vio_bytes.specs.Place.{put_at}
-use Rattle.disk_model.specs.ClientStep.{filled_buffer, published_memory}
-use Rattle.disk_model.specs.ServerState.{ServerState}
+use Rattle.lane_models.specs.ClientStep.{filled_buffer, published_memory}
+use Rattle.lane_models.specs.ServerState.{ServerState}
 use Rattle.cookie_copy.specs.Reach.{Reach}
-use Rattle.disk_model.specs.ServerWork.{slots_cookies, with_word}
+use Rattle.lane_models.specs.ServerWork.{slots_cookies, with_word}
 use Rattle.lane_laws.specs.MemoryStands.{memory_long}
 
 -- WRITES THROUGH COOKIES keep the length

@@ -13,22 +13,22 @@ use Rattle.vio_bytes.proofs.Ranges.{length-range_at}
 use Rattle.vio_bytes.proofs.Putting.{length-put_at}
 use Rattle.vio_bytes.specs.Place.{put_at}
 use Rattle.vio_tag.specs.declared.cause.Cause.{Cause}
-use Rattle.channel_laws.specs.WireEvent.{Blocked, Idle, Joined, Reset, Sent, Took}
-use Rattle.channel_laws.proofs.Apart.{some_same}
+use Rattle.lane_models.specs.WireEvent.{Blocked, Idle, Joined, Reset, Sent, Took}
+use Rattle.lane_models.proofs.Apart.{some_same}
 use Rattle.lane_laws.specs.RequestLaws.{carried_count}
-use Rattle.disk_model.specs.ClientPutting.{client_opens}
-use Rattle.disk_model.specs.ClientRule.{Publishes, client_rule}
-use Rattle.disk_model.specs.ClientState.{ClientState, slot_in}
-use Rattle.disk_model.specs.ClientStep.{ClientAdmits, ClientCompletes, ClientPublishes, ClientSends, ClientStep, completed_slot}
-use Rattle.disk_model.specs.DiskEvent.{Admitted, Desc, DiskEvent, Finished, Moved, OnWire, Stored, Works}
-use Rattle.disk_model.specs.LaneState.{LaneState}
-use Rattle.disk_model.specs.LaneStep.{LaneStep}
-use Rattle.channel_laws.specs.Seeing.{seen}
-use Rattle.disk_model.specs.ServerRule as server_rules
-use Rattle.disk_model.specs.ServerState.{Ends, Gathers, Gives, Progress, ServerSession, ServerState, Work}
-use Rattle.disk_model.specs.ServerStep.{ServerStep, ServerFails, WorkFails}
+use Rattle.lane_models.specs.ClientPutting.{client_opens}
+use Rattle.lane_models.specs.ClientRule.{Publishes, client_rule}
+use Rattle.lane_models.specs.ClientState.{ClientState, slot_in}
+use Rattle.lane_models.specs.ClientStep.{ClientAdmits, ClientCompletes, ClientPublishes, ClientSends, ClientStep, completed_slot}
+use Rattle.lane_models.specs.DiskEvent.{Admitted, Desc, DiskEvent, Finished, Moved, OnWire, Stored, Works}
+use Rattle.lane_models.specs.LaneState.{LaneState}
+use Rattle.lane_models.specs.LaneStep.{LaneStep}
+use Rattle.lane_models.specs.Seeing.{seen}
+use Rattle.lane_models.specs.ServerRule as server_rules
+use Rattle.lane_models.specs.ServerState.{Ends, Gathers, Gives, Progress, ServerSession, ServerState, Work}
+use Rattle.lane_models.specs.ServerStep.{ServerStep, ServerFails, WorkFails}
 use Rattle.cookie_copy.specs.Reach.{Reach}
-use Rattle.disk_model.specs.ServerWork.{EndFails, MovesIn, data_cookies, given_memory, header_of, slot_at, with_done, with_status}
+use Rattle.lane_models.specs.ServerWork.{EndFails, MovesIn, data_cookies, given_memory, header_of, slot_at, with_done, with_status}
 use Rattle.vdisk_msg.specs.Requested as asks_for
 use Rattle.lane_laws.proofs.MemoryStanding.{cleared_long, freed_long, given_within, moved_long, published_long, word_long}
 use Rattle.lane_laws.proofs.Requesting.{held_kept}

@@ -7,11 +7,11 @@ use Rattle.vio_tag.specs.declared.message.Message.{Message}
 use Rattle.vio_tag.specs.declared.message.MsgBody.TheVariants.{DringData}
 use Rattle.vio_tag.specs.Fault.{first_fault}
 use Rattle.vio_tag.specs.Spelling.{SpellsBody, envelope_at, envelope_code}
-use Rattle.disk_model.specs.ClientState.{ClientState}
-use Rattle.channel_laws.specs.Ranges.{is_other}
-use Rattle.disk_model.specs.ServerState.{ServerState, SlotRange}
-use Rattle.channel_laws.specs.ResetSays.{IsOther, MessageSays}
-use Rattle.channel_laws.proofs.HandshakeResets.{Spelled}
+use Rattle.lane_models.specs.ClientState.{ClientState}
+use Rattle.lane_models.specs.Ranges.{is_other}
+use Rattle.lane_models.specs.ServerState.{ServerState, SlotRange}
+use Rattle.lane_models.specs.ResetSays.{IsOther, MessageSays}
+use Rattle.lane_models.proofs.HandshakeResets.{Spelled}
 use Rattle.lane_laws.proofs.ClientAnswers as client
 use Rattle.lane_laws.proofs.ServerAnswers as server
 

@@ -8,18 +8,18 @@ use Rattle.ldc_queue.specs.declared.end.End.{End}
 use Rattle.ldc_queue.specs.declared.end.End.TheVariants.{A, B}
 use Rattle.ldc_queue.specs.Wire.{peer_behind}
 use Rattle.vio_tag.specs.declared.cause.Cause.{Cause}
-use Rattle.channel_laws.specs.WireEvent.{Joined, Reset, Sent, Took, WireEvent}
-use Rattle.channel_laws.specs.WireLog.{WireLog, wire_moved}
-use Rattle.channel_laws.proofs.Apart.{ends_differ}
+use Rattle.lane_models.specs.WireEvent.{Joined, Reset, Sent, Took, WireEvent}
+use Rattle.lane_models.specs.WireLog.{WireLog, wire_moved}
+use Rattle.lane_models.proofs.Apart.{ends_differ}
 use Rattle.lane_laws.specs.Agreement.{NearAgrees}
 use Rattle.lane_laws.specs.DiskLog.{DiskLog, after, nothing_yet}
 use Rattle.lane_laws.specs.NearLog.{stored_more}
-use Rattle.disk_model.specs.ClientState.{ClientState}
-use Rattle.disk_model.specs.DiskEvent.{Accepted, Admitted, Asks, Desc, DiskEvent, Done, Finished, Misplaced, Moved, Off, OnWire, Published, Calms, Started, Stopped, Stored, Switches, Worked, Works}
-use Rattle.disk_model.specs.LaneState.{IsShape, LaneState, NearCounts, Shape, fresh, near_disturbed, risen}
-use Rattle.disk_model.specs.LaneStep.{LaneStep, WireStep, WorkStep, stored_blocks}
-use Rattle.channel_laws.specs.Seeing.{seen}
-use Rattle.disk_model.specs.ServerState.{ServerState}
+use Rattle.lane_models.specs.ClientState.{ClientState}
+use Rattle.lane_models.specs.DiskEvent.{Accepted, Admitted, Asks, Desc, DiskEvent, Done, Finished, Misplaced, Moved, Off, OnWire, Published, Calms, Started, Stopped, Stored, Switches, Worked, Works}
+use Rattle.lane_models.specs.LaneState.{IsShape, LaneState, NearCounts, Shape, fresh, near_disturbed, risen}
+use Rattle.lane_models.specs.LaneStep.{LaneStep, WireStep, WorkStep, stored_blocks}
+use Rattle.lane_models.specs.Seeing.{seen}
+use Rattle.lane_models.specs.ServerState.{ServerState}
 use Rattle.lane_laws.proofs.RingLeaves.{OpensNot}
 use Rattle.lane_laws.proofs.RingRuns.{before as clean_before}
 use Rattle.lane_laws.proofs.SlotsStepping.{StepFacts}

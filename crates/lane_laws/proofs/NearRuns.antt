@@ -9,11 +9,11 @@ use Rattle.vio_bytes.specs.Range.{range_at}
 use Rattle.runs.specs.Lawful.{log_of}
 use Rattle.runs.specs.Run.{Run}
 use Rattle.lane_laws.specs.DiskLog.{DiskLog, after, nothing_yet}
-use Rattle.disk_model.specs.ClientStep.{given_bytes}
-use Rattle.disk_model.specs.DiskEvent.{DiskEvent, Misplaced, Stored, Works}
-use Rattle.disk_model.specs.LaneState.{IsShape, LaneState, Shape, fresh}
-use Rattle.disk_model.specs.LaneStep.{LaneStep, ServerWorks}
-use Rattle.channel_laws.specs.WireLog.{WireLog}
+use Rattle.lane_models.specs.ClientStep.{given_bytes}
+use Rattle.lane_models.specs.DiskEvent.{DiskEvent, Misplaced, Stored, Works}
+use Rattle.lane_models.specs.LaneState.{IsShape, LaneState, Shape, fresh}
+use Rattle.lane_models.specs.LaneStep.{LaneStep, ServerWorks}
+use Rattle.lane_models.specs.WireLog.{WireLog}
 use Rattle.lane_laws.proofs.CarriedRuns.{all_step}
 use Rattle.lane_laws.proofs.RingRuns.{before as clean_before}
 use Rattle.lane_laws.proofs.SlotsStepping.{StepFacts}

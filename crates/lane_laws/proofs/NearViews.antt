@@ -6,8 +6,8 @@ use Rattle.vdisk_msg.specs.Requests.{AreSound, after_request, written}
 use Rattle.vio_bytes.proofs.Putting.{length-put_at}
 use Rattle.vio_bytes.specs.Place.{put_at}
 use Rattle.vio_bytes.specs.Range.{range_at}
-use Rattle.disk_model.specs.ServerState.{Ends, Progress, Work, Writes}
-use Rattle.disk_model.specs.ServerWork.{unit_length}
+use Rattle.lane_models.specs.ServerState.{Ends, Progress, Work, Writes}
+use Rattle.lane_models.specs.ServerWork.{unit_length}
 use Rattle.lane_laws.proofs.MemorySteps.{got_sound}
 use Rattle.lane_laws.specs.Contents.{ContentsStand, ProgressIs}
 use Rattle.lane_laws.specs.ImageStep.{front_done}

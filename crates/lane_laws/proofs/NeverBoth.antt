@@ -7,16 +7,16 @@ use Rattle.ldc_link.specs.declared.phase.Role.TheVariants.{Initiator}
 use Rattle.ldc_queue.specs.Transcript.{Utterance}
 use Rattle.vio_tag.specs.declared.message.Message.{Message}
 use Rattle.lane_laws.specs.WorkLog.{ServerCounts}
-use Rattle.disk_model.specs.ClientPutting.{client_holds}
-use Rattle.disk_model.specs.ClientRule as client
-use Rattle.disk_model.specs.ClientState.{ClientState}
-use Rattle.disk_model.specs.LaneState.{Shape}
-use Rattle.channel_laws.specs.Seeing.{Seen}
-use Rattle.disk_model.specs.ServerPutting.{server_holds}
-use Rattle.disk_model.specs.ServerRule as server
-use Rattle.disk_model.specs.ServerState.{ServerState}
+use Rattle.lane_models.specs.ClientPutting.{client_holds}
+use Rattle.lane_models.specs.ClientRule as client
+use Rattle.lane_models.specs.ClientState.{ClientState}
+use Rattle.lane_models.specs.LaneState.{Shape}
+use Rattle.lane_models.specs.Seeing.{Seen}
+use Rattle.lane_models.specs.ServerPutting.{server_holds}
+use Rattle.lane_models.specs.ServerRule as server
+use Rattle.lane_models.specs.ServerState.{ServerState}
 use Rattle.lane_laws.proofs.RulesFree.{ServerFree, server_free}
-use Rattle.channel_laws.specs.Standing.{EndStands}
+use Rattle.lane_models.specs.Standing.{EndStands}
 use Rattle.lane_laws.specs.ChannelEnds.{client_core}
 use Rattle.lane_laws.specs.Counted.{ServerCounted}
 

@@ -3,12 +3,12 @@ use Rattle.std.proofs.Common.{◌≡◌, true, false, Option, Some, None, List, 
 use Rattle.runs.specs.Lawful.{Lawful, lawful_split, log_of}
 use Rattle.ldc_queue.specs.declared.end.End.{End}
 use Rattle.ldc_queue.specs.declared.end.End.TheVariants.{A, B}
-use Rattle.disk_model.specs.DiskEvent.{Accepted, Asks, Desc, DiskEvent, Finished, Moved, OnWire, Published, Stopped, Stored, Switches, Worked, Works}
+use Rattle.lane_models.specs.DiskEvent.{Accepted, Asks, Desc, DiskEvent, Finished, Moved, OnWire, Published, Stopped, Stored, Switches, Worked, Works}
 use Rattle.lane_laws.specs.DiskLog.{DiskLog, after, nothing_yet}
-use Rattle.disk_model.specs.LaneState.{Shape}
+use Rattle.lane_models.specs.LaneState.{Shape}
 use Rattle.lane_laws.specs.May.{IsLawful, May}
-use Rattle.channel_laws.specs.WireAt.{IsUp}
-use Rattle.channel_laws.specs.WireEvent.{Injected, Joined, Lost, Reset, Sent, Took}
+use Rattle.lane_models.specs.WireAt.{IsUp}
+use Rattle.lane_models.specs.WireEvent.{Injected, Joined, Lost, Reset, Sent, Took}
 use Rattle.lane_laws.specs.WorkLog.{ClientCounts, ServerCounts, WorkLog, change_client, change_server}
 use Rattle.lane_laws.proofs.SlotsStepping.{behind_up, upset_not}
 use Rattle.lane_laws.specs.NewSessions.{EndsSessions, OpensAmong, OpensAt, WorkOf}

@@ -8,8 +8,8 @@ use Rattle.vdisk_msg.specs.Requested.{ring_pages}
 use Rattle.vio_tag.proofs.Widths.{registration_has_widths}
 use Rattle.vio_tag.specs.Form.{AreCookies, BodyHasWidths}
 use Rattle.vio_handshake.specs.Messages.{own_ring}
-use Rattle.channel_laws.specs.OwnMemory.{filled, page_cookies}
-use Rattle.disk_model.specs.Offering.{client_offer, own_cookies}
+use Rattle.lane_models.specs.OwnMemory.{filled, page_cookies}
+use Rattle.lane_models.specs.Offering.{client_offer, own_cookies}
 
 -- FOURTEEN COOKIES, the first of them these
 pub filled_long : (n : ℕ) (cookies : List Cookie) → length (filled n cookies) ≡ n

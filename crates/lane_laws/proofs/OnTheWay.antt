@@ -14,20 +14,20 @@ use Rattle.ldc_queue.specs.Numbered.{numbered}
 use Rattle.ldc_queue.specs.OneStream.{IsFront, OneWay, live}
 use Rattle.ldc_queue.specs.Transcript.{Utterance, numbered_heard, numbered_said}
 use Rattle.lane_laws.specs.Agreement.{ServerAgrees}
-use Rattle.disk_model.specs.DiskEvent.{DiskEvent}
+use Rattle.lane_models.specs.DiskEvent.{DiskEvent}
 use Rattle.lane_laws.specs.DiskLog.{DiskLog, after, nothing_yet}
-use Rattle.disk_model.specs.LaneState.{IsShape, LaneState, Shape, fresh}
-use Rattle.disk_model.specs.LaneStep.{LaneStep}
-use Rattle.channel_laws.specs.Ranges.{wrapped}
+use Rattle.lane_models.specs.LaneState.{IsShape, LaneState, Shape, fresh}
+use Rattle.lane_models.specs.LaneStep.{LaneStep}
+use Rattle.lane_models.specs.Ranges.{wrapped}
 use Rattle.dring.specs.Slots.{range_length}
-use Rattle.channel_laws.specs.Sayings.{heard, said}
-use Rattle.disk_model.specs.ServerState.{ServerSession, Work}
-use Rattle.channel_laws.specs.TranscriptLog.{TranscriptLog}
-use Rattle.channel_laws.specs.WireLog.{WireLog}
+use Rattle.lane_models.specs.Sayings.{heard, said}
+use Rattle.lane_models.specs.ServerState.{ServerSession, Work}
+use Rattle.lane_models.specs.TranscriptLog.{TranscriptLog}
+use Rattle.lane_models.specs.WireLog.{WireLog}
 use Rattle.lane_laws.specs.WorkLog.{ClientCounts, ServerCounts, length_in, one_in}
-use Rattle.channel_laws.specs.Messages.{end_slot_of, is_range, range_if, seq_of, start_slot_of}
-use Rattle.channel_laws.proofs.HandshakesPlaced.{up_or}
-use Rattle.channel_laws.proofs.Sessions.{open_heard}
+use Rattle.lane_models.specs.Messages.{end_slot_of, is_range, range_if, seq_of, start_slot_of}
+use Rattle.lane_models.proofs.HandshakesPlaced.{up_or}
+use Rattle.lane_models.proofs.Sessions.{open_heard}
 use Rattle.lane_laws.proofs.AckedFinished.{same_ranges}
 use Rattle.lane_laws.proofs.Agreeing.{client_some}
 use Rattle.lane_laws.proofs.LaneCores.{shape_of, transcript_is}
@@ -40,7 +40,7 @@ use Rattle.lane_laws.specs.Counted.{ServerOrder, range_count, range_sum}
 use Rattle.lane_laws.specs.LaneTranscripts.{transcript_behind}
 use Rattle.lane_laws.specs.OnTheWay.{NameAll, OnTheWay, SeqsFrom, WaitsOrLost, answered_count, asked_count, expected_by, ranges_behind}
 use Rattle.lane_laws.specs.ChannelEnds.{client_core}
-use Rattle.channel_laws.proofs.NextPacket.{none_of}
+use Rattle.lane_models.proofs.NextPacket.{none_of}
 
 same_names : (slots from other to goal : ℕ) (messages : List (List ℕ)) → from ≡ other → to ≡ goal → NameAll slots from to messages → NameAll slots other goal messages
 same_names slots from other to goal messages begins ends names =
@@ -196,8 +196,8 @@ server_up shape events s sound run clean up_a now =
     elim (up_or s.wire.wire.end_b) [
       | inl up ↦ up
       | inr not ↦
-          let none : heard l.transcript.client ≡ [] = ap (λ (t : TranscriptLog). heard t.client) (transcript_is (nothing_yet shape) events) ∙ unheard_client shape events s sound run clean_s up_a not in
-          absurd (open_heard Initiator (client_core s.client) l.transcript.client (record { stands = knows.rests.client.stands; rests = knows.rests.client.rests }) now none)
+          let none : heard l.transcript.a ≡ [] = ap (λ (t : TranscriptLog). heard t.a) (transcript_is (nothing_yet shape) events) ∙ unheard_client shape events s sound run clean_s up_a not in
+          absurd (open_heard Initiator (client_core s.client) l.transcript.a (record { stands = knows.rests.client.stands; rests = knows.rests.client.rests }) now none)
     ]
 
 -- ALL OF IT
@@ -217,31 +217,31 @@ on_the_way shape events s k sound run clean is up =
     let client = counted_client shape s l shape_is knows in
     let server = counted_server shape s l shape_is knows in
     let counts = same_ranges s.client.session l.work.done l.work.client k is client.agrees in
-    let place : PlaceIs shape.slots s.server.session l.work.server l.transcript.server = place_is shape.slots s.server.session s.server.work l.work.server l.transcript.server server.order server.agrees in
+    let place : PlaceIs shape.slots s.server.session l.work.server l.transcript.b = place_is shape.slots s.server.session s.server.work l.work.server l.transcript.b server.order server.agrees in
     let tells = they_tell shape events s sound run clean in
-    let asks : EachSaid Initiator shape.slots 0 0 (said l.transcript.client) = subst (λ (x : Shape). EachSaid Initiator x.slots 0 0 (said l.transcript.client)) shape_is tells.client in
-    let answers : EachSaid Responder shape.slots 0 0 (said l.transcript.server) = subst (λ (x : Shape). EachSaid Responder x.slots 0 0 (said l.transcript.server)) shape_is tells.server in
-    let front_a : IsFront (heard l.transcript.client) (said l.transcript.server) =
-    subst (λ (t : TranscriptLog). IsFront (heard t.client) (said t.server)) transcript (heard_messages shape events s A sound run clean_s up_a) in
-    let front_b : IsFront (heard l.transcript.server) (said l.transcript.client) =
-    subst (λ (t : TranscriptLog). IsFront (heard t.server) (said t.client)) transcript (heard_messages shape events s B sound run clean_s up_b) in
+    let asks : EachSaid Initiator shape.slots 0 0 (said l.transcript.a) = subst (λ (x : Shape). EachSaid Initiator x.slots 0 0 (said l.transcript.a)) shape_is tells.client in
+    let answers : EachSaid Responder shape.slots 0 0 (said l.transcript.b) = subst (λ (x : Shape). EachSaid Responder x.slots 0 0 (said l.transcript.b)) shape_is tells.server in
+    let front_a : IsFront (heard l.transcript.a) (said l.transcript.b) =
+    subst (λ (t : TranscriptLog). IsFront (heard t.a) (said t.b)) transcript (heard_messages shape events s A sound run clean_s up_a) in
+    let front_b : IsFront (heard l.transcript.b) (said l.transcript.a) =
+    subst (λ (t : TranscriptLog). IsFront (heard t.b) (said t.a)) transcript (heard_messages shape events s B sound run clean_s up_b) in
     let converses = lane_converses shape events s sound run clean_s in
     let stream = converses.stream in
-    let to_b = direction s.wire.wire.end_a s.wire.wire.end_b (numbered_said (transcript_behind events).client) (numbered_heard (transcript_behind events).server) (numbered s.wire.wire.to_b) converses.lost_theirs s.wire.lossy
+    let to_b = direction s.wire.wire.end_a s.wire.wire.end_b (numbered_said (transcript_behind events).a) (numbered_heard (transcript_behind events).b) (numbered s.wire.wire.to_b) converses.lost_theirs s.wire.lossy
     up_a up_b stream.to_b (λ calm. (converses.whole calm).1) in
-    let to_a = direction s.wire.wire.end_b s.wire.wire.end_a (numbered_said (transcript_behind events).server) (numbered_heard (transcript_behind events).client) (numbered s.wire.wire.to_a) converses.lost_mine s.wire.lossy
+    let to_a = direction s.wire.wire.end_b s.wire.wire.end_a (numbered_said (transcript_behind events).b) (numbered_heard (transcript_behind events).a) (numbered s.wire.wire.to_a) converses.lost_mine s.wire.lossy
     up_b up_a stream.to_a (λ calm. (converses.whole calm).0) in
     record {
       server_up = ap (λ (w : WireLog). w.wire.end_b) (sym wire) ∙ up_b;
-      infos = subst (λ (x : Shape). NameAll x.slots (asked_count l.work.server) k.announced (ranges_behind 1 (said l.transcript.client) (heard l.transcript.server))) (sym shape_is)
-          (behind_names shape.slots 1 (asked_count l.work.server) (range_sum shape.slots 1 (said l.transcript.client)) k.announced (heard l.transcript.server) (said l.transcript.client) front_b
-          (all_named shape.slots Initiator (said l.transcript.client) sound.most_slots asks) place.asked (sym (counts.announced ∙ client.announced)));
-      seqs = behind_seqs (expected_by s.server.session) (heard l.transcript.server) (said l.transcript.client) front_b (seqs_said shape.slots 0 0 (said l.transcript.client) asks) place.seq;
-      acks = subst (λ (x : Shape). NameAll x.slots k.acked (answered_count l.work.server) (ranges_behind 2 (said l.transcript.server) (heard l.transcript.client))) (sym shape_is)
-          (behind_names shape.slots 2 k.acked (range_sum shape.slots 2 (said l.transcript.server)) (answered_count l.work.server) (heard l.transcript.client) (said l.transcript.server) front_a
-          (all_named shape.slots Responder (said l.transcript.server) sound.most_slots answers) (sym (counts.acked ∙ client.acked)) place.answered);
-      to_server = subst (λ (w : WireLog). WaitsOrLost (numbered_said l.transcript.client) (numbered_heard l.transcript.server) (numbered w.wire.to_b) w.lossy) wire
-          (subst (λ (t : TranscriptLog). WaitsOrLost (numbered_said t.client) (numbered_heard t.server) (numbered s.wire.wire.to_b) s.wire.lossy) transcript to_b);
-      to_client = subst (λ (w : WireLog). WaitsOrLost (numbered_said l.transcript.server) (numbered_heard l.transcript.client) (numbered w.wire.to_a) w.lossy) wire
-          (subst (λ (t : TranscriptLog). WaitsOrLost (numbered_said t.server) (numbered_heard t.client) (numbered s.wire.wire.to_a) s.wire.lossy) transcript to_a);
+      infos = subst (λ (x : Shape). NameAll x.slots (asked_count l.work.server) k.announced (ranges_behind 1 (said l.transcript.a) (heard l.transcript.b))) (sym shape_is)
+          (behind_names shape.slots 1 (asked_count l.work.server) (range_sum shape.slots 1 (said l.transcript.a)) k.announced (heard l.transcript.b) (said l.transcript.a) front_b
+          (all_named shape.slots Initiator (said l.transcript.a) sound.most_slots asks) place.asked (sym (counts.announced ∙ client.announced)));
+      seqs = behind_seqs (expected_by s.server.session) (heard l.transcript.b) (said l.transcript.a) front_b (seqs_said shape.slots 0 0 (said l.transcript.a) asks) place.seq;
+      acks = subst (λ (x : Shape). NameAll x.slots k.acked (answered_count l.work.server) (ranges_behind 2 (said l.transcript.b) (heard l.transcript.a))) (sym shape_is)
+          (behind_names shape.slots 2 k.acked (range_sum shape.slots 2 (said l.transcript.b)) (answered_count l.work.server) (heard l.transcript.a) (said l.transcript.b) front_a
+          (all_named shape.slots Responder (said l.transcript.b) sound.most_slots answers) (sym (counts.acked ∙ client.acked)) place.answered);
+      to_server = subst (λ (w : WireLog). WaitsOrLost (numbered_said l.transcript.a) (numbered_heard l.transcript.b) (numbered w.wire.to_b) w.lossy) wire
+          (subst (λ (t : TranscriptLog). WaitsOrLost (numbered_said t.a) (numbered_heard t.b) (numbered s.wire.wire.to_b) s.wire.lossy) transcript to_b);
+      to_client = subst (λ (w : WireLog). WaitsOrLost (numbered_said l.transcript.b) (numbered_heard l.transcript.a) (numbered w.wire.to_a) w.lossy) wire
+          (subst (λ (t : TranscriptLog). WaitsOrLost (numbered_said t.b) (numbered_heard t.a) (numbered s.wire.wire.to_a) s.wire.lossy) transcript to_a);
     }

@@ -2,12 +2,12 @@
 use Rattle.std.proofs.Common.{◌≡◌, false, true, List, map, sym, ◌∙◌}
 use Rattle.std.specs.Prelude.{is_some}
 use Rattle.ldc_queue.specs.declared.end.End.TheVariants.{B}
-use Rattle.channel_laws.specs.WireAt.{IsUp}
+use Rattle.lane_models.specs.WireAt.{IsUp}
 use Rattle.runs.specs.Run.{Run}
-use Rattle.disk_model.specs.DiskEvent.{DiskEvent}
-use Rattle.disk_model.specs.LaneState.{IsShape, LaneState, Shape, fresh}
-use Rattle.disk_model.specs.LaneStep.{LaneStep}
-use Rattle.channel_laws.proofs.Sessions.{PeerIsOpen, open_sessions_begin, open_sessions_one}
+use Rattle.lane_models.specs.DiskEvent.{DiskEvent}
+use Rattle.lane_models.specs.LaneState.{IsShape, LaneState, Shape, fresh}
+use Rattle.lane_models.specs.LaneStep.{LaneStep}
+use Rattle.lane_models.proofs.Sessions.{PeerIsOpen, open_sessions_begin, open_sessions_one}
 use Rattle.lane_laws.proofs.LaneChannel.{answers_of, asks_of, lane_matches}
 use Rattle.lane_laws.proofs.LaneCores.{lane_cores, lane_fits}
 use Rattle.lane_laws.specs.ChannelEnds.{core_event, core_of}

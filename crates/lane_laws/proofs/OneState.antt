@@ -5,14 +5,14 @@ use Rattle.ldc_queue.specs.Transcript.{Utterance}
 use Rattle.vio_tag.specs.declared.message.Message.{Message}
 use Rattle.vio_handshake.specs.declared.handshake.Handshake.{Handshake}
 use Rattle.lane_laws.specs.Agreement.{AgreesWithLog, LinkAgrees, NearAgrees, RangeAgrees, ServerAgrees, WorkNextAgrees}
-use Rattle.channel_laws.specs.Blockage.{Blockage}
+use Rattle.lane_models.specs.Blockage.{Blockage}
 use Rattle.lane_laws.specs.DiskLog.{DiskLog}
 use Rattle.lane_laws.specs.EndLog.{server_left}
-use Rattle.disk_model.specs.LaneState.{LaneState}
-use Rattle.channel_laws.specs.WireLog.{WireLog}
+use Rattle.lane_models.specs.LaneState.{LaneState}
+use Rattle.lane_models.specs.WireLog.{WireLog}
 use Rattle.lane_laws.specs.NearLog.{NearLog}
-use Rattle.channel_laws.specs.Sayings.{half_said}
-use Rattle.disk_model.specs.ServerState.{ServerSession, ServerState, Work}
+use Rattle.lane_models.specs.Sayings.{half_said}
+use Rattle.lane_models.specs.ServerState.{ServerSession, ServerState, Work}
 use Rattle.lane_laws.specs.WorkLog.{ServerCounts}
 use Rattle.lane_laws.specs.SameEnds.{SameClient, SameLane, SameServer, SameWork}
 
@@ -38,15 +38,15 @@ same_work o p v w d one other next follows = grind arith
 
 pub same_server : (s t : LaneState) (l : DiskLog) → AgreesWithLog s l → AgreesWithLog t l → SameServer s.server t.server
 same_server s t l one other =
-    let half = half_said l.transcript.server in
+    let half = half_said l.transcript.b in
     let handshake : s.server.handshake ≡ t.server.handshake = one.server_end.handshake ∙ sym other.server_end.handshake in
     let session : s.server.session ≡ t.server.session =
-    same_counts s.server.session t.server.session s.server.work t.server.work l.work.server l.transcript.server one.server other.server one.server_end.range other.server_end.range in
+    same_counts s.server.session t.server.session s.server.work t.server.work l.work.server l.transcript.b one.server other.server one.server_end.range other.server_end.range in
     let left : s.server.link.to_send ≡ t.server.link.to_send =
     one.server_end.left ∙ server_same s.server.handshake.owed s.server t.server half l.blocked.server handshake session
     ∙ ap (λ (h : Handshake). server_left t.server h.owed half l.blocked.server) handshake ∙ sym other.server_end.left in
     record {
-      link = same_link s.server.link t.server.link l.transcript.server (one.server_end.role ∙ sym other.server_end.role) (one.server_end.phase ∙ sym other.server_end.phase) left one.server_link other.server_link;
+      link = same_link s.server.link t.server.link l.transcript.b (one.server_end.role ∙ sym other.server_end.role) (one.server_end.phase ∙ sym other.server_end.phase) left one.server_link other.server_link;
       handshake = handshake;
       first = one.server_end.first ∙ sym other.server_end.first;
       blocks = one.server_end.blocks ∙ sym other.server_end.blocks;

@@ -6,9 +6,9 @@ use Rattle.vdisk_msg.specs.Requested.{ring_pages}
 use Rattle.vio_handshake.specs.Acceptance.{are_aligned, hold_ring, sizes}
 use Rattle.vio_handshake.specs.Attributes.{blocks_of}
 use Rattle.vio_handshake.specs.Offers.{FitsRing, Match}
-use Rattle.channel_laws.specs.OwnMemory.{page_cookies}
-use Rattle.disk_model.specs.Offering.{client_offer, own_cookies, server_offer}
-use Rattle.channel_laws.specs.LaneCore.{OfferFits}
+use Rattle.lane_models.specs.OwnMemory.{page_cookies}
+use Rattle.lane_models.specs.Offering.{client_offer, own_cookies, server_offer}
+use Rattle.lane_models.specs.LaneCore.{OfferFits}
 use Rattle.lane_laws.proofs.OfferedRing.{cookies_are, few_cookies, filled_front, filled_long, offered_form}
 
 -- THE RING is aligned, and its cookies hold it

@@ -6,15 +6,15 @@ use Rattle.ldc_link.specs.declared.phase.Role.TheVariants.{Initiator, Responder}
 use Rattle.ldc_queue.specs.declared.end.End.{End}
 use Rattle.ldc_queue.specs.declared.end.End.TheVariants.{A, B}
 use Rattle.ldc_queue.specs.Transcript.{Heard, Said}
-use Rattle.channel_laws.specs.HandshakeOrder.{HandshakeOrder}
-use Rattle.channel_laws.specs.TranscriptLog.{TranscriptLog, hears, says}
-use Rattle.channel_laws.specs.WireEvent.{Sent, Took}
+use Rattle.lane_models.specs.HandshakeOrder.{HandshakeOrder}
+use Rattle.lane_models.specs.TranscriptLog.{TranscriptLog, hears, says}
+use Rattle.lane_models.specs.WireEvent.{Sent, Took}
 use Rattle.lane_laws.specs.DiskLog.{after, nothing_yet}
 use Rattle.lane_laws.specs.WorkLaws.{OpeningsAt, OpensRightly}
-use Rattle.disk_model.specs.DiskEvent.{DiskEvent, OnWire}
-use Rattle.disk_model.specs.LaneState.{IsShape, LaneState, Shape, fresh}
-use Rattle.disk_model.specs.LaneStep.{LaneStep}
-use Rattle.channel_laws.proofs.OpeningOrder.{opens_hearing, opens_saying}
+use Rattle.lane_models.specs.DiskEvent.{DiskEvent, OnWire}
+use Rattle.lane_models.specs.LaneState.{IsShape, LaneState, Shape, fresh}
+use Rattle.lane_models.specs.LaneStep.{LaneStep}
+use Rattle.lane_models.proofs.OpeningOrder.{opens_hearing, opens_saying}
 use Rattle.lane_laws.proofs.AlongRuns.{reached_lawful}
 use Rattle.lane_laws.proofs.LaneChannel.{answers_of, asks_of}
 use Rattle.lane_laws.proofs.LaneCores.{lane_cores, lane_fits, lane_steps, said_in_log}
@@ -29,11 +29,11 @@ sent_opens : (shape : Shape) (events : List DiskEvent) (s : LaneState) (e : End)
     → LaneStep s (OnWire (Sent e packet opens)) t → OpensRightly opens e (says e packet (log_of after (nothing_yet shape) events).transcript)
 sent_opens shape events s e packet false t at step = tt
 sent_opens shape events s A packet true t at step =
-    subst (λ (l : TranscriptLog). HandshakeOrder false Initiator (Said packet ∷ l.client)) (said_in_log shape events)
+    subst (λ (l : TranscriptLog). HandshakeOrder false Initiator (Said packet ∷ l.a)) (said_in_log shape events)
     (opens_saying shape.entries (asks_of shape) (answers_of shape) (map core_event events) (core_of s) A packet (core_of t) (lane_fits shape at.sound) (lane_cores shape events s at.sound at.run)
     (lane_steps shape events s (OnWire (Sent A packet true)) t at.sound at.run step))
 sent_opens shape events s B packet true t at step =
-    subst (λ (l : TranscriptLog). HandshakeOrder false Responder (Said packet ∷ l.server)) (said_in_log shape events)
+    subst (λ (l : TranscriptLog). HandshakeOrder false Responder (Said packet ∷ l.b)) (said_in_log shape events)
     (opens_saying shape.entries (asks_of shape) (answers_of shape) (map core_event events) (core_of s) B packet (core_of t) (lane_fits shape at.sound) (lane_cores shape events s at.sound at.run)
     (lane_steps shape events s (OnWire (Sent B packet true)) t at.sound at.run step))
 
@@ -41,11 +41,11 @@ took_opens : (shape : Shape) (events : List DiskEvent) (s : LaneState) (e : End)
     → LaneStep s (OnWire (Took e packet opens)) t → OpensRightly opens e (hears e packet (log_of after (nothing_yet shape) events).transcript)
 took_opens shape events s e packet false t at step = tt
 took_opens shape events s A packet true t at step =
-    subst (λ (l : TranscriptLog). HandshakeOrder false Initiator (Heard packet ∷ l.client)) (said_in_log shape events)
+    subst (λ (l : TranscriptLog). HandshakeOrder false Initiator (Heard packet ∷ l.a)) (said_in_log shape events)
     (opens_hearing shape.entries (asks_of shape) (answers_of shape) (map core_event events) (core_of s) A packet (core_of t) (lane_fits shape at.sound) (lane_cores shape events s at.sound at.run)
     (lane_steps shape events s (OnWire (Took A packet true)) t at.sound at.run step))
 took_opens shape events s B packet true t at step =
-    subst (λ (l : TranscriptLog). HandshakeOrder false Responder (Heard packet ∷ l.server)) (said_in_log shape events)
+    subst (λ (l : TranscriptLog). HandshakeOrder false Responder (Heard packet ∷ l.b)) (said_in_log shape events)
     (opens_hearing shape.entries (asks_of shape) (answers_of shape) (map core_event events) (core_of s) B packet (core_of t) (lane_fits shape at.sound) (lane_cores shape events s at.sound at.run)
     (lane_steps shape events s (OnWire (Took B packet true)) t at.sound at.run step))
 

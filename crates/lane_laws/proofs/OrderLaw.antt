@@ -11,33 +11,33 @@ use Rattle.ldc_queue.specs.Wire.{waiting_for}
 use Rattle.vdisk_msg.specs.declared.request.Request.{Request}
 use Rattle.vio_handshake.specs.declared.handshake.Handshake.{Handshake}
 use Rattle.vio_tag.specs.declared.cause.Cause.{Cause}
-use Rattle.channel_laws.specs.WireEvent.{Blocked, ByRestart, ByScript, ByStep, ByTick, Giver, Idle, Reset, Sent, Took, giver}
-use Rattle.disk_model.specs.ClientPutting.{client_holds}
-use Rattle.disk_model.specs.ClientRule as client
-use Rattle.disk_model.specs.ClientState.{ClientSession, ClientState, joined_client}
-use Rattle.disk_model.specs.ClientStep.{ClientFails}
-use Rattle.disk_model.specs.DiskEvent.{Desc, DiskEvent, Done, Misplaced, OnWire, Published, Works}
-use Rattle.disk_model.specs.LaneState.{LaneState}
-use Rattle.disk_model.specs.LaneStep.{CallsReset, EndOnWire, LaneStep, ResetBy, reach}
-use Rattle.disk_model.specs.ServerRule as server
-use Rattle.disk_model.specs.ServerState.{ServerSession, ServerState, Work, joined_server, restarted_server}
-use Rattle.disk_model.specs.ServerStep.{ServerFails}
-use Rattle.channel_laws.specs.Blockage.{Clear}
+use Rattle.lane_models.specs.WireEvent.{Blocked, ByRestart, ByScript, ByStep, ByTick, Giver, Idle, Reset, Sent, Took, giver}
+use Rattle.lane_models.specs.ClientPutting.{client_holds}
+use Rattle.lane_models.specs.ClientRule as client
+use Rattle.lane_models.specs.ClientState.{ClientSession, ClientState, joined_client}
+use Rattle.lane_models.specs.ClientStep.{ClientFails}
+use Rattle.lane_models.specs.DiskEvent.{Desc, DiskEvent, Done, Misplaced, OnWire, Published, Works}
+use Rattle.lane_models.specs.LaneState.{LaneState}
+use Rattle.lane_models.specs.LaneStep.{CallsReset, EndOnWire, LaneStep, ResetBy, reach}
+use Rattle.lane_models.specs.ServerRule as server
+use Rattle.lane_models.specs.ServerState.{ServerSession, ServerState, Work, joined_server, restarted_server}
+use Rattle.lane_models.specs.ServerStep.{ServerFails}
+use Rattle.lane_models.specs.Blockage.{Clear}
 use Rattle.lane_laws.specs.DiskLog.{DiskLog}
 use Rattle.lane_laws.specs.OrderLaws.{HasAnswered, HasCompleted, HasPublished, OrderAt, OwesNothing, PublishesAt, PutsAt, ServesAt, TakesAt}
 use Rattle.lane_laws.specs.Sound.{SessionInOrder}
 use Rattle.lane_laws.specs.WorkLog.{ClientCounts}
 use Rattle.lane_laws.proofs.BlockedLaw.{Told, client_to_put, server_to_put}
-use Rattle.channel_laws.proofs.EndSending.{calm_up, not_stuck, sends_some}
-use Rattle.channel_laws.proofs.MessagesHeld.{owed_held}
+use Rattle.lane_models.proofs.EndSending.{calm_up, not_stuck, sends_some}
+use Rattle.lane_models.proofs.MessagesHeld.{owed_held}
 use Rattle.lane_laws.proofs.ClientFolds.{clear_quiet}
 use Rattle.lane_laws.proofs.Ruling.{client_may}
 use Rattle.lane_laws.specs.RuleFacts.{ClientMay}
 use Rattle.lane_laws.proofs.Counting.{of_client}
 use Rattle.lane_laws.proofs.EndsFold.{BothAre, first_false}
 use Rattle.lane_laws.specs.ChannelEnds.{client_core, server_core}
-use Rattle.channel_laws.proofs.Apart.{none_is_some, some_same}
-use Rattle.channel_laws.proofs.EndsAtRest.{none_waits}
+use Rattle.lane_models.proofs.Apart.{none_is_some, some_same}
+use Rattle.lane_models.proofs.EndsAtRest.{none_waits}
 use Rattle.lane_laws.proofs.IdleLaw.{not_below, past_all, same_waiting, some_client}
 use Rattle.lane_laws.proofs.IdleRules.{client_idles, published_all, server_idles}
 use Rattle.lane_laws.proofs.RuleTests.{CompletedAll, PublishedAll, TakesFree, client_test, control_in}
@@ -106,8 +106,8 @@ puts_none {X} s l told nothing rule clear =
     let knows = told.grounded.knows in
     let owing = puts_owe s.client (at_client s) rule in
     let some = sends_some s.client.link (calm_up s.client.link (ap owes_in told.client_phase ∙ nothing.0) owing) owing in
-    let quiet = clear_quiet s.client l.transcript.client l.blocked.client knows.all.sound knows.rests.client told.both.client clear in
-    let owed = owed_held Initiator (client_core s.client) l.transcript.client knows.rests.client.stands quiet some in
+    let quiet = clear_quiet s.client l.transcript.a l.blocked.client knows.all.sound knows.rests.client told.both.client clear in
+    let owed = owed_held Initiator (client_core s.client) l.transcript.a knows.rests.client.stands quiet some in
     none_is_some (sym nothing.1 ∙ ap (λ (h : Handshake). h.owed) (sym told.are.client) ∙ owed.owed)
 
 published_by : (s : LaneState) (l : DiskLog) (rule : client.ClientRule) (held : ClientState) → Told s l → OwesNothing A l → client.client_rule s.client (at_client s) ≡ rule

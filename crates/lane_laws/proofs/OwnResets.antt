@@ -5,21 +5,21 @@ use Rattle.runs.specs.Run.{Run}
 use Rattle.ldc_queue.specs.declared.end.End.{End}
 use Rattle.ldc_queue.specs.declared.end.End.TheVariants.{A, B}
 use Rattle.vio_tag.specs.declared.cause.Cause.{Cause}
-use Rattle.channel_laws.specs.WireAt.{IsOwnReset, UnforgedReset}
-use Rattle.channel_laws.specs.WireEvent.{ByStep, Giver, Reset, giver}
-use Rattle.channel_laws.specs.WireLog.{WireLog}
+use Rattle.lane_models.specs.WireAt.{IsOwnReset, UnforgedReset}
+use Rattle.lane_models.specs.WireEvent.{ByStep, Giver, Reset, giver}
+use Rattle.lane_models.specs.WireLog.{WireLog}
 use Rattle.lane_laws.specs.DiskLog.{after, nothing_yet}
-use Rattle.disk_model.specs.ClientRule as client_rules
-use Rattle.disk_model.specs.ClientStep.{ClientFails}
-use Rattle.disk_model.specs.ClientTaking as client
-use Rattle.disk_model.specs.DiskEvent.{DiskEvent, OnWire}
-use Rattle.disk_model.specs.LaneState.{IsShape, LaneState, Shape, fresh}
-use Rattle.disk_model.specs.LaneStep.{EndOnWire, LaneStep, ResetBy, reach}
-use Rattle.channel_laws.specs.Seeing.{seen}
-use Rattle.disk_model.specs.ServerRule as server_rules
-use Rattle.disk_model.specs.ServerState.{Ends, Progress, ServerSession, Work}
-use Rattle.disk_model.specs.ServerStep.{ServerFails, WorkFails}
-use Rattle.disk_model.specs.ServerTaking as server
+use Rattle.lane_models.specs.ClientRule as client_rules
+use Rattle.lane_models.specs.ClientStep.{ClientFails}
+use Rattle.lane_models.specs.ClientTaking as client
+use Rattle.lane_models.specs.DiskEvent.{DiskEvent, OnWire}
+use Rattle.lane_models.specs.LaneState.{IsShape, LaneState, Shape, fresh}
+use Rattle.lane_models.specs.LaneStep.{EndOnWire, LaneStep, ResetBy, reach}
+use Rattle.lane_models.specs.Seeing.{seen}
+use Rattle.lane_models.specs.ServerRule as server_rules
+use Rattle.lane_models.specs.ServerState.{Ends, Progress, ServerSession, Work}
+use Rattle.lane_models.specs.ServerStep.{ServerFails, WorkFails}
+use Rattle.lane_models.specs.ServerTaking as server
 use Rattle.lane_laws.proofs.ClientInSession.{client_hears_in_session}
 use Rattle.lane_laws.proofs.LaneCounting.{run_knows}
 use Rattle.lane_laws.proofs.NoOwnReset.{client_finds_done, server_ends_all, server_fetches_all}

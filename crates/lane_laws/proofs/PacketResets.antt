@@ -8,23 +8,23 @@ use Rattle.ldc_link.specs.Taking.{Heard, LinkTake, Unheard}
 use Rattle.ldc_queue.specs.declared.end.ChannelState.TheVariants.{Up}
 use Rattle.ldc_queue.specs.declared.end.End.TheVariants.{A, B}
 use Rattle.vio_tag.specs.declared.cause.Cause.{Cause}
-use Rattle.channel_laws.specs.EndPuts.{handshake_risen}
-use Rattle.channel_laws.specs.TranscriptLog.{TranscriptLog}
-use Rattle.channel_laws.specs.WireAt.{IsOwnReset}
-use Rattle.disk_model.specs.ClientRule as client_rules
-use Rattle.disk_model.specs.ClientState.{ClientSession}
-use Rattle.disk_model.specs.ClientTaking as client
-use Rattle.disk_model.specs.DiskEvent.{DiskEvent}
-use Rattle.disk_model.specs.LaneState.{IsShape, LaneState, Shape, fresh}
-use Rattle.disk_model.specs.LaneStep.{LaneStep}
-use Rattle.channel_laws.specs.Seeing.{seen}
-use Rattle.disk_model.specs.ServerRule as server_rules
-use Rattle.disk_model.specs.ServerState.{ServerSession}
-use Rattle.disk_model.specs.ServerTaking as server
-use Rattle.channel_laws.proofs.NextHeard.{ComesTo, NextHeard, comes_to, own_gap}
-use Rattle.channel_laws.proofs.UnforgedResets.{side_fails}
-use Rattle.channel_laws.specs.Resetting.{IsGapBehindLoss}
-use Rattle.channel_laws.specs.Sides.{Sides, sides_of, swapped}
+use Rattle.lane_models.specs.EndPuts.{handshake_risen}
+use Rattle.lane_models.specs.TranscriptLog.{TranscriptLog}
+use Rattle.lane_models.specs.WireAt.{IsOwnReset}
+use Rattle.lane_models.specs.ClientRule as client_rules
+use Rattle.lane_models.specs.ClientState.{ClientSession}
+use Rattle.lane_models.specs.ClientTaking as client
+use Rattle.lane_models.specs.DiskEvent.{DiskEvent}
+use Rattle.lane_models.specs.LaneState.{IsShape, LaneState, Shape, fresh}
+use Rattle.lane_models.specs.LaneStep.{LaneStep}
+use Rattle.lane_models.specs.Seeing.{seen}
+use Rattle.lane_models.specs.ServerRule as server_rules
+use Rattle.lane_models.specs.ServerState.{ServerSession}
+use Rattle.lane_models.specs.ServerTaking as server
+use Rattle.lane_models.proofs.NextHeard.{ComesTo, NextHeard, comes_to, own_gap}
+use Rattle.lane_models.proofs.UnforgedResets.{side_fails}
+use Rattle.lane_models.specs.Resetting.{IsGapBehindLoss}
+use Rattle.lane_models.specs.Sides.{Sides, sides_of, swapped}
 use Rattle.lane_laws.proofs.ClientMoves.{client_refuses}
 use Rattle.lane_laws.proofs.LaneChannel.{OnLane, answers_of, asks_of, lane_matches, lane_meets, lane_meets_other, transcript_in}
 use Rattle.lane_laws.proofs.Ruling.{client_may, server_may}
@@ -42,7 +42,7 @@ pub record ClientHearsBadly (s : LaneState) (transcript : TranscriptLog) (cause 
   pub session : ClientSession
   pub is : s.client.session ≡ Some session
   pub message : List ℕ
-  pub next : NextHeard transcript.client transcript.server s.wire.wire.end_b message
+  pub next : NextHeard transcript.a transcript.b s.wire.wire.end_b message
   pub link : LinkState
   pub hears : client.HearsWhole (record s.client { link = link }) (Some message) (client.Resets cause)
 
@@ -51,7 +51,7 @@ pub record ServerHearsBadly (s : LaneState) (transcript : TranscriptLog) (cause 
   pub session : ServerSession
   pub is : s.server.session ≡ Some session
   pub message : List ℕ
-  pub next : NextHeard transcript.server transcript.client s.wire.wire.end_a message
+  pub next : NextHeard transcript.b transcript.a s.wire.wire.end_a message
   pub link : LinkState
   pub hears : server.HearsWhole (record s.server { link = link; handshake = handshake_risen s.server.link link s.server.handshake }) (Some message) (server.Resets cause)
 

@@ -14,13 +14,13 @@ use Rattle.lane_laws.specs.Agreement.{WorkAgrees, owed_of}
 use Rattle.lane_laws.specs.DiskLog.{DiskLog}
 use Rattle.lane_laws.specs.WorkLaws.{FinishesPiece, InServer, MovesPiece, Owes, PiecesAt, StoresPiece, access_of, block_in, count_in, desc_in, unit_fault}
 use Rattle.lane_laws.specs.WorkLog.{ServerCounts}
-use Rattle.disk_model.specs.DiskEvent.{Desc, DiskEvent, Finished, Moved, Stored, Works}
-use Rattle.channel_laws.specs.OwnMemory.{own_table}
-use Rattle.disk_model.specs.LaneState.{LaneState, pages_of}
-use Rattle.disk_model.specs.LaneStep.{LaneStep, reach}
-use Rattle.disk_model.specs.ServerState.{Flushes, Gathers, Gives, Progress, Reads, ServerSession, Work, Writes}
-use Rattle.disk_model.specs.ServerStep.{ServerFetches, ServerFinishes, ServerMoves, ServerStores}
-use Rattle.disk_model.specs.ServerWork.{MovesIn, StoresIn, desc_of, slot_fetched, unit_length}
+use Rattle.lane_models.specs.DiskEvent.{Desc, DiskEvent, Finished, Moved, Stored, Works}
+use Rattle.lane_models.specs.OwnMemory.{own_table}
+use Rattle.lane_models.specs.LaneState.{LaneState, pages_of}
+use Rattle.lane_models.specs.LaneStep.{LaneStep, reach}
+use Rattle.lane_models.specs.ServerState.{Flushes, Gathers, Gives, Progress, Reads, ServerSession, Work, Writes}
+use Rattle.lane_models.specs.ServerStep.{ServerFetches, ServerFinishes, ServerMoves, ServerStores}
+use Rattle.lane_models.specs.ServerWork.{MovesIn, StoresIn, desc_of, slot_fetched, unit_length}
 use Rattle.lane_laws.proofs.RulesFree.{ServerFree, server_free}
 use Rattle.lane_laws.proofs.RuleTests.{ServesFree}
 use Rattle.lane_laws.specs.Counted.{UnitFits, UnitIn}

@@ -9,9 +9,9 @@ use Rattle.lane_laws.specs.Agreement.{ClientAgrees, ClientCountsAgree, ServerAgr
 use Rattle.lane_laws.specs.DiskLog.{DiskLog}
 use Rattle.lane_laws.specs.RingLog.{Accepted}
 use Rattle.lane_laws.specs.WorkLog.{ClientCounts, ServerCounts}
-use Rattle.disk_model.specs.ClientState.{ClientSession}
-use Rattle.disk_model.specs.LaneState.{LaneState}
-use Rattle.disk_model.specs.ServerState.{ServerSession, Work}
+use Rattle.lane_models.specs.ClientState.{ClientSession}
+use Rattle.lane_models.specs.LaneState.{LaneState}
+use Rattle.lane_models.specs.ServerState.{ServerSession, Work}
 use Rattle.lane_laws.proofs.RingClientSteps.{got_at, in_order}
 use Rattle.lane_laws.proofs.RingEnds.{HasWork, has_work}
 use Rattle.lane_laws.proofs.RingSessions.{one_ring}
@@ -24,7 +24,7 @@ use Rattle.lane_laws.specs.LaneView.{view_of, work_while}
 use Rattle.lane_laws.proofs.Changes.{Placed}
 use Rattle.lane_laws.proofs.LiveCounts.{KIs, counts_while}
 use Rattle.lane_laws.proofs.Standing.{Before}
-use Rattle.channel_laws.proofs.Apart.{some_same}
+use Rattle.lane_models.proofs.Apart.{some_same}
 
 -- a server that works, or none does
 pub record IsLive (x : ChannelState) (q : Option ServerCounts) : Type 0 where

@@ -3,30 +3,30 @@ use Rattle.std.proofs.Common.{◌≡◌, true, false, Option, Some, None, List, 
 use Rattle.std.specs.Prelude.{is_some}
 use Rattle.runs.specs.Lawful.{log_of}
 use Rattle.runs.specs.Run.{Run}
-use Rattle.channel_laws.specs.Sayings.{heard, said}
-use Rattle.channel_laws.specs.TranscriptLog.{TranscriptLog}
+use Rattle.lane_models.specs.Sayings.{heard, said}
+use Rattle.lane_models.specs.TranscriptLog.{TranscriptLog}
 use Rattle.lane_laws.specs.DiskLog.{DiskLog, after, nothing_yet}
-use Rattle.lane_laws.specs.QuietLaws.{ClientIsIdle, IsAtRest, ServerIsIdle}
+use Rattle.lane_laws.specs.QuietLaws.{ClientIsIdle, IsLogAtRest, ServerIsIdle}
 use Rattle.lane_laws.specs.WorkLaws.{IfClient, IfServer}
 use Rattle.lane_laws.specs.WorkLog.{ClientCounts, ServerCounts}
-use Rattle.disk_model.specs.ClientRule as client_rules
-use Rattle.disk_model.specs.DiskEvent.{DiskEvent}
-use Rattle.disk_model.specs.LaneState.{IsShape, LaneState, Shape, fresh}
-use Rattle.disk_model.specs.LaneStep.{LaneStep}
-use Rattle.disk_model.specs.ServerRule as server_rules
+use Rattle.lane_models.specs.ClientRule as client_rules
+use Rattle.lane_models.specs.DiskEvent.{DiskEvent}
+use Rattle.lane_models.specs.LaneState.{IsShape, LaneState, Shape, fresh}
+use Rattle.lane_models.specs.LaneStep.{LaneStep}
+use Rattle.lane_models.specs.ServerRule as server_rules
 use Rattle.lane_laws.proofs.Ruling.{client_may, server_may}
 use Rattle.lane_laws.specs.Counted.{acked_of, announced_of, range_sum}
 use Rattle.lane_laws.specs.RuleFacts.{ClientMay, ServerMay}
 use Rattle.lane_laws.proofs.Counting.{OfClient, OfServer, of_client, of_server}
-use Rattle.channel_laws.proofs.Apart.{none_is_some}
-use Rattle.channel_laws.proofs.EndsAtRest.{none_waits}
+use Rattle.lane_models.proofs.Apart.{none_is_some}
+use Rattle.lane_models.proofs.EndsAtRest.{none_waits}
 use Rattle.lane_laws.proofs.IdleLaw.{idle_client, idle_server}
 use Rattle.lane_laws.proofs.IdleRules.{ServerIdles, client_idles, server_idles}
 use Rattle.lane_laws.proofs.RuleTests.{ClientIdles}
 use Rattle.lane_laws.proofs.LaneChannel.{answers_of, asks_of, lane_meets}
-use Rattle.channel_laws.proofs.AtRest as core
-use Rattle.channel_laws.proofs.AtRest.{HeardAll, heard_all, rests_open}
-use Rattle.channel_laws.specs.Sides.{sides_of}
+use Rattle.lane_models.proofs.AtRest as core
+use Rattle.lane_models.proofs.AtRest.{HeardAll, heard_all, rests_open}
+use Rattle.lane_models.specs.Sides.{sides_of}
 use Rattle.lane_laws.specs.ChannelEnds.{core_of}
 use Rattle.lane_laws.proofs.WorkNumbers.{Grounded, order_of}
 use Rattle.lane_laws.proofs.LaneViews.{at_client, at_server}
@@ -58,7 +58,7 @@ some_is {X} None now = absurd (cc now)
 some_is {X} (Some x) now = (x, refl)
 
 -- THE COUNTS of both sessions are one
-finished_all : (s : LaneState) (l : DiskLog) → Grounded s l → BothRest s → HeardAll (sides_of (core_of s) l.transcript) → is_some s.client.session ≡ true → is_some s.server.session ≡ true → IsAtRest l
+finished_all : (s : LaneState) (l : DiskLog) → Grounded s l → BothRest s → HeardAll (sides_of (core_of s) l.transcript) → is_some s.client.session ≡ true → is_some s.server.session ≡ true → IsLogAtRest l
 finished_all s l grounded rest all client_open server_open =
     let c = some_is s.client.session client_open in
     let v = some_is s.server.session server_open in
@@ -66,11 +66,11 @@ finished_all s l grounded rest all client_open server_open =
     let server = grounded.knows.counted.server in
     let k : OfClient c.0 l.work.done l.work.client = of_client s.client.session c.0 l.work.done l.work.client c.1 client.agrees in
     let d : OfServer v.0 s.server.work l.work.server = of_server s.server.session v.0 s.server.work l.work.server v.1 server.agrees in
-    let order = order_of l.shape.slots s.server.session v.0 l.work.server d.counts l.transcript.server v.1 d.is server.order in
+    let order = order_of l.shape.slots s.server.session v.0 l.work.server d.counts l.transcript.b v.1 d.is server.order in
     let idle_c : ClientIsIdle l k.counts = subst (λ (o : Option ClientCounts). IfClient o (ClientIsIdle l)) k.is (idle_client s l grounded (client_idles s.client (at_client s) rest.client)) in
     let idle_v : ServerIsIdle d.counts = subst (λ (o : Option ServerCounts). IfServer o ServerIsIdle) d.is (idle_server s l grounded (server_idles s.server (at_server s) rest.server)) in
-    let announced : c.0.announced ≡ range_sum l.shape.slots 1 (said l.transcript.client) = sym (ap announced_of c.1) ∙ client.announced in
-    let acked : c.0.acked ≡ range_sum l.shape.slots 2 (heard l.transcript.client) = sym (ap acked_of c.1) ∙ client.acked in
+    let announced : c.0.announced ≡ range_sum l.shape.slots 1 (said l.transcript.a) = sym (ap announced_of c.1) ∙ client.announced in
+    let acked : c.0.acked ≡ range_sum l.shape.slots 2 (heard l.transcript.a) = sym (ap acked_of c.1) ∙ client.acked in
     let asked : d.counts.asked ≡ c.0.announced = order.asked ∙ ap (range_sum l.shape.slots 1) (sym all.to_theirs) ∙ sym announced in
     let answered : d.counts.answered ≡ c.0.acked = order.answered ∙ ap (range_sum l.shape.slots 2) all.to_mine ∙ sym acked in
     record {
@@ -81,7 +81,7 @@ finished_all s l grounded rest all client_open server_open =
 
 -- THE LAW of two ends at rest
 pub record Finished (s : LaneState) (l : DiskLog) : Type 0 where
-  pub at_rest : IsAtRest l
+  pub at_rest : IsLogAtRest l
   pub client : is_some s.client.session ≡ true
   pub server : is_some s.server.session ≡ true
 

@@ -1,19 +1,19 @@
 -- What an event of the wire leaves of a lane, but for the packet by which a client's session opens.
 use Rattle.std.proofs.Common.{◌≡◌, ℕ, true, false, Option, None, List, sym, ap, ◌∙◌, arith}
 use Rattle.ldc_queue.specs.declared.end.End.TheVariants.{A, B}
-use Rattle.channel_laws.specs.WireEvent.{Blocked, Idle, Joined, Reset, Sent, Took, WireEvent}
+use Rattle.lane_models.specs.WireEvent.{Blocked, Idle, Joined, Reset, Sent, Took, WireEvent}
 use Rattle.lane_laws.specs.DiskLog.{DiskLog}
-use Rattle.disk_model.specs.ClientRule as client
-use Rattle.disk_model.specs.ClientState.{ClientState, joined_client}
-use Rattle.disk_model.specs.LaneState.{LaneState}
-use Rattle.disk_model.specs.LaneStep.{WireStep, near_on_wire}
-use Rattle.disk_model.specs.ServerRule as server
-use Rattle.disk_model.specs.ServerState.{ServerState, Work}
+use Rattle.lane_models.specs.ClientRule as client
+use Rattle.lane_models.specs.ClientState.{ClientState, joined_client}
+use Rattle.lane_models.specs.LaneState.{LaneState}
+use Rattle.lane_models.specs.LaneStep.{WireStep, near_on_wire}
+use Rattle.lane_models.specs.ServerRule as server
+use Rattle.lane_models.specs.ServerState.{ServerState, Work}
 use Rattle.lane_laws.proofs.LaneCounting.{Knows}
 use Rattle.lane_laws.proofs.LaneViews.{ClientActs, ClientCalled, ClientStays, ClientView, ServerActs, ServerCalled, ServerRenewed, ServerStays, ServerView, WireBeside, at_client, at_server, lane_view, reach_of}
-use Rattle.disk_model.specs.ClientStep.{ClientStep}
-use Rattle.disk_model.specs.DiskEvent.{OnWire}
-use Rattle.disk_model.specs.ServerStep.{ServerStep}
+use Rattle.lane_models.specs.ClientStep.{ClientStep}
+use Rattle.lane_models.specs.DiskEvent.{OnWire}
+use Rattle.lane_models.specs.ServerStep.{ServerStep}
 use Rattle.lane_laws.proofs.RingLeaves.{OpensNot}
 use Rattle.lane_laws.proofs.Ruling.{client_may}
 use Rattle.lane_laws.proofs.Leaving.{ClientLeaves, client_sent, client_took, held_leaves, leaves_same, server_held, server_sent, server_took}
@@ -36,7 +36,7 @@ joined_leaves c t is = grind arith
 client_leaves : (s : LaneState) (l : DiskLog) (event : WireEvent) (t : ClientState) (new : List ℕ) → Knows s l → OpensNot event
     → ClientStep s.client (at_client s) s.memory (OnWire event) t new → ClientLeaves s.client t
 client_leaves s l (Joined A lost) t new knows not step = joined_leaves s.client t step.2
-client_leaves s l (Took A packet opens) t new knows not step = client_took s.client l.transcript.client packet t knows.rests.client.stands.link.follows knows.rests.client.whole step.1
+client_leaves s l (Took A packet opens) t new knows not step = client_took s.client l.transcript.a packet t knows.rests.client.stands.link.follows knows.rests.client.whole step.1
 client_leaves s l (Sent A packet false) t new knows not step = client_sent s.client (at_client s) s.memory packet t new step
 client_leaves s l (Sent A packet true) t new knows not step = absurd (cc not)
 client_leaves s l (Blocked A) t new knows not step = held_leaves s.client (at_client s) (client.client_rule s.client (at_client s)) t (client_may s.client (at_client s)) step.0
@@ -54,7 +54,7 @@ server_keeps_work : (s : LaneState) (l : DiskLog) (event : WireEvent) (gave : Li
     → ServerStep s.server (at_server s) (reach_of s) gave (OnWire event) t new → t.work ≡ work_on_wire event s.server.work
 server_keeps_work s l (Joined B lost) gave t new knows step = ap (λ (x : ServerState). x.work) step.2
 server_keeps_work s l (Took B packet opens) gave t new knows step =
-    server_took s.server l.transcript.server packet t opens knows.rests.server.stands.link.follows knows.rests.server.whole step.1
+    server_took s.server l.transcript.b packet t opens knows.rests.server.stands.link.follows knows.rests.server.whole step.1
 server_keeps_work s l (Sent B packet opens) gave t new knows step = server_sent s.server (at_server s) packet opens t step.0
 server_keeps_work s l (Blocked B) gave t new knows step = server_held s.server (server.server_rule s.server (at_server s)) t step.0
 server_keeps_work s l (Idle B) gave t new knows step = ap (λ (x : ServerState). x.work) step.1

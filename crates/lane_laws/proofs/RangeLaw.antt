@@ -15,39 +15,39 @@ use Rattle.vio_bytes.specs.Place.{number_at}
 use Rattle.vio_tag.specs.declared.message.Message.{Message}
 use Rattle.vio_tag.specs.declared.message.MsgBody.TheVariants.{DringData}
 use Rattle.vio_tag.specs.Spelling.{SpellsBody, canonical, envelope_code, subtype_at}
-use Rattle.channel_laws.specs.Sayings.{half_heard, half_said, said}
-use Rattle.channel_laws.specs.WireEvent.{Sent, Took}
+use Rattle.lane_models.specs.Sayings.{half_heard, half_said, said}
+use Rattle.lane_models.specs.WireEvent.{Sent, Took}
 use Rattle.lane_laws.proofs.ServerSpeaking.{server_holds_link}
 use Rattle.lane_laws.specs.DiskLog.{DiskLog}
-use Rattle.channel_laws.specs.Blockage.{Blockage, Clear}
+use Rattle.lane_models.specs.Blockage.{Blockage, Clear}
 use Rattle.lane_laws.specs.EndLog.{ident_of, range_in_work, state_of}
-use Rattle.channel_laws.specs.Messages.{end_slot_of, ended_by, range_ended, range_in, seq_of, sid_of, start_slot_of}
+use Rattle.lane_models.specs.Messages.{end_slot_of, ended_by, range_ended, range_in, seq_of, sid_of, start_slot_of}
 use Rattle.lane_laws.specs.WorkLaws.{Acknowledges, AcknowledgesRange, Announces, AsksFor, HearsNoOther, IfRange, NamesOwn, NamesRing, OfClientRange, OfServerRange, RangesAt, client_handshake, server_handshake}
 use Rattle.lane_laws.specs.WorkLog.{ClientCounts, ServerCounts}
-use Rattle.disk_model.specs.ClientPutting.{client_holds, client_kind, is_announcing}
-use Rattle.disk_model.specs.ClientRule as client_rules
-use Rattle.disk_model.specs.ClientState.{ClientSession, ClientState, slot_in}
-use Rattle.disk_model.specs.ClientStep.{ClientSends}
-use Rattle.channel_laws.specs.EndPuts.{ComesUp, EndsOwn, EndsHandshake, Goes, PutKind}
-use Rattle.channel_laws.specs.Seeing.{Seen, seen}
-use Rattle.disk_model.specs.ServerPutting.{server_holds, server_kind}
-use Rattle.disk_model.specs.ServerRule as server_rules
+use Rattle.lane_models.specs.ClientPutting.{client_holds, client_kind, is_announcing}
+use Rattle.lane_models.specs.ClientRule as client_rules
+use Rattle.lane_models.specs.ClientState.{ClientSession, ClientState, slot_in}
+use Rattle.lane_models.specs.ClientStep.{ClientSends}
+use Rattle.lane_models.specs.EndPuts.{ComesUp, EndsOwn, EndsHandshake, Goes, PutKind}
+use Rattle.lane_models.specs.Seeing.{Seen, seen}
+use Rattle.lane_models.specs.ServerPutting.{server_holds, server_kind}
+use Rattle.lane_models.specs.ServerRule as server_rules
 use Rattle.vio_handshake.specs.declared.handshake.Handshake.{Handshake}
 use Rattle.vio_handshake.specs.declared.handshake.Phase.{Phase}
 use Rattle.vio_handshake.specs.Rules.{sid_fault}
-use Rattle.disk_model.specs.DiskEvent.{DiskEvent, OnWire}
-use Rattle.disk_model.specs.LaneState.{IsShape, LaneState}
-use Rattle.disk_model.specs.LaneStep.{EndOnWire, LaneStep}
-use Rattle.channel_laws.specs.Ranges.{wrapped}
+use Rattle.lane_models.specs.DiskEvent.{DiskEvent, OnWire}
+use Rattle.lane_models.specs.LaneState.{IsShape, LaneState}
+use Rattle.lane_models.specs.LaneStep.{EndOnWire, LaneStep}
+use Rattle.lane_models.specs.Ranges.{wrapped}
 use Rattle.dring.specs.Slots.{range_length}
-use Rattle.disk_model.specs.ServerState.{ServerState, SlotRange}
-use Rattle.disk_model.specs.ServerStep.{ServerSends}
-use Rattle.channel_laws.proofs.UtteranceCases.{heard_none, heard_some, said_none, said_some}
+use Rattle.lane_models.specs.ServerState.{ServerState, SlotRange}
+use Rattle.lane_models.specs.ServerStep.{ServerSends}
+use Rattle.lane_models.proofs.UtteranceCases.{heard_none, heard_some, said_none, said_some}
 use Rattle.lane_laws.proofs.ClientFolds.{clear_quiet}
 use Rattle.lane_laws.proofs.ClientPuts.{putting}
 use Rattle.lane_laws.proofs.ClientTaken.{ClientAcked, ClientTook, HearsMessage, client_took_what}
 use Rattle.lane_laws.proofs.ClientPutCounting.{OwnInfo, own_info}
-use Rattle.channel_laws.proofs.PutSayings.{PutSays, SaysWhole, put_says}
+use Rattle.lane_models.proofs.PutSayings.{PutSays, SaysWhole, put_says}
 use Rattle.lane_laws.proofs.EndsFold.{BothAre, held_session, infos_are}
 use Rattle.lane_laws.proofs.IdleLaw.{past_all}
 use Rattle.lane_laws.proofs.IdleRules.{published_all}
@@ -65,10 +65,10 @@ use Rattle.lane_laws.proofs.Sharing.{in_order}
 use Rattle.lane_laws.proofs.WorkNumbers.{in_client, in_server, order_of}
 use Rattle.ldc_link.specs.declared.phase.Role.TheVariants.{Initiator}
 use Rattle.lane_laws.specs.ChannelEnds.{client_core}
-use Rattle.channel_laws.specs.Cuts.{CarriesOwed}
+use Rattle.lane_models.specs.Cuts.{CarriesOwed}
 use Rattle.lane_laws.specs.Counted.{ClientCounted, HoldsAnswer, InServerOrder, RangeStands, ServerCounted}
-use Rattle.channel_laws.specs.HandshakeFits.{OwedFits}
-use Rattle.channel_laws.proofs.MessagesHeld.{owed_held}
+use Rattle.lane_models.specs.HandshakeFits.{OwedFits}
+use Rattle.lane_models.proofs.MessagesHeld.{owed_held}
 use Rattle.lane_laws.proofs.Speaking.{server_blocked_rests, server_holds_owed}
 use Rattle.lane_laws.specs.LaneRests.{ClientRests, ServerRests}
 use Rattle.lane_laws.specs.Sound.{ClientSound, SessionInOrder}
@@ -130,10 +130,10 @@ record Pending (l : DiskLog) (held : ClientState) : Type 0 where
   published : (session : ClientSession) → l.blocked.client ≡ Clear → held.session ≡ Some session → session.announcing ≡ true → PublishedAll held session
 
 abbrev SaysInfo : DiskLog → List ℕ → Type 0
-SaysInfo l packet = OfClientRange l (range_ended 1 (half_said l.transcript.client) packet) (Announces l)
+SaysInfo l packet = OfClientRange l (range_ended 1 (half_said l.transcript.a) packet) (Announces l)
 
-announces : (l : DiskLog) (packet : List ℕ) (held : ClientState) (info : OwnInfo held (half_said l.transcript.client ++ held.link.to_send)) → Pending l held → ClientSound held
-    → ClientCounted l.shape held l.transcript.client l.work.done l.work.client → SaysWhole held.link l.transcript.client packet → SaysInfo l packet
+announces : (l : DiskLog) (packet : List ℕ) (held : ClientState) (info : OwnInfo held (half_said l.transcript.a ++ held.link.to_send)) → Pending l held → ClientSound held
+    → ClientCounted l.shape held l.transcript.a l.work.done l.work.client → SaysWhole held.link l.transcript.a packet → SaysInfo l packet
 announces l packet held info stand sound counted last =
     let session = info.session in
     let of : OfClient session l.work.done l.work.client = of_client held.session session l.work.done l.work.client info.is counted.agrees in
@@ -145,15 +145,15 @@ announces l packet held info stand sound counted last =
     let start = slot_in held session.announced in
     let end = slot_in held (session.published - 1) in
     let below : end < held.slots = mod_below (session.published - 1) held.slots wide in
-    let bytes = half_said l.transcript.client ++ held.link.to_send in
+    let bytes = half_said l.transcript.a ++ held.link.to_send in
     let seq = wrapped (session.infos + 1) in
     let begun : start < 2 ^ 32 = omega (arith, mod_below session.announced held.slots wide, sound.slots) in
     let ended_small : end < 2 ^ 32 = omega (arith, below, sound.slots) in
-    let says = says_range 1 held.handshake.draft.sid Info seq held.handshake.draft.ident_own start end 1 held.link l.transcript.client packet refl (omega arith) begun ended_small info.bytes_are last in
+    let says = says_range 1 held.handshake.draft.sid Info seq held.handshake.draft.ident_own start end 1 held.link l.transcript.a packet refl (omega arith) begun ended_small info.bytes_are last in
     let spans : range_length l.shape.slots (start_slot_of bytes) (end_slot_of bytes) ≡ session.published - session.announced =
     ap (λ (x : ℕ). range_length l.shape.slots x (end_slot_of bytes)) says.starts ∙ ap (λ (x : ℕ). range_length l.shape.slots start x) says.ends
     ∙ ap (λ (n : ℕ). range_length n start end) (sym counted.slots) ∙ range_turns held.slots session.announced session.published some few in
-    if_some (range_ended 1 (half_said l.transcript.client) packet) _ bytes says.range
+    if_some (range_ended 1 (half_said l.transcript.a) packet) _ bytes says.range
     (in_client l.work.client c (λ (k : ClientCounts). Announces l k bytes) of.is (record {
       names = names_own held.handshake (client_handshake l) bytes (λ (h : Handshake). h.draft.ident_own) stand.shaken says.of_session says.of_ring;
       next = says.numbered ∙ ap (λ (n : ℕ). wrapped (n + 1)) of.agree.infos;
@@ -177,14 +177,14 @@ announces l packet held info stand sound counted last =
       active = says.states;
     }))
 
-by_kind : (kind : PutKind) (l : DiskLog) (packet : List ℕ) (held : ClientState) → Pending l held → ClientRests held l.transcript.client → ClientSound held → ClientCounted l.shape held l.transcript.client l.work.done l.work.client
-    → PutSays kind (is_announcing held.session) held.link l.transcript.client packet → SaysInfo l packet
-by_kind Goes l packet held stand rests sound counted says = if_none _ _ (goes_none 1 l.transcript.client packet says.messages)
-by_kind ComesUp l packet held stand rests sound counted says = if_none _ _ (goes_none 1 l.transcript.client packet says.0.messages)
-by_kind EndsOwn l packet held stand rests sound counted says = announces l packet held (own_info held l.transcript.client held.session refl says.1 counted.holds) stand sound counted says.0
+by_kind : (kind : PutKind) (l : DiskLog) (packet : List ℕ) (held : ClientState) → Pending l held → ClientRests held l.transcript.a → ClientSound held → ClientCounted l.shape held l.transcript.a l.work.done l.work.client
+    → PutSays kind (is_announcing held.session) held.link l.transcript.a packet → SaysInfo l packet
+by_kind Goes l packet held stand rests sound counted says = if_none _ _ (goes_none 1 l.transcript.a packet says.messages)
+by_kind ComesUp l packet held stand rests sound counted says = if_none _ _ (goes_none 1 l.transcript.a packet says.0.messages)
+by_kind EndsOwn l packet held stand rests sound counted says = announces l packet held (own_info held l.transcript.a held.session refl says.1 counted.holds) stand sound counted says.0
 by_kind EndsHandshake l packet held stand rests sound counted says =
-    if_none _ _ (owed_none 1 held.handshake.phase held.handshake.owed held.link l.transcript.client packet (inl refl) rests.fits.owed
-    (owed_held Initiator (client_core held) l.transcript.client rests.stands says.1 says.0.some) says.0)
+    if_none _ _ (owed_none 1 held.handshake.phase held.handshake.owed held.link l.transcript.a packet (inl refl) rests.fits.owed
+    (owed_held Initiator (client_core held) l.transcript.a rests.stands says.1 says.0.some) says.0)
 
 said_info : (s : LaneState) (l : DiskLog) (packet : List ℕ) (opens : Bool) (t : ClientState) (new : List ℕ) → BothAre s l → AreTold s l
     → ClientSends s.client (seen A s.shape.entries s.wire.wire) s.memory packet opens t new → SaysInfo l packet
@@ -198,7 +198,7 @@ said_info s l packet opens t new both told sends =
       done = requests.done;
       shaken = client_shaken s.client rule sends.held sends.holds ∙ told.client;
       published = λ session clear is own. holds_all s.client at rule sends.held l.blocked.client session refl sends.holds
-          (clear_quiet s.client l.transcript.client l.blocked.client both.knows.all.sound both.knows.rests.client both.client) clear is own;
+          (clear_quiet s.client l.transcript.a l.blocked.client both.knows.all.sound both.knows.rests.client both.client) clear is own;
     }) put.rests put.sound put.counted put.says
 
 -- A RANGE THAT IS HEARD names the end's ring
@@ -208,32 +208,32 @@ names_ring h g sid bytes ident is same known names named own = search
 
 -- AN ACK THAT IS HEARD
 abbrev HearsAck : DiskLog → List ℕ → Type 0
-HearsAck l packet = OfClientRange l (range_ended 2 (half_heard l.transcript.client) packet) (Acknowledges l.shape.slots (client_handshake l))
+HearsAck l packet = OfClientRange l (range_ended 2 (half_heard l.transcript.a) packet) (Acknowledges l.shape.slots (client_handshake l))
 
 abbrev IsBody : List ℕ → ℕ → ℕ → ℕ → ℕ → ℕ → Type 0
 IsBody bytes seq ident start end state = SpellsBody bytes (DringData seq ident start end state)
 
-acknowledges : (l : DiskLog) (packet : List ℕ) (s t : ClientState) → s.handshake ≡ client_handshake l → ClientCounted l.shape s l.transcript.client l.work.done l.work.client
-    → ClientAcked s l.transcript.client packet t → HearsAck l packet
+acknowledges : (l : DiskLog) (packet : List ℕ) (s t : ClientState) → s.handshake ≡ client_handshake l → ClientCounted l.shape s l.transcript.a l.work.done l.work.client
+    → ClientAcked s l.transcript.a packet t → HearsAck l packet
 acknowledges l packet s t shaken counted acked = grind (arith, heard_some)
 
-heard_ack : (l : DiskLog) (packet : List ℕ) (s t : ClientState) → s.handshake ≡ client_handshake l → ClientCounted l.shape s l.transcript.client l.work.done l.work.client → ClientTook s l.transcript.client packet t
+heard_ack : (l : DiskLog) (packet : List ℕ) (s t : ClientState) → s.handshake ≡ client_handshake l → ClientCounted l.shape s l.transcript.a l.work.done l.work.client → ClientTook s l.transcript.a packet t
     → HearsAck l packet
-heard_ack l packet s t shaken counted (inl part) = if_none _ _ (ap (range_in 2) (heard_none l.transcript.client packet part.messages))
+heard_ack l packet s t shaken counted (inl part) = if_none _ _ (ap (range_in 2) (heard_none l.transcript.a packet part.messages))
 heard_ack l packet s t shaken counted (inr (inl took)) =
-    if_none _ _ (ap (range_in 2) (heard_some l.transcript.client packet took.hears.bytes took.hears.messages)
+    if_none _ _ (ap (range_in 2) (heard_some l.transcript.a packet took.hears.bytes took.hears.messages)
     ∙ heard_no_range 2 took.hears.bytes took.message took.hears.spells took.hears.form (no_data s.handshake took.handshake took.message took.opens took.took))
 heard_ack l packet s t shaken counted (inr (inr acked)) = acknowledges l packet s t shaken counted acked
 
 -- AN INFO THAT IS HEARD
 abbrev HearsInfo : DiskLog → List ℕ → Type 0
-HearsInfo l packet = OfServerRange l (range_ended 1 (half_heard l.transcript.server) packet) (AsksFor l.shape.slots l.transcript.server (server_handshake l))
+HearsInfo l packet = OfServerRange l (range_ended 1 (half_heard l.transcript.b) packet) (AsksFor l.shape.slots l.transcript.b (server_handshake l))
 
-asks_for : (l : DiskLog) (packet : List ℕ) (s t : ServerState) (opens : Bool) → IsShape l.shape → s.handshake ≡ server_handshake l → ServerRests s l.transcript.server → TakesFree s
-    → ServerCounted l.shape s l.transcript.server l.work.server → ServerAsked s l.transcript.server packet t opens → HearsInfo l packet
+asks_for : (l : DiskLog) (packet : List ℕ) (s t : ServerState) (opens : Bool) → IsShape l.shape → s.handshake ≡ server_handshake l → ServerRests s l.transcript.b → TakesFree s
+    → ServerCounted l.shape s l.transcript.b l.work.server → ServerAsked s l.transcript.b packet t opens → HearsInfo l packet
 asks_for l packet s t opens sound shaken rests free counted asks =
     let session = asks.info.session in
-    let turns = l.transcript.server in
+    let turns = l.transcript.b in
     let slots = l.shape.slots in
     let range = asks.info.range in
     let bytes = asks.hears.bytes in
@@ -255,23 +255,23 @@ asks_for l packet s t opens sound shaken rests free counted asks =
       answered = subst (λ (r : Option SlotRange). RangeStands slots r c) (free.range session asks.info.session_is) order.range;
     }))
 
-heard_info : (l : DiskLog) (packet : List ℕ) (s t : ServerState) (opens : Bool) → IsShape l.shape → s.handshake ≡ server_handshake l → ServerRests s l.transcript.server → TakesFree s
-    → ServerCounted l.shape s l.transcript.server l.work.server → ServerTook s l.transcript.server packet t opens → HearsInfo l packet
-heard_info l packet s t opens sound shaken rests free counted (inl part) = if_none _ _ (ap (range_in 1) (heard_none l.transcript.server packet part.messages))
+heard_info : (l : DiskLog) (packet : List ℕ) (s t : ServerState) (opens : Bool) → IsShape l.shape → s.handshake ≡ server_handshake l → ServerRests s l.transcript.b → TakesFree s
+    → ServerCounted l.shape s l.transcript.b l.work.server → ServerTook s l.transcript.b packet t opens → HearsInfo l packet
+heard_info l packet s t opens sound shaken rests free counted (inl part) = if_none _ _ (ap (range_in 1) (heard_none l.transcript.b packet part.messages))
 heard_info l packet s t opens sound shaken rests free counted (inr (inl took)) =
-    if_none _ _ (ap (range_in 1) (heard_some l.transcript.server packet took.hears.bytes took.hears.messages)
+    if_none _ _ (ap (range_in 1) (heard_some l.transcript.b packet took.hears.bytes took.hears.messages)
     ∙ heard_no_range 1 took.hears.bytes took.message took.hears.spells took.hears.form (no_data s.handshake took.handshake took.message opens took.took))
 heard_info l packet s t opens sound shaken rests free counted (inr (inr asks)) = asks_for l packet s t opens sound shaken rests free counted asks
 
 -- AN ACK THAT IS SAID answers the whole range in work
 abbrev SaysAck : DiskLog → List ℕ → Type 0
-SaysAck l packet = OfServerRange l (range_ended 2 (half_said l.transcript.server) packet) (AcknowledgesRange l.shape.slots l.transcript.server (server_handshake l))
+SaysAck l packet = OfServerRange l (range_ended 2 (half_said l.transcript.b) packet) (AcknowledgesRange l.shape.slots l.transcript.b (server_handshake l))
 
-answers : (l : DiskLog) (packet : List ℕ) (held : ServerState) → held.handshake ≡ server_handshake l → IsShape l.shape → ranged held.session ≡ range_in_work l.transcript.server
-    → HoldsAnswer held (half_said l.transcript.server ++ held.link.to_send) → ServerCounted l.shape held l.transcript.server l.work.server
-    → SaysWhole held.link l.transcript.server packet → SaysAck l packet
+answers : (l : DiskLog) (packet : List ℕ) (held : ServerState) → held.handshake ≡ server_handshake l → IsShape l.shape → ranged held.session ≡ range_in_work l.transcript.b
+    → HoldsAnswer held (half_said l.transcript.b ++ held.link.to_send) → ServerCounted l.shape held l.transcript.b l.work.server
+    → SaysWhole held.link l.transcript.b packet → SaysAck l packet
 answers l packet held shaken sound in_work a counted last =
-    let turns = l.transcript.server in
+    let turns = l.transcript.b in
     let slots = l.shape.slots in
     let range = a.range in
     let bytes = half_said turns ++ held.link.to_send in
@@ -299,15 +299,15 @@ answers l packet held shaken sound in_work a counted last =
       finished = all_finished slots a.session held.work c turns range sound.most_slots a.finished stands order of.agree of.work_agrees;
     }))
 
-answers_by : (kind : PutKind) (l : DiskLog) (packet : List ℕ) (held : ServerState) → held.handshake ≡ server_handshake l → ServerRests held l.transcript.server → IsShape l.shape → ranged held.session ≡ range_in_work l.transcript.server
-    → ServerCounted l.shape held l.transcript.server l.work.server → PutSays kind (is_none held.handshake.owed) held.link l.transcript.server packet → SaysAck l packet
-answers_by Goes l packet held shaken rests sound in_work counted says = if_none _ _ (goes_none 2 l.transcript.server packet says.messages)
-answers_by ComesUp l packet held shaken rests sound in_work counted says = if_none _ _ (goes_none 2 l.transcript.server packet says.0.messages)
+answers_by : (kind : PutKind) (l : DiskLog) (packet : List ℕ) (held : ServerState) → held.handshake ≡ server_handshake l → ServerRests held l.transcript.b → IsShape l.shape → ranged held.session ≡ range_in_work l.transcript.b
+    → ServerCounted l.shape held l.transcript.b l.work.server → PutSays kind (is_none held.handshake.owed) held.link l.transcript.b packet → SaysAck l packet
+answers_by Goes l packet held shaken rests sound in_work counted says = if_none _ _ (goes_none 2 l.transcript.b packet says.messages)
+answers_by ComesUp l packet held shaken rests sound in_work counted says = if_none _ _ (goes_none 2 l.transcript.b packet says.0.messages)
 answers_by EndsOwn l packet held shaken rests sound in_work counted says =
     answers l packet held shaken sound in_work (counted.holds (none_is held.handshake.owed says.1) says.0.some) counted says.0
 answers_by EndsHandshake l packet held shaken rests sound in_work counted says =
-    if_none _ _ (owed_none 2 held.handshake.phase held.handshake.owed held.link l.transcript.server packet (inr refl) rests.fits.owed
-    (server_holds_owed held l.transcript.server rests.stands says.1 says.0.some) says.0)
+    if_none _ _ (owed_none 2 held.handshake.phase held.handshake.owed held.link l.transcript.b packet (inr refl) rests.fits.owed
+    (server_holds_owed held l.transcript.b rests.stands says.1 says.0.some) says.0)
 
 said_ack : (s : LaneState) (l : DiskLog) (packet : List ℕ) (opens : Bool) (t : ServerState) → IsShape l.shape → BothAre s l → AreTold s l
     → ServerSends s.server (seen B s.shape.entries s.wire.wire) packet opens t → SaysAck l packet
@@ -315,10 +315,10 @@ said_ack s l packet opens t sound both told sends =
     let at = seen B s.shape.entries s.wire.wire in
     let rule = server_rules.server_rule s.server at in
     let knows = both.knows in
-    let rests = server_blocked_rests s.server at sends.held l.transcript.server sends.holds knows.rests.server in
+    let rests = server_blocked_rests s.server at sends.held l.transcript.b sends.holds knows.rests.server in
     answers_by (server_kind sends.held) l packet sends.held (server_shaken s.server rule sends.held sends.holds ∙ told.server) rests sound (ap ranged (held_session s.server rule sends.held sends.holds) ∙ both.range)
-    (server_holds_counting l.shape s.server rule sends.held l.transcript.server l.work.server knows.rests.server knows.utters.server (server_free s.server at) sends.holds knows.counted.server)
-    (put_says (is_none sends.held.handshake.owed) sends.held.link t.link l.transcript.server packet
+    (server_holds_counting l.shape s.server rule sends.held l.transcript.b l.work.server knows.rests.server knows.utters.server (server_free s.server at) sends.holds knows.counted.server)
+    (put_says (is_none sends.held.handshake.owed) sends.held.link t.link l.transcript.b packet
     rests.stands.link.follows sends.packet)
 
 -- NO OTHER RANGE is heard
@@ -380,20 +380,20 @@ server_no_other s t turns packet opens (inr (inr asks)) = record {
 
 -- EACH EVENT
 took_ack : (s : LaneState) (l : DiskLog) (packet : List ℕ) (opens : Bool) (t : LaneState) → BothAre s l → AreTold s l → EndOnWire A s (Took A packet opens) t
-    → HearsAck l packet × HearsNoOther 2 l.transcript.client packet
+    → HearsAck l packet × HearsNoOther 2 l.transcript.a packet
 took_ack s l packet opens t both told step =
     let knows = both.knows in
-    let took = client_took_what s.client l.transcript.client packet t.client knows.rests.client.stands.link.follows knows.rests.client.whole step.step.1 in
-    (heard_ack l packet s.client t.client told.client knows.counted.client took, client_no_other s.client t.client l.transcript.client packet took)
+    let took = client_took_what s.client l.transcript.a packet t.client knows.rests.client.stands.link.follows knows.rests.client.whole step.step.1 in
+    (heard_ack l packet s.client t.client told.client knows.counted.client took, client_no_other s.client t.client l.transcript.a packet took)
 
 took_info : (s : LaneState) (l : DiskLog) (packet : List ℕ) (opens : Bool) (t : LaneState) → IsShape l.shape → BothAre s l → AreTold s l → EndOnWire B s (Took B packet opens) t
-    → HearsInfo l packet × HearsNoOther 1 l.transcript.server packet
+    → HearsInfo l packet × HearsNoOther 1 l.transcript.b packet
 took_info s l packet opens t sound both told step =
     let knows = both.knows in
     let free : TakesFree s.server = subst (ServerFree s.server) step.1.step.1.0 (server_free s.server (seen B s.shape.entries s.wire.wire)) in
-    let took = server_took_what s.server l.transcript.server packet t.server opens knows.rests.server.stands.link.follows knows.rests.server.whole step.1.step.1.1 in (
+    let took = server_took_what s.server l.transcript.b packet t.server opens knows.rests.server.stands.link.follows knows.rests.server.whole step.1.step.1.1 in (
       heard_info l packet s.server t.server opens sound told.server knows.rests.server free knows.counted.server took,
-      server_no_other s.server t.server l.transcript.server packet opens took,
+      server_no_other s.server t.server l.transcript.b packet opens took,
     )
 
 pub ranges_at : (s : LaneState) (l : DiskLog) (event : DiskEvent) (t : LaneState) → IsShape l.shape → BothAre s l → AreTold s l → LaneStep s event t → RangesAt l event

@@ -3,8 +3,8 @@ use Rattle.std.proofs.Common.{◌≡◌, ℕ, ◌+◌, ◌≤◌, Bool, true, fa
 use Rattle.std.specs.Prelude.{◌&&◌}
 use Rattle.ldc_queue.specs.Fragments.{Fragment, fragment_at, is_part}
 use Rattle.ldc_queue.specs.Transcript.{Heard as Heard_, Said, Utterance}
-use Rattle.channel_laws.specs.Sayings.{half_heard, half_said, heard, said, whole_by, whole_past}
-use Rattle.channel_laws.specs.Messages.{range_ended, range_in, whole_with}
+use Rattle.lane_models.specs.Sayings.{half_heard, half_said, heard, said, whole_by, whole_past}
+use Rattle.lane_models.specs.Messages.{range_ended, range_in, whole_with}
 use Rattle.lane_laws.specs.WorkLog.{length_in, one_in}
 use Rattle.lane_laws.specs.Counted.{range_count, range_sum}
 

@@ -11,14 +11,14 @@ use Rattle.vio_tag.specs.Form.{HasForm, IsWellFormed}
 use Rattle.vio_tag.specs.Spelling.{SpellsMessage, canonical, envelope_at, envelope_code, subtype_at}
 use Rattle.vio_handshake.specs.declared.handshake.Phase.{Phase}
 use Rattle.vio_bytes.specs.Place.{big_bytes, number_at}
-use Rattle.channel_laws.specs.Messages.{end_slot_of, is_range, range_if, range_in, seq_of, sid_of, start_slot_of}
+use Rattle.lane_models.specs.Messages.{end_slot_of, is_range, range_if, range_in, seq_of, sid_of, start_slot_of}
 use Rattle.lane_laws.specs.EndLog.{ident_of, state_of}
 use Rattle.lane_laws.specs.WorkLog.{length_in, one_in}
 use Rattle.dring.specs.Slots.{range_length}
 use Rattle.vio_handshake.specs.declared.handshake.Handshake.{Handshake}
-use Rattle.channel_laws.proofs.HandshakeCases.{HandshakeTook, row_apart}
-use Rattle.channel_laws.specs.EndStep.{IsOfSession}
-use Rattle.channel_laws.specs.HandshakeFits.{MayOwe}
+use Rattle.lane_models.proofs.HandshakeCases.{HandshakeTook, row_apart}
+use Rattle.lane_models.specs.EndStep.{IsOfSession}
+use Rattle.lane_models.specs.HandshakeFits.{MayOwe}
 
 -- THE ENVELOPE AND THE SUBTYPE of canonical bytes
 abbrev pub IsNoPlain : MsgBody → Type 0

@@ -20,36 +20,36 @@ use Rattle.vio_tag.specs.declared.message.Message.{Message}
 use Rattle.vio_tag.specs.declared.message.MsgBody.TheVariants.{DringData, Rdx}
 use Rattle.vio_tag.specs.Spelling.{canonical, envelope_at, envelope_code, sid_at}
 use Rattle.vio_tag.proofs.Canonical.{canonical_spells}
-use Rattle.channel_laws.specs.EndPuts.{ComesUp, EndsOwn, EndsHandshake, Goes, PutKind}
-use Rattle.channel_laws.specs.Messages.{range_in}
-use Rattle.channel_laws.specs.Ranges.{wrapped}
-use Rattle.channel_laws.specs.Sayings.{half_said, heard, said}
-use Rattle.channel_laws.specs.Seeing.{seen}
-use Rattle.channel_laws.specs.WireEvent.{Sent, WireEvent}
-use Rattle.channel_laws.specs.WireLog.{WireLog}
-use Rattle.disk_model.specs.ClientPutting.{client_kind, is_announcing}
-use Rattle.disk_model.specs.ClientState.{ClientState}
-use Rattle.disk_model.specs.DiskEvent.{DiskEvent, OnWire, Stopped, Switches}
-use Rattle.disk_model.specs.LaneState.{IsShape, LaneState, Shape, fresh}
-use Rattle.disk_model.specs.LaneStep.{LaneStep}
-use Rattle.disk_model.specs.ServerPutting.{server_kind}
-use Rattle.disk_model.specs.ServerRule as server_rules
-use Rattle.disk_model.specs.ServerState.{ServerSession, ServerState, SlotRange}
-use Rattle.channel_laws.proofs.Apart.{some_is_none, some_same}
-use Rattle.channel_laws.proofs.Conversations.{held_phase}
-use Rattle.channel_laws.proofs.EndResting.{held_handshake}
-use Rattle.channel_laws.proofs.EndStanding.{held_stands, owing_up}
-use Rattle.channel_laws.proofs.HandshakePlaces.{AtPlace, IsOwn, deal, owes_at, owes_none, owes_not, same_at, who}
-use Rattle.channel_laws.proofs.HandshakesPlaced.{next_own, own_envelope}
-use Rattle.channel_laws.specs.EndCore.{EndCore}
-use Rattle.channel_laws.specs.EndStep.{EndWaits}
-use Rattle.channel_laws.specs.Sides.{Sides, other}
-use Rattle.channel_laws.specs.Standing.{EndStands}
+use Rattle.lane_models.specs.EndPuts.{ComesUp, EndsOwn, EndsHandshake, Goes, PutKind}
+use Rattle.lane_models.specs.Messages.{range_in}
+use Rattle.lane_models.specs.Ranges.{wrapped}
+use Rattle.lane_models.specs.Sayings.{half_said, heard, said}
+use Rattle.lane_models.specs.Seeing.{seen}
+use Rattle.lane_models.specs.WireEvent.{Sent, WireEvent}
+use Rattle.lane_models.specs.WireLog.{WireLog}
+use Rattle.lane_models.specs.ClientPutting.{client_kind, is_announcing}
+use Rattle.lane_models.specs.ClientState.{ClientState}
+use Rattle.lane_models.specs.DiskEvent.{DiskEvent, OnWire, Stopped, Switches}
+use Rattle.lane_models.specs.LaneState.{IsShape, LaneState, Shape, fresh}
+use Rattle.lane_models.specs.LaneStep.{LaneStep}
+use Rattle.lane_models.specs.ServerPutting.{server_kind}
+use Rattle.lane_models.specs.ServerRule as server_rules
+use Rattle.lane_models.specs.ServerState.{ServerSession, ServerState, SlotRange}
+use Rattle.lane_models.proofs.Apart.{some_is_none, some_same}
+use Rattle.lane_models.proofs.Conversations.{held_phase}
+use Rattle.lane_models.proofs.EndResting.{held_handshake}
+use Rattle.lane_models.proofs.EndStanding.{held_stands, owing_up}
+use Rattle.lane_models.proofs.HandshakePlaces.{AtPlace, IsOwn, deal, owes_at, owes_none, owes_not, same_at, who}
+use Rattle.lane_models.proofs.HandshakesPlaced.{next_own, own_envelope}
+use Rattle.lane_models.specs.EndCore.{EndCore}
+use Rattle.lane_models.specs.EndStep.{EndWaits}
+use Rattle.lane_models.specs.Sides.{Sides, other}
+use Rattle.lane_models.specs.Standing.{EndStands}
 use Rattle.lane_laws.proofs.AlongRuns.{reached_lawful}
 use Rattle.lane_laws.proofs.ClientMoves.{client_waits}
 use Rattle.lane_laws.proofs.ClientPutCounting.{OwnInfo, own_info}
 use Rattle.lane_laws.proofs.Counting.{slot_of_count}
-use Rattle.channel_laws.proofs.PutSayings.{PutSays, put_says}
+use Rattle.lane_models.proofs.PutSayings.{PutSays, put_says}
 use Rattle.lane_laws.proofs.LaneChannel.{OnLane, answers_of, asks_of, lane_meets}
 use Rattle.lane_laws.proofs.LaneCores.{lane_steps, shape_of}
 use Rattle.lane_laws.proofs.LaneCounting.{Knows, run_knows}
@@ -58,12 +58,12 @@ use Rattle.lane_laws.proofs.ClientPuts.{Putting, putting}
 use Rattle.lane_laws.proofs.RangesSaid.{IsNoPlain, envelope_reads}
 use Rattle.lane_laws.proofs.RingRuns.{before}
 use Rattle.lane_laws.proofs.RulesFree.{server_free}
-use Rattle.channel_laws.proofs.MessagesHeld.{owed_held}
+use Rattle.lane_models.proofs.MessagesHeld.{owed_held}
 use Rattle.lane_laws.proofs.Speaking.{server_blocked_rests, server_holds_owed}
 use Rattle.lane_laws.proofs.ServerMoves.{server_waits}
 use Rattle.lane_laws.proofs.ServerPutCounting.{server_holds_counting, none_is}
 use Rattle.lane_laws.specs.ChannelEnds.{client_core, server_core}
-use Rattle.channel_laws.specs.Cuts.{CarriesOwed}
+use Rattle.lane_models.specs.Cuts.{CarriesOwed}
 use Rattle.lane_laws.specs.Counted.{ClientCounted, HoldsAnswer, InServerOrder, RangeStands, ServerCounted, ServerOrder, range_count, range_sum}
 use Rattle.lane_laws.specs.DiskLog.{DiskLog, after, nothing_yet}
 use Rattle.lane_laws.specs.WorkLog.{ServerCounts, length_in, one_in}
@@ -216,59 +216,59 @@ abbrev Tells : Role → ℕ → List (List ℕ) → List (List ℕ) → Type 0
 Tells r slots told now = (now ≡ told) ⊎ TellsOne r slots told now
 
 abbrev WireTellsAt : DiskLog → WireEvent → Type 0
-WireTellsAt l (Sent A packet opens) = Tells Initiator l.shape.slots (said l.transcript.client) (said (Said packet ∷ l.transcript.client))
-WireTellsAt l (Sent B packet opens) = Tells Responder l.shape.slots (said l.transcript.server) (said (Said packet ∷ l.transcript.server))
+WireTellsAt l (Sent A packet opens) = Tells Initiator l.shape.slots (said l.transcript.a) (said (Said packet ∷ l.transcript.a))
+WireTellsAt l (Sent B packet opens) = Tells Responder l.shape.slots (said l.transcript.b) (said (Said packet ∷ l.transcript.b))
 WireTellsAt l _ = ⊤
 
 abbrev TellsAt : DiskLog → DiskEvent → Type 0
 TellsAt l (OnWire event) = WireTellsAt l event
 TellsAt l _ = ⊤
 
-client_tells : (kind : PutKind) (l : DiskLog) (d : Deal) (held : ClientState) (packet : List ℕ) → 1 ≤ l.shape.slots → d.sid < 2 ^ 32 → HeldAt Initiator d (client_core held) l.transcript.client
-    → ClientCounted l.shape held l.transcript.client l.work.done l.work.client → PutSays kind (is_announcing held.session) held.link l.transcript.client packet
+client_tells : (kind : PutKind) (l : DiskLog) (d : Deal) (held : ClientState) (packet : List ℕ) → 1 ≤ l.shape.slots → d.sid < 2 ^ 32 → HeldAt Initiator d (client_core held) l.transcript.a
+    → ClientCounted l.shape held l.transcript.a l.work.done l.work.client → PutSays kind (is_announcing held.session) held.link l.transcript.a packet
     → WireTellsAt l (Sent A packet false)
 client_tells Goes l d held packet some small here counted says = inl says.messages
 client_tells ComesUp l d held packet some small here counted says = inl says.0.messages
 client_tells EndsOwn l d held packet some small here counted says =
-    let bytes = half_said l.transcript.client ++ held.link.to_send in
+    let bytes = half_said l.transcript.a ++ held.link.to_send in
     inr (record {
       bytes = bytes;
       is = says.0.messages;
-      what = inl (d.sid, small, own_data l.shape d held l.transcript.client l bytes some here counted (own_info held l.transcript.client held.session refl says.1 counted.holds));
+      what = inl (d.sid, small, own_data l.shape d held l.transcript.a l bytes some here counted (own_info held l.transcript.a held.session refl says.1 counted.holds));
     })
 client_tells EndsHandshake l d held packet some small here counted says =
-    let bytes = half_said l.transcript.client ++ held.link.to_send in
+    let bytes = half_said l.transcript.a ++ held.link.to_send in
     inr (record {
       bytes = bytes;
       is = says.0.messages;
-      what = inr (owed_apart Initiator d (client_core held) l.transcript.client bytes here (owed_held Initiator (client_core held) l.transcript.client here.stands says.1 says.0.some));
+      what = inr (owed_apart Initiator d (client_core held) l.transcript.a bytes here (owed_held Initiator (client_core held) l.transcript.a here.stands says.1 says.0.some));
     })
 
-answered_data : (l : DiskLog) (d : Deal) (held : ServerState) (bytes : List ℕ) (q : Option ServerCounts) → IsShape l.shape → HeldAt Responder d (server_core held) l.transcript.server
-    → ServerCounted l.shape held l.transcript.server q → HoldsAnswer held bytes
-    → IsData Responder l.shape.slots d.sid (range_count 2 (said l.transcript.server)) (range_sum l.shape.slots 2 (said l.transcript.server)) bytes
-answered_data l d held bytes (Some c) sound here counted a = answer_data l.shape d held l.transcript.server bytes c sound here counted a
+answered_data : (l : DiskLog) (d : Deal) (held : ServerState) (bytes : List ℕ) (q : Option ServerCounts) → IsShape l.shape → HeldAt Responder d (server_core held) l.transcript.b
+    → ServerCounted l.shape held l.transcript.b q → HoldsAnswer held bytes
+    → IsData Responder l.shape.slots d.sid (range_count 2 (said l.transcript.b)) (range_sum l.shape.slots 2 (said l.transcript.b)) bytes
+answered_data l d held bytes (Some c) sound here counted a = answer_data l.shape d held l.transcript.b bytes c sound here counted a
 answered_data l d held bytes None sound here counted a =
-    absurd (subst (λ (x : Option ServerSession). ServerOrder l.shape.slots x None l.transcript.server) a.session_is counted.order)
+    absurd (subst (λ (x : Option ServerSession). ServerOrder l.shape.slots x None l.transcript.b) a.session_is counted.order)
 
-server_tells : (kind : PutKind) (l : DiskLog) (d : Deal) (held : ServerState) (packet : List ℕ) → IsShape l.shape → d.sid < 2 ^ 32 → HeldAt Responder d (server_core held) l.transcript.server
-    → ServerCounted l.shape held l.transcript.server l.work.server → PutSays kind (is_none held.handshake.owed) held.link l.transcript.server packet
+server_tells : (kind : PutKind) (l : DiskLog) (d : Deal) (held : ServerState) (packet : List ℕ) → IsShape l.shape → d.sid < 2 ^ 32 → HeldAt Responder d (server_core held) l.transcript.b
+    → ServerCounted l.shape held l.transcript.b l.work.server → PutSays kind (is_none held.handshake.owed) held.link l.transcript.b packet
     → WireTellsAt l (Sent B packet false)
 server_tells Goes l d held packet sound small here counted says = inl says.messages
 server_tells ComesUp l d held packet sound small here counted says = inl says.0.messages
 server_tells EndsOwn l d held packet sound small here counted says =
-    let bytes = half_said l.transcript.server ++ held.link.to_send in
+    let bytes = half_said l.transcript.b ++ held.link.to_send in
     inr (record {
       bytes = bytes;
       is = says.0.messages;
       what = inl (d.sid, small, answered_data l d held bytes l.work.server sound here counted (counted.holds (none_is held.handshake.owed says.1) says.0.some));
     })
 server_tells EndsHandshake l d held packet sound small here counted says =
-    let bytes = half_said l.transcript.server ++ held.link.to_send in
+    let bytes = half_said l.transcript.b ++ held.link.to_send in
     inr (record {
       bytes = bytes;
       is = says.0.messages;
-      what = inr (owed_apart Responder d (server_core held) l.transcript.server bytes here (server_holds_owed held l.transcript.server here.stands says.1 says.0.some));
+      what = inr (owed_apart Responder d (server_core held) l.transcript.b bytes here (server_holds_owed held l.transcript.b here.stands says.1 says.0.some));
     })
 
 tells_at : (shape : Shape) (events : List DiskEvent) (s : LaneState) (event : DiskEvent) (t : LaneState) → IsShape shape → Run LaneStep (fresh shape) events s → LaneStep s event t
@@ -284,7 +284,7 @@ tells_at shape events s (OnWire (Sent A packet opens)) t sound run step clean =
     let shaped : IsShape l.shape = subst IsShape (sym (shape_of (nothing_yet shape) events)) sound in
     let waits = client_waits s.client (seen A s.shape.entries s.wire.wire) sends.held knows.all.sound sends.holds in
     client_tells (client_kind sends.held) l (deal (asks_of shape) (answers_of shape) there.sid) sends.held packet (omega (arith, shaped.some_slots)) there.small
-    (held_at Initiator (deal (asks_of shape) (answers_of shape) there.sid) (client_core s.client) (client_core sends.held) l.transcript.client on.stand.mine waits (there.mine up)) put.counted put.says
+    (held_at Initiator (deal (asks_of shape) (answers_of shape) there.sid) (client_core s.client) (client_core sends.held) l.transcript.a on.stand.mine waits (there.mine up)) put.counted put.says
 tells_at shape events s (OnWire (Sent B packet opens)) t sound run step clean =
     let l = log_of after (nothing_yet shape) events in
     let knows : Knows s l = run_knows shape events s sound run in
@@ -297,17 +297,17 @@ tells_at shape events s (OnWire (Sent B packet opens)) t sound run step clean =
     let up = (lane_steps shape events s (OnWire (Sent B packet opens)) t sound run step).stands.0 in
     let shaped : IsShape l.shape = subst IsShape (sym (shape_of (nothing_yet shape) events)) sound in
     server_tells (server_kind held) l (deal (asks_of shape) (answers_of shape) there.sid) held packet shaped there.small
-    (held_at Responder (deal (asks_of shape) (answers_of shape) there.sid) (server_core s.server) (server_core held) l.transcript.server on.stand.theirs (server_waits s.server at held sends.holds)
+    (held_at Responder (deal (asks_of shape) (answers_of shape) there.sid) (server_core s.server) (server_core held) l.transcript.b on.stand.theirs (server_waits s.server at held sends.holds)
     (there.theirs up))
-    (server_holds_counting l.shape s.server rule held l.transcript.server l.work.server knows.rests.server knows.utters.server (server_free s.server at) sends.holds knows.counted.server)
-    (put_says (is_none held.handshake.owed) held.link t.server.link l.transcript.server packet
-    (server_blocked_rests s.server at held l.transcript.server sends.holds knows.rests.server).stands.link.follows sends.packet)
+    (server_holds_counting l.shape s.server rule held l.transcript.b l.work.server knows.rests.server knows.utters.server (server_free s.server at) sends.holds knows.counted.server)
+    (put_says (is_none held.handshake.owed) held.link t.server.link l.transcript.b packet
+    (server_blocked_rests s.server at held l.transcript.b sends.holds knows.rests.server).stands.link.follows sends.packet)
 tells_at shape events s _ t sound run step clean = tt
 
 -- ALONG THE LOG
 pub record TheyTell (l : DiskLog) : Type 0 where
-  pub client : EachSaid Initiator l.shape.slots 0 0 (said l.transcript.client)
-  pub server : EachSaid Responder l.shape.slots 0 0 (said l.transcript.server)
+  pub client : EachSaid Initiator l.shape.slots 0 0 (said l.transcript.a)
+  pub server : EachSaid Responder l.shape.slots 0 0 (said l.transcript.b)
 
 tells_more : (r : Role) (slots : ℕ) (told now : List (List ℕ)) → Tells r slots told now → EachSaid r slots 0 0 told → EachSaid r slots 0 0 now
 tells_more r slots told now (inl is) each = subst (EachSaid r slots 0 0) (sym is) each

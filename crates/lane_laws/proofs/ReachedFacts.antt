@@ -5,9 +5,9 @@ use Rattle.runs.specs.Run.{Run}
 use Rattle.ldc_link.specs.Following.{Follows}
 use Rattle.lane_laws.specs.DiskLog.{after, nothing_yet}
 use Rattle.lane_laws.specs.RequestLaws.{CarriesAt}
-use Rattle.disk_model.specs.DiskEvent.{DiskEvent}
-use Rattle.disk_model.specs.LaneState.{IsShape, LaneState, Shape, fresh, pages_of}
-use Rattle.disk_model.specs.LaneStep.{LaneStep}
+use Rattle.lane_models.specs.DiskEvent.{DiskEvent}
+use Rattle.lane_models.specs.LaneState.{IsShape, LaneState, Shape, fresh, pages_of}
+use Rattle.lane_models.specs.LaneStep.{LaneStep}
 use Rattle.lane_laws.proofs.CarriedRuns.{AllStand, all_step, fresh_all}
 use Rattle.lane_laws.specs.LaneTranscripts.{transcript_behind}
 use Rattle.lane_laws.specs.MemoryStands.{memory_long}
@@ -15,10 +15,10 @@ use Rattle.lane_laws.specs.Sound.{CountsInOrder}
 use Rattle.lane_laws.proofs.LaneStepping.{run_sound}
 use Rattle.lane_laws.proofs.Speaking.{run_rests}
 
-pub client_follows : (shape : Shape) (events : List DiskEvent) (s : LaneState) → IsShape shape → Run LaneStep (fresh shape) events s → Follows s.client.link (transcript_behind events).client
+pub client_follows : (shape : Shape) (events : List DiskEvent) (s : LaneState) → IsShape shape → Run LaneStep (fresh shape) events s → Follows s.client.link (transcript_behind events).a
 client_follows shape events s sound run = (run_rests shape events s sound run).client.stands.link.follows
 
-pub server_follows : (shape : Shape) (events : List DiskEvent) (s : LaneState) → IsShape shape → Run LaneStep (fresh shape) events s → Follows s.server.link (transcript_behind events).server
+pub server_follows : (shape : Shape) (events : List DiskEvent) (s : LaneState) → IsShape shape → Run LaneStep (fresh shape) events s → Follows s.server.link (transcript_behind events).b
 server_follows shape events s sound run = (run_rests shape events s sound run).server.stands.link.follows
 
 pub counts_stand : (shape : Shape) (events : List DiskEvent) (s : LaneState) → IsShape shape → Run LaneStep (fresh shape) events s → CountsInOrder (length s.client.pending) s.client.session

@@ -4,8 +4,8 @@ use Rattle.std.specs.Prelude.{slice_get}
 use Rattle.vdisk_msg.specs.declared.request.Request.{Request}
 use Rattle.vdisk_msg.specs.declared.request.Request.TheVariants.{Read}
 use Rattle.vdisk_msg.specs.Requests.{after_request}
-use Rattle.disk_model.specs.ClientState.{ClientSession}
-use Rattle.disk_model.specs.ServerState.{Ends, Gives, Progress, Reads}
+use Rattle.lane_models.specs.ClientState.{ClientSession}
+use Rattle.lane_models.specs.ServerState.{Ends, Gives, Progress, Reads}
 use Rattle.lane_laws.specs.LaneView.{View, place_of}
 use Rattle.lane_laws.specs.NearContent.{Shows}
 use Rattle.lane_laws.specs.ReadsNear.{BlocksShow, DoneShow, UnitsShow, WorkShows}
@@ -13,7 +13,7 @@ use Rattle.lane_laws.proofs.Changes.{Completes, Keeps, Placed}
 use Rattle.lane_laws.proofs.ContentsSteps.{next_got, same_place}
 use Rattle.lane_laws.proofs.NearSteps.{get_within}
 use Rattle.lane_laws.proofs.PendingWrites.{shows_done, shows_pushed}
-use Rattle.channel_laws.proofs.Apart.{some_same}
+use Rattle.lane_models.proofs.Apart.{some_same}
 
 -- WHAT SHOWS goes on to show
 units_map : (progress : Progress) (content other : List ℕ) (pending after : List Request) (m n k i block count place : ℕ) (buffers : List ℕ)

@@ -13,8 +13,8 @@ use Rattle.vdisk_msg.specs.Requests.{written}
 use Rattle.vio_bytes.proofs.Ranges.{range_at-put_at_inside, range_at-put_at_outside}
 use Rattle.vio_bytes.specs.Place.{put_at}
 use Rattle.vio_bytes.specs.Range.{range_at}
-use Rattle.disk_model.specs.ClientState.{ClientSession}
-use Rattle.disk_model.specs.ServerState.{Ends, Gives, Progress, Reads}
+use Rattle.lane_models.specs.ClientState.{ClientSession}
+use Rattle.lane_models.specs.ServerState.{Ends, Gives, Progress, Reads}
 use Rattle.lane_laws.proofs.MemorySteps.{got_sound}
 use Rattle.lane_laws.specs.Contents.{ContentsStand, ProgressIs}
 use Rattle.lane_laws.specs.LaneView.{View, place_of}
@@ -24,7 +24,7 @@ use Rattle.lane_laws.proofs.BlockWrites.{admitted_blocks}
 use Rattle.lane_laws.proofs.Buffers.{other_buffer, other_slot}
 use Rattle.lane_laws.proofs.Changes.{Fetches, Placed, Publishes, Serves, filled}
 use Rattle.lane_laws.proofs.ContentsSteps.{same_place}
-use Rattle.channel_laws.proofs.Apart.{some_same}
+use Rattle.lane_models.proofs.Apart.{some_same}
 
 -- OTHER BYTES that are the same where the blocks stand
 pub blocks_moved : (content : List ℕ) (pending : List Request) (m k block n place : ℕ) (buffers new : List ℕ)

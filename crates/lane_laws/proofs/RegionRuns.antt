@@ -3,10 +3,10 @@ use Rattle.std.proofs.Common.{◌≡◌, ℕ, ◌+◌, ◌*◌, ◌≤◌, Bool,
 use Rattle.runs.specs.Lawful.{log_of}
 use Rattle.runs.specs.Run.{Run}
 use Rattle.lane_laws.specs.DiskLog.{after, nothing_yet}
-use Rattle.disk_model.specs.DiskEvent.{Asks, DiskEvent, Done, Finished, Calms, Stored, Works}
-use Rattle.disk_model.specs.LaneState.{IsShape, LaneState, Shape, fresh}
-use Rattle.disk_model.specs.LaneStep.{LaneStep, ServerWorks}
-use Rattle.disk_model.specs.Served as served
+use Rattle.lane_models.specs.DiskEvent.{Asks, DiskEvent, Done, Finished, Calms, Stored, Works}
+use Rattle.lane_models.specs.LaneState.{IsShape, LaneState, Shape, fresh}
+use Rattle.lane_models.specs.LaneStep.{LaneStep, ServerWorks}
+use Rattle.lane_models.specs.Served as served
 use Rattle.lane_laws.specs.ImageStep.{ImageStep, SameAround, region_of}
 use Rattle.lane_laws.proofs.FirstStays.{run_first}
 use Rattle.lane_laws.proofs.LaneCores.{shape_of as log_shape}

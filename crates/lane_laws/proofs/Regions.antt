@@ -10,14 +10,14 @@ use Rattle.vio_bytes.specs.Place.{put_at}
 use Rattle.vio_bytes.specs.Range.{range_at}
 use Rattle.ldc_queue.specs.declared.end.End.TheVariants.{B}
 use Rattle.lane_laws.specs.DiskLog.{DiskLog}
-use Rattle.disk_model.specs.DiskEvent.{Stored as StoredUnit}
-use Rattle.disk_model.specs.LaneState.{LaneState, Shape}
-use Rattle.disk_model.specs.LaneStep.{ServerWorks}
-use Rattle.channel_laws.specs.Seeing.{seen}
-use Rattle.disk_model.specs.Served as served
-use Rattle.disk_model.specs.ServerRule as server_rules
-use Rattle.disk_model.specs.ServerState.{Progress, Reads, ServerState, Work, Writes}
-use Rattle.disk_model.specs.ServerWork.{StoresIn, unit_length}
+use Rattle.lane_models.specs.DiskEvent.{Stored as StoredUnit}
+use Rattle.lane_models.specs.LaneState.{LaneState, Shape}
+use Rattle.lane_models.specs.LaneStep.{ServerWorks}
+use Rattle.lane_models.specs.Seeing.{seen}
+use Rattle.lane_models.specs.Served as served
+use Rattle.lane_models.specs.ServerRule as server_rules
+use Rattle.lane_models.specs.ServerState.{Progress, Reads, ServerState, Work, Writes}
+use Rattle.lane_models.specs.ServerWork.{StoresIn, unit_length}
 use Rattle.lane_laws.proofs.MemorySteps.{got_sound}
 use Rattle.lane_laws.proofs.Ruling.{server_may}
 use Rattle.lane_laws.specs.RuleFacts.{ServerMay}

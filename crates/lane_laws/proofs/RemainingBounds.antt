@@ -6,25 +6,25 @@ use Rattle.ldc_queue.specs.declared.end.End.TheVariants.{A, B}
 use Rattle.ldc_queue.specs.Transcript.{Utterance}
 use Rattle.ldc_queue.specs.Wire.{Wire}
 use Rattle.ldc_link.specs.declared.phase.Role.TheVariants.{Initiator, Responder}
-use Rattle.channel_laws.specs.TranscriptLog.{TranscriptLog}
-use Rattle.channel_laws.specs.Standing.{EndStands}
+use Rattle.lane_models.specs.TranscriptLog.{TranscriptLog}
+use Rattle.lane_models.specs.Standing.{EndStands}
 use Rattle.vio_tag.specs.declared.cause.Cause.{Cause}
-use Rattle.channel_laws.specs.WireAt.{IsUp}
-use Rattle.channel_laws.specs.WireEvent.{ByRestart, ByScript, ByStep, ByTick, Giver, Reset, giver}
-use Rattle.channel_laws.specs.WireLog.{lossy_behind, wire_moved}
-use Rattle.disk_model.specs.ClientState.{ClientState, joined_client}
-use Rattle.disk_model.specs.DiskEvent.{OnWire}
-use Rattle.disk_model.specs.LaneState.{LaneState, Shape, fresh, near_disturbed}
-use Rattle.disk_model.specs.LaneStep.{CallsReset, EndOnWire, LaneStep, ResetBy}
-use Rattle.disk_model.specs.ServerState.{ServerState, joined_server, restarted_server}
+use Rattle.lane_models.specs.WireAt.{IsUp}
+use Rattle.lane_models.specs.WireEvent.{ByRestart, ByScript, ByStep, ByTick, Giver, Reset, giver}
+use Rattle.lane_models.specs.WireLog.{lossy_behind, wire_moved}
+use Rattle.lane_models.specs.ClientState.{ClientState, joined_client}
+use Rattle.lane_models.specs.DiskEvent.{OnWire}
+use Rattle.lane_models.specs.LaneState.{LaneState, Shape, fresh, near_disturbed}
+use Rattle.lane_models.specs.LaneStep.{CallsReset, EndOnWire, LaneStep, ResetBy}
+use Rattle.lane_models.specs.ServerState.{ServerState, joined_server, restarted_server}
 use Rattle.lane_laws.proofs.RemainingLane.{begun_server, joined_a, joined_b, left}
 use Rattle.lane_laws.specs.Remaining.{asked_in, remaining, server_remaining}
 use Rattle.lane_laws.specs.ChannelEnds.{client_core, server_core}
 
 -- both ends stand by their roles
 pub record EndsStand (s : LaneState) (transcript : TranscriptLog) : Type 0 where
-  pub client : EndStands Initiator (client_core s.client) transcript.client
-  pub server : EndStands Responder (server_core s.server) transcript.server
+  pub client : EndStands Initiator (client_core s.client) transcript.a
+  pub server : EndStands Responder (server_core s.server) transcript.b
 
 pub fresh_remains : (shape : Shape) → remaining (fresh shape) ≡ 36
 fresh_remains shape = omega arith
@@ -48,11 +48,11 @@ by_step : (e : End) (s : LaneState) (cause : Cause) (packet : Option (List ℕ))
 by_step A s cause packet lost t transcript stand up step =
     begins_is s t (record s { wire = wire_moved s.wire (Reset A cause packet lost); client = t.client; memory = t.memory; near = near_disturbed s.client }) (length s.client.pending) step.is
     (subst (λ (c : ClientState). left (joined_a s.wire.wire.end_a s.wire.wire) (lossy_behind s.wire.wire.end_a s.wire.lossy) c s.server ≡ 35 + 16 * length s.client.pending) (sym step.step.2)
-    (begins_a s.wire.wire s.wire.lossy s.client s.server transcript.client stand.client up))
+    (begins_a s.wire.wire s.wire.lossy s.client s.server transcript.a stand.client up))
 by_step B s cause packet lost t transcript stand up step =
     begins_is s t (record s { wire = wire_moved s.wire (Reset B cause packet lost); server = t.server; memory = t.memory; near = near_disturbed s.client }) (length s.client.pending) step.1.is
     (subst (λ (v : ServerState). left (joined_b s.wire.wire.end_b s.wire.wire) (lossy_behind s.wire.wire.end_b s.wire.lossy) s.client v ≡ 35 + 16 * length s.client.pending) (sym step.1.step.1.2)
-    (begins_b s.wire.wire s.wire.lossy s.client (joined_server s.server) (begun_server s.server transcript.server stand.server) refl up))
+    (begins_b s.wire.wire s.wire.lossy s.client (joined_server s.server) (begun_server s.server transcript.b stand.server) refl up))
 
 client_called : (s : LaneState) (cause : Cause) (packet : Option (List ℕ)) (lost : ℕ) (t : LaneState) (transcript : TranscriptLog) → EndsStand s transcript → s.wire.wire.end_a ≡ Up
     → CallsReset s (record s { client = joined_client s.client }) cause A packet lost t → remaining t ≡ 35 + 16 * length s.client.pending
@@ -67,7 +67,7 @@ reset_by : (by : Giver) (e : End) (s : LaneState) (cause : Cause) (packet : Opti
 reset_by ByStep e s cause packet lost t transcript stand up step = by_step e s cause packet lost t transcript stand up step
 reset_by ByScript A s cause packet lost t transcript stand up step = client_called s cause packet lost t transcript stand up step
 reset_by ByScript B s cause packet lost t transcript stand up step =
-    server_called s (joined_server s.server) cause packet lost t (begun_server s.server transcript.server stand.server) refl up step.1
+    server_called s (joined_server s.server) cause packet lost t (begun_server s.server transcript.b stand.server) refl up step.1
 reset_by ByRestart A s cause packet lost t transcript stand up step = absurd step
 reset_by ByRestart B s cause packet lost t transcript stand up step = server_called s (restarted_server s.server) cause packet lost t refl refl up step.1
 reset_by ByTick A s cause packet lost t transcript stand up step = client_called s cause packet lost t transcript stand up step.1

@@ -8,18 +8,18 @@ use Rattle.ldc_link.specs.LinkState.{LinkState}
 use Rattle.ldc_queue.specs.declared.end.ChannelState.TheVariants.{Up}
 use Rattle.ldc_queue.specs.Transcript.{Utterance}
 use Rattle.vio_handshake.specs.Rules.{opens_by_put}
-use Rattle.disk_model.specs.ClientPutting.{announced, client_holds, client_kind, client_put, is_announcing, opened_if, session_behind}
-use Rattle.disk_model.specs.ClientRule.{Announces, ClientRule, Completes, Publishes, client_rule}
-use Rattle.disk_model.specs.ClientState.{ClientSession, ClientState}
-use Rattle.disk_model.specs.ClientStep.{ClientCompletes, ClientPublishes, ClientSends}
-use Rattle.channel_laws.specs.EndPuts.{ComesUp, EndsOwn, EndsHandshake, Goes, PutKind, kind_in}
-use Rattle.channel_laws.specs.Seeing.{Seen}
-use Rattle.channel_laws.proofs.EndStanding.{held_stands}
-use Rattle.channel_laws.proofs.PacketsLeft.{opening_shut, says_packets, stays_packets, waits_packets}
-use Rattle.channel_laws.specs.EndCore.{EndCore}
-use Rattle.channel_laws.specs.EndStep.{Holding, Holds}
-use Rattle.channel_laws.specs.PacketsLeft.{own_in}
-use Rattle.channel_laws.specs.Standing.{EndStands}
+use Rattle.lane_models.specs.ClientPutting.{announced, client_holds, client_kind, client_put, is_announcing, opened_if, session_behind}
+use Rattle.lane_models.specs.ClientRule.{Announces, ClientRule, Completes, Publishes, client_rule}
+use Rattle.lane_models.specs.ClientState.{ClientSession, ClientState}
+use Rattle.lane_models.specs.ClientStep.{ClientCompletes, ClientPublishes, ClientSends}
+use Rattle.lane_models.specs.EndPuts.{ComesUp, EndsOwn, EndsHandshake, Goes, PutKind, kind_in}
+use Rattle.lane_models.specs.Seeing.{Seen}
+use Rattle.lane_models.proofs.EndStanding.{held_stands}
+use Rattle.lane_models.proofs.PacketsLeft.{opening_shut, says_packets, stays_packets, waits_packets}
+use Rattle.lane_models.specs.EndCore.{EndCore}
+use Rattle.lane_models.specs.EndStep.{Holding, Holds}
+use Rattle.lane_models.specs.PacketsLeft.{own_in}
+use Rattle.lane_models.specs.Standing.{EndStands}
 use Rattle.lane_laws.proofs.ClientHolding.{client_held}
 use Rattle.lane_laws.proofs.ClientMoves.{client_completed, client_published, client_says, client_waits}
 use Rattle.lane_laws.proofs.ClientSteps.{client_sends, front_some}

@@ -6,16 +6,16 @@ use Rattle.ldc_queue.specs.declared.end.ChannelState.TheVariants.{Up}
 use Rattle.ldc_queue.specs.declared.end.End.TheVariants.{A, B}
 use Rattle.ldc_queue.specs.Transcript.{Utterance}
 use Rattle.ldc_queue.specs.Wire.{Wire, configured, peer_behind, put_for, queue_behind}
-use Rattle.channel_laws.specs.WireEvent.{Joined, Sent, WireEvent}
-use Rattle.channel_laws.specs.WireLog.{lossy_behind, wire_moved}
-use Rattle.disk_model.specs.ClientRule as client_rules
-use Rattle.disk_model.specs.ClientState.{ClientState, joined_client}
-use Rattle.disk_model.specs.DiskEvent.{Desc, DiskEvent, Done, Finished, Misplaced, Moved, OnWire, Published, Stored, Worked}
-use Rattle.disk_model.specs.LaneState.{LaneState}
-use Rattle.disk_model.specs.LaneStep.{ClientWorks, LaneStep, ServerWorks, WorkStep, near_worked}
-use Rattle.disk_model.specs.ServerRule as server_rules
-use Rattle.disk_model.specs.ServerState.{ServerSession, ServerState, Work, joined_server}
-use Rattle.channel_laws.specs.Standing.{EndStands}
+use Rattle.lane_models.specs.WireEvent.{Joined, Sent, WireEvent}
+use Rattle.lane_models.specs.WireLog.{lossy_behind, wire_moved}
+use Rattle.lane_models.specs.ClientRule as client_rules
+use Rattle.lane_models.specs.ClientState.{ClientState, joined_client}
+use Rattle.lane_models.specs.DiskEvent.{Desc, DiskEvent, Done, Finished, Misplaced, Moved, OnWire, Published, Stored, Worked}
+use Rattle.lane_models.specs.LaneState.{LaneState}
+use Rattle.lane_models.specs.LaneStep.{ClientWorks, LaneStep, ServerWorks, WorkStep, near_worked}
+use Rattle.lane_models.specs.ServerRule as server_rules
+use Rattle.lane_models.specs.ServerState.{ServerSession, ServerState, Work, joined_server}
+use Rattle.lane_models.specs.Standing.{EndStands}
 use Rattle.lane_laws.proofs.ClientHolding.{holds_up}
 use Rattle.lane_laws.proofs.LaneCounting.{Knows}
 use Rattle.lane_laws.proofs.RemainingClientPuts.{ClientLowers, completes_falls, falls_lower, publishes_falls, sends_falls}
@@ -86,22 +86,22 @@ on_wire s l (Joined A lost) t knows step is =
     let may : ClientMay s.client (at_client s) client_rules.Joins = subst (ClientMay s.client (at_client s)) step.step.0 (client_may s.client (at_client s)) in
     falls_is s t (record s { wire = wire_moved s.wire (Joined A lost); client = t.client; memory = t.memory; near = s.near }) step.is
     (subst (λ (c : ClientState). left (configured A s.wire.wire) (lossy_behind s.wire.wire.end_a s.wire.lossy) c s.server + 1 ≤ remaining s) (sym step.step.2)
-    (client_joins s.wire.wire.end_a s.wire.wire s.wire.lossy s.client s.server l.transcript.client knows.rests.client.stands refl may))
+    (client_joins s.wire.wire.end_a s.wire.wire s.wire.lossy s.client s.server l.transcript.a knows.rests.client.stands refl may))
 on_wire s l (Joined B lost) t knows step is =
     let may : ServerMay s.server (at_server s) server_rules.Joins = subst (ServerMay s.server (at_server s)) step.1.step.1.0 (server_may s.server (at_server s)) in
     falls_is s t (record s { wire = wire_moved s.wire (Joined B lost); server = t.server; memory = t.memory; near = s.near }) step.1.is
     (subst (λ (v : ServerState). left (configured B s.wire.wire) (lossy_behind s.wire.wire.end_b s.wire.lossy) s.client v + 1 ≤ remaining s) (sym step.1.step.1.2)
-    (server_joins s.wire.wire.end_b s.wire.wire s.wire.lossy s.client s.server l.transcript.server knows.rests.server.stands refl may))
+    (server_joins s.wire.wire.end_b s.wire.wire s.wire.lossy s.client s.server l.transcript.b knows.rests.server.stands refl may))
 on_wire s l (Sent A packet opens) t knows step is =
     let sound = knows.all.sound in
     let up = holds_up s.client (at_client s) (client_rules.client_rule s.client (at_client s)) step.step.held (client_may s.client (at_client s)) step.step.holds in
-    let falls = sends_falls s.client (at_client s) s.memory packet opens t.client t.memory l.transcript.client step.step sound knows.rests.client.stands in
+    let falls = sends_falls s.client (at_client s) s.memory packet opens t.client t.memory l.transcript.a step.step sound knows.rests.client.stands in
     falls_is s t (record s { wire = wire_moved s.wire (Sent A packet opens); client = t.client; memory = t.memory; near = s.near }) step.is
     (client_puts_one s.wire.wire s.wire.lossy s.client t.client s.server packet up (falls_lower 1 0 s.client t.client falls))
 on_wire s l (Sent B packet opens) t knows step is =
     let sends = step.1.step.1.0 in
     let up = server_holds_up s.server (at_server s) (server_rules.server_rule s.server (at_server s)) sends.held (server_may s.server (at_server s)) sends.holds in
-    let falls = server.sends_falls s.server (at_server s) packet opens t.server l.transcript.server sends knows.rests.server.stands in
+    let falls = server.sends_falls s.server (at_server s) packet opens t.server l.transcript.b sends knows.rests.server.stands in
     falls_is s t (record s { wire = wire_moved s.wire (Sent B packet opens); server = t.server; memory = t.memory; near = s.near }) step.1.is
     (server_puts_one s.wire.wire s.wire.lossy s.client s.server t.server packet up (server.falls_lower 1 s.server t.server falls))
 on_wire s l _ t knows step is = absurd is

@@ -3,14 +3,14 @@ use Rattle.std.proofs.Common.{◌≡◌, ℕ, ◌+◌, ◌*◌, ◌≤◌, Bool,
 use Rattle.ldc_link.specs.declared.phase.Role.TheVariants.{Responder}
 use Rattle.ldc_queue.specs.declared.end.ChannelState.TheVariants.{Up}
 use Rattle.ldc_queue.specs.Transcript.{Utterance}
-use Rattle.channel_laws.specs.EndPuts.{EndsOwn, PutKind}
-use Rattle.channel_laws.specs.Seeing.{Seen}
-use Rattle.disk_model.specs.ServerPutting.{server_holds, server_kind, session_behind}
-use Rattle.disk_model.specs.ServerRule.{ServerRule, server_rule}
-use Rattle.disk_model.specs.ServerState.{ServerSession, ServerState, Work}
-use Rattle.disk_model.specs.ServerStep.{ServerSends}
-use Rattle.channel_laws.proofs.PacketsLeft.{answering_shut, says_left, waits_left}
-use Rattle.channel_laws.specs.Standing.{EndStands}
+use Rattle.lane_models.specs.EndPuts.{EndsOwn, PutKind}
+use Rattle.lane_models.specs.Seeing.{Seen}
+use Rattle.lane_models.specs.ServerPutting.{server_holds, server_kind, session_behind}
+use Rattle.lane_models.specs.ServerRule.{ServerRule, server_rule}
+use Rattle.lane_models.specs.ServerState.{ServerSession, ServerState, Work}
+use Rattle.lane_models.specs.ServerStep.{ServerSends}
+use Rattle.lane_models.proofs.PacketsLeft.{answering_shut, says_left, waits_left}
+use Rattle.lane_models.specs.Standing.{EndStands}
 use Rattle.lane_laws.proofs.ServerSpeaking.{server_holds_link}
 use Rattle.lane_laws.proofs.ServerMoves.{server_says, server_waits}
 use Rattle.lane_laws.specs.ChannelEnds.{server_core}

@@ -8,13 +8,13 @@ use Rattle.vdisk_msg.specs.declared.desc.DescFault.{DescFault}
 use Rattle.vdisk_msg.specs.declared.desc.DiskDesc.{DiskDesc}
 use Rattle.vdisk_msg.specs.Descriptor as slot_says
 use Rattle.vdisk_msg.specs.Pieces.{unit_count}
-use Rattle.channel_laws.specs.Ranges.{wrapped}
-use Rattle.channel_laws.specs.Seeing.{Seen}
-use Rattle.disk_model.specs.ServerRule.{Fetches, Serves, server_rule}
-use Rattle.disk_model.specs.ServerState.{Ends, Gathers, Gives, Progress, Reads, ServerSession, ServerState, Work}
-use Rattle.disk_model.specs.ServerStep.{ServerFetches, ServerFinishes, ServerMoves, ServerStores}
+use Rattle.lane_models.specs.Ranges.{wrapped}
+use Rattle.lane_models.specs.Seeing.{Seen}
+use Rattle.lane_models.specs.ServerRule.{Fetches, Serves, server_rule}
+use Rattle.lane_models.specs.ServerState.{Ends, Gathers, Gives, Progress, Reads, ServerSession, ServerState, Work}
+use Rattle.lane_models.specs.ServerStep.{ServerFetches, ServerFinishes, ServerMoves, ServerStores}
 use Rattle.cookie_copy.specs.Reach.{Reach}
-use Rattle.disk_model.specs.ServerWork.{MovesIn, StoresIn, checked_progress, desc_of, first_progress, gathered, given}
+use Rattle.lane_models.specs.ServerWork.{MovesIn, StoresIn, checked_progress, desc_of, first_progress, gathered, given}
 use Rattle.lane_laws.proofs.RemainingServerPuts.{ServerLowers}
 use Rattle.lane_laws.proofs.RulesFree.{ServerFree, server_free}
 use Rattle.lane_laws.proofs.RuleTests.{ServesFree}

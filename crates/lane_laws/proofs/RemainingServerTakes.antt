@@ -2,11 +2,11 @@
 use Rattle.std.proofs.Common.{◌≡◌, ℕ, ◌^◌, ◌+◌, ◌-◌, ◌*◌, ◌%◌, ◌≤◌, ◌<◌, Bool, true, false, Option, Some, None, List, refl, sym, ap, ◌∙◌, arith, inl, inr}
 use Rattle.std.specs.Prelude.{◌&&◌, is_none}
 use Rattle.ldc_queue.specs.Transcript.{Utterance}
-use Rattle.channel_laws.specs.Ranges.{wrapped}
+use Rattle.lane_models.specs.Ranges.{wrapped}
 use Rattle.dring.specs.Slots.{range_length}
-use Rattle.disk_model.specs.ServerState.{ServerSession, ServerState, SlotRange, Work, opened_server}
-use Rattle.channel_laws.specs.EndCore.{holds}
-use Rattle.channel_laws.specs.PacketsLeft.{packets_left}
+use Rattle.lane_models.specs.ServerState.{ServerSession, ServerState, SlotRange, Work, opened_server}
+use Rattle.lane_models.specs.EndCore.{holds}
+use Rattle.lane_models.specs.PacketsLeft.{packets_left}
 use Rattle.lane_laws.proofs.RuleTests.{TakesFree}
 use Rattle.lane_laws.proofs.ServerAnswers.{opened_or}
 use Rattle.lane_laws.proofs.ServerTaken.{ServerAsked, ServerTook}

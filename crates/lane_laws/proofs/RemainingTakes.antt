@@ -5,15 +5,15 @@ use Rattle.std.specs.Prelude.{slice_get}
 use Rattle.ldc_queue.specs.declared.end.ChannelState.TheVariants.{Up}
 use Rattle.ldc_queue.specs.declared.end.End.TheVariants.{A, B}
 use Rattle.ldc_queue.specs.Wire.{Wire, taken_for}
-use Rattle.channel_laws.specs.WireEvent.{Took}
-use Rattle.channel_laws.specs.WireLog.{wire_moved}
-use Rattle.disk_model.specs.ClientRule as client_rules
-use Rattle.disk_model.specs.ClientState.{ClientState}
-use Rattle.disk_model.specs.DiskEvent.{OnWire}
-use Rattle.disk_model.specs.LaneState.{LaneState}
-use Rattle.disk_model.specs.LaneStep.{LaneStep}
-use Rattle.disk_model.specs.ServerRule as server_rules
-use Rattle.disk_model.specs.ServerState.{ServerState}
+use Rattle.lane_models.specs.WireEvent.{Took}
+use Rattle.lane_models.specs.WireLog.{wire_moved}
+use Rattle.lane_models.specs.ClientRule as client_rules
+use Rattle.lane_models.specs.ClientState.{ClientState}
+use Rattle.lane_models.specs.DiskEvent.{OnWire}
+use Rattle.lane_models.specs.LaneState.{LaneState}
+use Rattle.lane_models.specs.LaneStep.{LaneStep}
+use Rattle.lane_models.specs.ServerRule as server_rules
+use Rattle.lane_models.specs.ServerState.{ServerState}
 use Rattle.lane_laws.proofs.RemainingClientPuts.{ClientLowers}
 use Rattle.lane_laws.proofs.RemainingLane.{falls_is, left}
 use Rattle.lane_laws.proofs.LaneViews.{at_client, at_server}

@@ -5,13 +5,13 @@ use Rattle.std.proofs.lemmas.List.{drop-append-le, drop-drop}
 use Rattle.vdisk_msg.specs.declared.request.Request.{Request}
 use Rattle.vdisk_msg.specs.Requests.{operation_of}
 use Rattle.lane_laws.specs.WorkLog.{WorkLog}
-use Rattle.disk_model.specs.ClientPutting.{client_holds, client_kind, client_put, session_behind}
-use Rattle.disk_model.specs.ClientRule.{ClientRule, Completes, client_rule}
-use Rattle.disk_model.specs.ClientState.{ClientState, first_id, joined_client}
-use Rattle.disk_model.specs.ClientStep.{ClientCompletes, ClientPublishes, ClientSends}
-use Rattle.disk_model.specs.ClientTaking.{ClientTakes, GoesOn}
-use Rattle.channel_laws.specs.EndPuts.{PutKind}
-use Rattle.channel_laws.specs.Seeing.{Seen}
+use Rattle.lane_models.specs.ClientPutting.{client_holds, client_kind, client_put, session_behind}
+use Rattle.lane_models.specs.ClientRule.{ClientRule, Completes, client_rule}
+use Rattle.lane_models.specs.ClientState.{ClientState, first_id, joined_client}
+use Rattle.lane_models.specs.ClientStep.{ClientCompletes, ClientPublishes, ClientSends}
+use Rattle.lane_models.specs.ClientTaking.{ClientTakes, GoesOn}
+use Rattle.lane_models.specs.EndPuts.{PutKind}
+use Rattle.lane_models.specs.Seeing.{Seen}
 use Rattle.lane_laws.proofs.ClientHearing.{took_by}
 use Rattle.lane_laws.proofs.Ruling.{client_may}
 use Rattle.lane_laws.specs.RuleFacts.{ClientMay}

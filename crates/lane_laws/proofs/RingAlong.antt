@@ -6,9 +6,9 @@ use Rattle.runs.specs.Run.{Run, run_push}
 use Rattle.lane_laws.specs.DiskLog.{DiskLog, after, nothing_yet}
 use Rattle.lane_laws.specs.WorkLog.{ClientCounts}
 use Rattle.lane_laws.specs.WorkLaws.{Unforged}
-use Rattle.disk_model.specs.DiskEvent.{Desc, DiskEvent, Done, Works}
-use Rattle.disk_model.specs.LaneState.{IsShape, LaneState, Shape, fresh}
-use Rattle.disk_model.specs.LaneStep.{LaneStep}
+use Rattle.lane_models.specs.DiskEvent.{Desc, DiskEvent, Done, Works}
+use Rattle.lane_models.specs.LaneState.{IsShape, LaneState, Shape, fresh}
+use Rattle.lane_models.specs.LaneStep.{LaneStep}
 use Rattle.lane_laws.proofs.CarriedRuns.{AllStand, all_step, fresh_all}
 use Rattle.lane_laws.proofs.RingClientSteps.{completes_slot}
 use Rattle.lane_laws.proofs.RingRuns.{fresh_ring, known_of, ring_step}

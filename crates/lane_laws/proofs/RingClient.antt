@@ -12,7 +12,7 @@ use Rattle.vdisk_msg.specs.Descriptor as slot_says
 use Rattle.vdisk_msg.specs.Requested.{buffer_place, descriptor_of, size_of}
 use Rattle.vdisk_msg.specs.Requests.{defect, written}
 use Rattle.vio_bytes.specs.Place.{put_at}
-use Rattle.disk_model.specs.ClientStep.{filled_buffer, published_memory}
+use Rattle.lane_models.specs.ClientStep.{filled_buffer, published_memory}
 use Rattle.lane_laws.proofs.MemoryStanding.{desc_long}
 use Rattle.lane_laws.proofs.RingWrites.{behind_ring, equal_slots, one_after_same}
 use Rattle.lane_laws.specs.MemoryStands.{memory_long}

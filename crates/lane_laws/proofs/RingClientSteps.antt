@@ -13,13 +13,13 @@ use Rattle.vio_bytes.specs.Place.{number_at, put_at}
 use Rattle.lane_laws.specs.DiskLog.{DiskLog, after}
 use Rattle.lane_laws.specs.RingLog.{Accepted, Done as IsDone, Free, Ready, SlotLog, freed_at, published_at}
 use Rattle.lane_laws.specs.WorkLog.{ClientCounts, ServerCounts, change_client}
-use Rattle.disk_model.specs.ClientRule as client_rules
-use Rattle.disk_model.specs.ClientState.{ClientSession}
-use Rattle.disk_model.specs.ClientStep.{published_memory}
-use Rattle.disk_model.specs.DiskEvent.{Done, Published, Works}
-use Rattle.disk_model.specs.LaneState.{LaneState}
-use Rattle.disk_model.specs.LaneStep.{WorkStep}
-use Rattle.channel_laws.specs.Seeing.{seen}
+use Rattle.lane_models.specs.ClientRule as client_rules
+use Rattle.lane_models.specs.ClientState.{ClientSession}
+use Rattle.lane_models.specs.ClientStep.{published_memory}
+use Rattle.lane_models.specs.DiskEvent.{Done, Published, Works}
+use Rattle.lane_models.specs.LaneState.{LaneState}
+use Rattle.lane_models.specs.LaneStep.{WorkStep}
+use Rattle.lane_models.specs.Seeing.{seen}
 use Rattle.lane_laws.proofs.MemorySteps.{got_sound}
 use Rattle.lane_laws.proofs.RingClient.{frees_slot, publishes_slot}
 use Rattle.lane_laws.proofs.RingSessions.{OfClient, of_client, sizes_of}

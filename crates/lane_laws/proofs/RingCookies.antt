@@ -16,8 +16,8 @@ use Rattle.cookie_copy.specs.Faults.{first_copy_fault, held, is_aligned_cookie, 
 use Rattle.cookie_copy.specs.Following.{FollowOn}
 use Rattle.cookie_copy.specs.Moved.{spots}
 use Rattle.vdisk_msg.specs.Requested.{buffer_cookies, cookie_count, ring_pages}
-use Rattle.channel_laws.specs.OwnMemory.{page_cookies}
-use Rattle.disk_model.specs.Offering.{own_cookies}
+use Rattle.lane_models.specs.OwnMemory.{page_cookies}
+use Rattle.lane_models.specs.Offering.{own_cookies}
 
 -- a multiple of 8
 pub even_word : (n : ℕ) → n % 8 ≡ 0 → is_even_word n ≡ true

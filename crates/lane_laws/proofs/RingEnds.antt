@@ -12,14 +12,14 @@ use Rattle.lane_laws.specs.Agreement.{owed_of}
 use Rattle.lane_laws.specs.DiskLog.{DiskLog, after}
 use Rattle.lane_laws.specs.RingLog.{Accepted, Done, SlotLog, finished_at, id_at}
 use Rattle.lane_laws.specs.WorkLog.{ClientCounts, ServerCounts, change_server}
-use Rattle.disk_model.specs.DiskEvent.{Finished, Moved, Works}
-use Rattle.disk_model.specs.LaneState.{LaneState, pages_of}
-use Rattle.disk_model.specs.LaneStep.{WorkStep, reach}
-use Rattle.channel_laws.specs.Seeing.{seen}
-use Rattle.disk_model.specs.ServerRule as server_rules
-use Rattle.disk_model.specs.ServerState.{Ends, Gathers, Gives, Progress, ServerSession, Work}
+use Rattle.lane_models.specs.DiskEvent.{Finished, Moved, Works}
+use Rattle.lane_models.specs.LaneState.{LaneState, pages_of}
+use Rattle.lane_models.specs.LaneStep.{WorkStep, reach}
+use Rattle.lane_models.specs.Seeing.{seen}
+use Rattle.lane_models.specs.ServerRule as server_rules
+use Rattle.lane_models.specs.ServerState.{Ends, Gathers, Gives, Progress, ServerSession, Work}
 use Rattle.cookie_copy.specs.Reach.{Reach}
-use Rattle.disk_model.specs.ServerWork.{MovesIn}
+use Rattle.lane_models.specs.ServerWork.{MovesIn}
 use Rattle.lane_laws.proofs.RingLeaves.{event_leaves, leaves_stand}
 use Rattle.lane_laws.proofs.RingServer.{ends_slot}
 use Rattle.lane_laws.proofs.RingSessions.{sizes_of}

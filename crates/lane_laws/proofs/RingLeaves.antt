@@ -3,13 +3,13 @@ use Rattle.std.proofs.Common.{◌≡◌, ℕ, false, List, Option, Some, None, �
 use Rattle.std.specs.Prelude.{⊤}
 use Rattle.ldc_queue.specs.declared.end.ChannelState.TheVariants.{Up}
 use Rattle.ldc_queue.specs.declared.end.End.TheVariants.{A}
-use Rattle.channel_laws.specs.WireEvent.{Sent, Took, WireEvent}
+use Rattle.lane_models.specs.WireEvent.{Sent, Took, WireEvent}
 use Rattle.vdisk_msg.specs.declared.request.Request.{Request}
 use Rattle.lane_laws.specs.DiskLog.{DiskLog, after}
 use Rattle.lane_laws.specs.RingLog.{SlotLog}
 use Rattle.lane_laws.specs.WorkLog.{ClientCounts, ServerCounts}
-use Rattle.disk_model.specs.LaneState.{LaneState}
-use Rattle.disk_model.specs.DiskEvent.{Accepted as Accepted_, Asks, Desc, DiskEvent, Done, Finished, OnWire, Published, Works}
+use Rattle.lane_models.specs.LaneState.{LaneState}
+use Rattle.lane_models.specs.DiskEvent.{Accepted as Accepted_, Asks, Desc, DiskEvent, Done, Finished, OnWire, Published, Works}
 use Rattle.lane_laws.proofs.RingTable.{map_stands, same_holds}
 use Rattle.lane_laws.specs.RingAgreed.{InRing, ring_in}
 use Rattle.lane_laws.specs.RingSlots.{IdStands, IdsStand, RingHolds, RingOf, SameSlots, WorkStands}

@@ -6,10 +6,10 @@ use Rattle.std.specs.Prelude.{slice_index_or, [], ◌∷◌}
 use Rattle.runs.specs.Run.{Run}
 use Rattle.cookie_copy.specs.Identity.{IsIdentity, own_entry}
 use Rattle.map_table.specs.declared.table.Entry.{Entry}
-use Rattle.disk_model.specs.DiskEvent.{DiskEvent}
-use Rattle.channel_laws.specs.OwnMemory.{own_table}
-use Rattle.disk_model.specs.LaneState.{IsShape, LaneState, Shape, fresh, pages_of}
-use Rattle.disk_model.specs.LaneStep.{LaneStep}
+use Rattle.lane_models.specs.DiskEvent.{DiskEvent}
+use Rattle.lane_models.specs.OwnMemory.{own_table}
+use Rattle.lane_models.specs.LaneState.{IsShape, LaneState, Shape, fresh, pages_of}
+use Rattle.lane_models.specs.LaneStep.{LaneStep}
 use Rattle.lane_laws.proofs.LaneViews.{lane_view}
 
 -- an event leaves the shape and the table

@@ -13,16 +13,16 @@ use Rattle.vdisk_msg.specs.Check.{first_defect}
 use Rattle.vdisk_msg.specs.declared.desc.DescFault.{DescFault}
 use Rattle.vdisk_msg.specs.declared.desc.DiskDesc.{DiskDesc}
 use Rattle.vdisk_msg.specs.Pieces.{Finishes, Moves, Piece, Stores, checked_pieces, pieces, read_pieces, write_pieces}
-use Rattle.channel_laws.specs.TranscriptLog.{TranscriptLog}
-use Rattle.channel_laws.specs.WireEvent.{WireEvent}
-use Rattle.channel_laws.proofs.Apart.{some_same}
+use Rattle.lane_models.specs.TranscriptLog.{TranscriptLog}
+use Rattle.lane_models.specs.WireEvent.{WireEvent}
+use Rattle.lane_models.proofs.Apart.{some_same}
 use Rattle.lane_laws.specs.Agreement.{RingAgrees, SlotAgrees}
 use Rattle.lane_laws.specs.DiskLog.{DiskLog, after, nothing_yet}
 use Rattle.lane_laws.specs.RingLog.{SlotLog, Zeros, no_ring}
 use Rattle.lane_laws.specs.WorkLog.{ServerCounts, WorkLog, change_server, moved_rest, rest_of, stored_rest, work_wired}
-use Rattle.disk_model.specs.DiskEvent.{Accepted, Admitted, Asks, Desc, DiskEvent, Finished, Moved, OnWire, Stopped, Stored, Switches, Works}
-use Rattle.disk_model.specs.LaneState.{IsShape, LaneState, Shape, fresh, pages_of}
-use Rattle.disk_model.specs.LaneStep.{LaneStep}
+use Rattle.lane_models.specs.DiskEvent.{Accepted, Admitted, Asks, Desc, DiskEvent, Finished, Moved, OnWire, Stopped, Stored, Switches, Works}
+use Rattle.lane_models.specs.LaneState.{IsShape, LaneState, Shape, fresh, pages_of}
+use Rattle.lane_models.specs.LaneStep.{LaneStep}
 use Rattle.lane_laws.proofs.CarriedRuns.{AllStand}
 use Rattle.lane_laws.proofs.RingPages.{few_pages, own_is_identity, same_pages}
 use Rattle.lane_laws.proofs.RingSteps.{event_in_ring}

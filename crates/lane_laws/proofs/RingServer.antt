@@ -10,15 +10,15 @@ use Rattle.vdisk_msg.specs.declared.desc.DiskDesc.{DiskDesc}
 use Rattle.vdisk_msg.specs.Requested.{descriptor_of, ring_pages, status_word}
 use Rattle.vio_bytes.specs.Place.{put_at}
 use Rattle.vio_tag.specs.declared.cause.Cause.{Cause}
-use Rattle.disk_model.specs.Offering.{own_cookies}
-use Rattle.disk_model.specs.ServerState.{ServerState, Work}
+use Rattle.lane_models.specs.Offering.{own_cookies}
+use Rattle.lane_models.specs.ServerState.{ServerState, Work}
 use Rattle.cookie_copy.specs.Reach.{Reach}
-use Rattle.disk_model.specs.ServerWork.{EndFails, header_of, slots_cookies, with_done, with_status, with_word, word_fault}
+use Rattle.lane_models.specs.ServerWork.{EndFails, header_of, slots_cookies, with_done, with_status, with_word, word_fault}
 use Rattle.lane_laws.proofs.MemoryStanding.{word_long}
 use Rattle.lane_laws.proofs.RingCookies.{copy_up}
 use Rattle.lane_laws.proofs.RingWrites.{one_after_one, ring_word, ring_word_answered}
 use Rattle.lane_laws.specs.RingSlots.{HoldsIssued, RingOf}
-use Rattle.channel_laws.proofs.Apart.{some_is_none}
+use Rattle.lane_models.proofs.Apart.{some_is_none}
 
 -- a server that reaches a ring of so many slots by its own cookies
 pub record Reaches (s : ServerState) (r : Reach) (pages slots : ℕ) : Type 0 where

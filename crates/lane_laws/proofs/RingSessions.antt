@@ -5,9 +5,9 @@ use Rattle.lane_laws.specs.Agreement.{ClientAgrees, ClientCountsAgree, ServerAgr
 use Rattle.lane_laws.specs.DiskLog.{DiskLog}
 use Rattle.lane_laws.specs.WorkLaws.{IfServer}
 use Rattle.lane_laws.specs.WorkLog.{ClientCounts, ServerCounts}
-use Rattle.disk_model.specs.ClientState.{ClientSession}
-use Rattle.disk_model.specs.LaneState.{LaneState}
-use Rattle.disk_model.specs.ServerState.{ServerSession, Work}
+use Rattle.lane_models.specs.ClientState.{ClientSession}
+use Rattle.lane_models.specs.LaneState.{LaneState}
+use Rattle.lane_models.specs.ServerState.{ServerSession, Work}
 use Rattle.lane_laws.proofs.SlotBytes.{Sizes}
 use Rattle.lane_laws.specs.RingAgreed.{OneRing, PagesStand, SessionsAgree, ring_in}
 

@@ -1,9 +1,9 @@
 -- Each event keeps the slots of the ring, where the sessions agree before it and after it.
 use Rattle.std.proofs.Common.{◌≡◌, ℕ, ◌^◌, ◌<◌, false, List, length, sym, ap, subst}
 use Rattle.lane_laws.specs.DiskLog.{DiskLog, after}
-use Rattle.disk_model.specs.DiskEvent.{Accepted, Asks, Desc, DiskEvent, Done, Finished, Misplaced, Moved, OnWire, Published, Calms, Stopped, Stored, Switches, Works}
-use Rattle.disk_model.specs.LaneState.{LaneState}
-use Rattle.disk_model.specs.LaneStep.{LaneStep}
+use Rattle.lane_models.specs.DiskEvent.{Accepted, Asks, Desc, DiskEvent, Done, Finished, Misplaced, Moved, OnWire, Published, Calms, Stopped, Stored, Switches, Works}
+use Rattle.lane_models.specs.LaneState.{LaneState}
+use Rattle.lane_models.specs.LaneStep.{LaneStep}
 use Rattle.lane_laws.proofs.RingClientSteps.{completed_in_ring, published_in_ring}
 use Rattle.lane_laws.proofs.RingEnds.{finished_in_ring, moved_in_ring}
 use Rattle.lane_laws.proofs.RingLeaves.{Leaves, event_leaves, leaves_stand}

@@ -7,21 +7,21 @@ use Rattle.ldc_queue.specs.declared.end.End.{End}
 use Rattle.ldc_queue.specs.declared.end.End.TheVariants.{A, B}
 use Rattle.vio_bytes.specs.Place.{put_at}
 use Rattle.vio_tag.specs.declared.cause.Cause.{Cause}
-use Rattle.channel_laws.specs.WireEvent.{Sent, WireEvent}
+use Rattle.lane_models.specs.WireEvent.{Sent, WireEvent}
 use Rattle.lane_laws.specs.DiskLog.{DiskLog, after}
 use Rattle.lane_laws.specs.RingLog.{Free}
 use Rattle.lane_laws.specs.WorkLog.{ClientCounts, ServerCounts}
-use Rattle.disk_model.specs.ClientRule.{client_rule}
-use Rattle.disk_model.specs.ClientState.{ClientState}
-use Rattle.disk_model.specs.ClientStep.{ClientSends, ClientStep}
-use Rattle.disk_model.specs.DiskEvent.{OnWire}
-use Rattle.disk_model.specs.LaneState.{LaneState, pages_of}
-use Rattle.disk_model.specs.LaneStep.{WireStep, reach}
-use Rattle.channel_laws.specs.Seeing.{seen}
-use Rattle.disk_model.specs.ServerRule as server_rules
-use Rattle.disk_model.specs.ServerState.{Ends, Progress, ServerSession, ServerState, Work}
-use Rattle.disk_model.specs.ServerStep.{ServerStep, ServerFails, WorkFails}
-use Rattle.disk_model.specs.ServerWork.{slot_at}
+use Rattle.lane_models.specs.ClientRule.{client_rule}
+use Rattle.lane_models.specs.ClientState.{ClientState}
+use Rattle.lane_models.specs.ClientStep.{ClientSends, ClientStep}
+use Rattle.lane_models.specs.DiskEvent.{OnWire}
+use Rattle.lane_models.specs.LaneState.{LaneState, pages_of}
+use Rattle.lane_models.specs.LaneStep.{WireStep, reach}
+use Rattle.lane_models.specs.Seeing.{seen}
+use Rattle.lane_models.specs.ServerRule as server_rules
+use Rattle.lane_models.specs.ServerState.{Ends, Progress, ServerSession, ServerState, Work}
+use Rattle.lane_models.specs.ServerStep.{ServerStep, ServerFails, WorkFails}
+use Rattle.lane_models.specs.ServerWork.{slot_at}
 use Rattle.lane_laws.proofs.Requesting.{held_kept}
 use Rattle.lane_laws.proofs.RingClient.{cleared_slot}
 use Rattle.lane_laws.proofs.RingEnds.{has_work, work_below}

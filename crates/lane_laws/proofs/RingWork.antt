@@ -12,20 +12,20 @@ use Rattle.vdisk_msg.specs.declared.request.Request.{Request}
 use Rattle.vdisk_msg.specs.Pieces.{pieces}
 use Rattle.vdisk_msg.specs.Requested.{descriptor_of}
 use Rattle.vio_bytes.specs.Place.{put_at}
-use Rattle.channel_laws.specs.WireLog.{WireLog}
-use Rattle.channel_laws.proofs.Apart.{some_same}
+use Rattle.lane_models.specs.WireLog.{WireLog}
+use Rattle.lane_models.proofs.Apart.{some_same}
 use Rattle.lane_laws.specs.DiskLog.{DiskLog, after}
 use Rattle.lane_laws.specs.RingLog.{Accepted, SlotLog, fetched_at, id_at}
 use Rattle.lane_laws.specs.WorkLaws.{FetchesRequest, IfServer, InClient, InServer, Unforged}
 use Rattle.lane_laws.specs.WorkLog.{ClientCounts, ServerCounts, change_server}
-use Rattle.disk_model.specs.DiskEvent.{Desc, Works}
-use Rattle.disk_model.specs.LaneState.{LaneState, pages_of}
-use Rattle.disk_model.specs.LaneStep.{WorkStep, reach}
-use Rattle.disk_model.specs.Offering.{own_cookies}
-use Rattle.channel_laws.specs.Seeing.{seen}
-use Rattle.disk_model.specs.ServerRule as server_rules
-use Rattle.disk_model.specs.ServerState.{ServerSession}
-use Rattle.disk_model.specs.ServerWork.{header_of, slot_fetched, with_word}
+use Rattle.lane_models.specs.DiskEvent.{Desc, Works}
+use Rattle.lane_models.specs.LaneState.{LaneState, pages_of}
+use Rattle.lane_models.specs.LaneStep.{WorkStep, reach}
+use Rattle.lane_models.specs.Offering.{own_cookies}
+use Rattle.lane_models.specs.Seeing.{seen}
+use Rattle.lane_models.specs.ServerRule as server_rules
+use Rattle.lane_models.specs.ServerState.{ServerSession}
+use Rattle.lane_models.specs.ServerWork.{header_of, slot_fetched, with_word}
 use Rattle.lane_laws.proofs.RingServer.{Reaches, header_long, writes_word}
 use Rattle.lane_laws.proofs.RingSessions.{OfServer, WithinRing, of_server, one_ring, sizes_of, unwrapped}
 use Rattle.lane_laws.proofs.RingTable.{each_set, got_same, id_is, set_holds, some_entry}

@@ -15,10 +15,10 @@ use Rattle.vdisk_msg.specs.Requested.{buffer_cookies, cookie_count, ring_pages}
 use Rattle.vio_bytes.proofs.Putting.{length-put_at}
 use Rattle.vio_bytes.proofs.Ranges.{range_at-put_at_outside}
 use Rattle.vio_bytes.specs.Place.{put_at}
-use Rattle.disk_model.specs.Offering.{own_cookies}
-use Rattle.disk_model.specs.ServerState.{ServerState, Work}
+use Rattle.lane_models.specs.Offering.{own_cookies}
+use Rattle.lane_models.specs.ServerState.{ServerState, Work}
 use Rattle.cookie_copy.specs.Reach.{Reach}
-use Rattle.disk_model.specs.ServerWork.{data_cookies, fetch_fault, given_memory, out_fault, slot_fetched, slots_cookies, with_word, word_fault}
+use Rattle.lane_models.specs.ServerWork.{data_cookies, fetch_fault, given_memory, out_fault, slot_fetched, slots_cookies, with_word, word_fault}
 use Rattle.lane_laws.proofs.RingCookies.{buffer_bytes, copy_held, ring_bytes}
 use Rattle.lane_laws.specs.RingSlots.{SameSlots}
 

@@ -15,11 +15,11 @@ use Rattle.vio_tag.specs.declared.message.TagFault.{TagFault}
 use Rattle.vio_tag.specs.Decoding.{Decodes}
 use Rattle.vio_handshake.specs.declared.handshake.Handshake.{Handshake}
 use Rattle.vio_handshake.specs.Rules.{Faults, Goes, GoesOpen, HandshakeTake, handshake_take, sid_fault}
-use Rattle.channel_laws.specs.EndStep.{IsOfSession, IsOwn}
-use Rattle.channel_laws.specs.EndPuts.{handshake_risen}
-use Rattle.channel_laws.specs.Ranges.{is_other}
-use Rattle.disk_model.specs.ServerState.{ServerSession, ServerState, SlotRange, opened_server}
-use Rattle.disk_model.specs.ServerTaking.{GoesOn, HearsLink, HearsWhole, Resets, ServerTake, ServerTakes, asked, by_handshake, hears_message, in_session, place_of, reads, takes_info}
+use Rattle.lane_models.specs.EndStep.{IsOfSession, IsOwnMessage}
+use Rattle.lane_models.specs.EndPuts.{handshake_risen}
+use Rattle.lane_models.specs.Ranges.{is_other}
+use Rattle.lane_models.specs.ServerState.{ServerSession, ServerState, SlotRange, opened_server}
+use Rattle.lane_models.specs.ServerTaking.{GoesOn, HearsLink, HearsWhole, Resets, ServerTake, ServerTakes, asked, by_handshake, hears_message, in_session, place_of, reads, takes_info}
 use Rattle.lane_laws.proofs.ClientAnswers.{HandshakesTo, is_the}
 
 abbrev pub opened_or : Bool → Option ServerSession → Option ServerSession
@@ -49,7 +49,7 @@ InfoFails ident range (the_cause.RangeEnd found) = found ≡ range.end
 InfoFails ident range cause = ⊥
 
 pub record Refuses (s : ServerState) (message : Message) (cause : Cause) : Type 0 where
-  pub own : IsOwn s.handshake (is_some s.session) message
+  pub own : IsOwnMessage s.handshake (is_some s.session) message
   pub ident : ℕ
   pub range : SlotRange
   pub body_is : message.body ≡ DringData range.seq ident range.start range.end range.state
@@ -86,7 +86,7 @@ by_info : (s : ServerState) (message : Message) (T : ServerTake → Type 0) (ses
     → sid_fault s.handshake.sid message.sid ≡ None → message.subtype ≡ Info → message.body ≡ DringData range.seq ident range.start range.end range.state
     → T (takes_info s session ident range)
 by_info s message T session ident range answers is sid kind body =
-    let own : IsOwn s.handshake (is_some s.session) message = record { opened = ap is_some is; sid = sid; body = subst IsOfSession (sym body) tt } in
+    let own : IsOwnMessage s.handshake (is_some s.session) message = record { opened = ap is_some is; sid = sid; body = subst IsOfSession (sym body) tt } in
     let resets : (cause : Cause) → InfoFails ident range cause → T (Resets cause) =
     λ cause fails. answers.refuses cause (record { own = own; ident = ident; range = range; body_is = body; fails = fails }) in
     either T (is_other s.handshake.draft.ident_peer ident) (Resets (the_cause.Ident s.handshake.draft.ident_peer ident)) _

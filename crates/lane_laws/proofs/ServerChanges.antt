@@ -12,14 +12,14 @@ use Rattle.vdisk_msg.specs.Requested.{size_of}
 use Rattle.vio_bytes.specs.Place.{put_at}
 use Rattle.vio_bytes.specs.Range.{range_at}
 use Rattle.lane_laws.specs.DiskLog.{DiskLog}
-use Rattle.disk_model.specs.DiskEvent.{Moved, Works}
-use Rattle.disk_model.specs.LaneState.{LaneState, NearCounts}
-use Rattle.disk_model.specs.LaneStep.{WorkStep, reach}
-use Rattle.channel_laws.specs.Seeing.{seen}
-use Rattle.disk_model.specs.ServerRule as server_rules
-use Rattle.disk_model.specs.ServerState.{Gathers, Gives, Progress, ServerState, Work, Writes}
+use Rattle.lane_models.specs.DiskEvent.{Moved, Works}
+use Rattle.lane_models.specs.LaneState.{LaneState, NearCounts}
+use Rattle.lane_models.specs.LaneStep.{WorkStep, reach}
+use Rattle.lane_models.specs.Seeing.{seen}
+use Rattle.lane_models.specs.ServerRule as server_rules
+use Rattle.lane_models.specs.ServerState.{Gathers, Gives, Progress, ServerState, Work, Writes}
 use Rattle.cookie_copy.specs.Reach.{Reach}
-use Rattle.disk_model.specs.ServerWork.{MovesIn, data_cookies, desc_of, gathered, given, given_memory, in_fault, length_of, out_fault, reads_next, unit_length}
+use Rattle.lane_models.specs.ServerWork.{MovesIn, data_cookies, desc_of, gathered, given, given_memory, in_fault, length_of, out_fault, reads_next, unit_length}
 use Rattle.lane_laws.proofs.Ruling.{server_may}
 use Rattle.lane_laws.specs.RuleFacts.{ServerMay}
 use Rattle.lane_laws.specs.Contents.{ContentsStand, ProgressIs}

@@ -7,19 +7,19 @@ use Rattle.ldc_queue.specs.Transcript.{Heard as Heard_, Utterance}
 use Rattle.vio_handshake.specs.declared.handshake.Handshake.{Handshake}
 use Rattle.vio_handshake.specs.declared.handshake.Phase.{Phase}
 use Rattle.vio_handshake.specs.declared.handshake.Phase.TheVariants.{Open}
-use Rattle.channel_laws.specs.Sayings.{half_heard, half_said, heard}
+use Rattle.lane_models.specs.Sayings.{half_heard, half_said, heard}
 use Rattle.lane_laws.specs.Agreement.{ServerAgrees, WorkAgrees}
-use Rattle.channel_laws.specs.Messages.{range_ended}
+use Rattle.lane_models.specs.Messages.{range_ended}
 use Rattle.lane_laws.specs.WorkLog.{ServerCounts, change_server, length_in, opened_counts}
-use Rattle.channel_laws.specs.EndPuts.{handshake_risen}
-use Rattle.disk_model.specs.LaneState.{Shape}
-use Rattle.channel_laws.specs.Ranges.{wrapped}
-use Rattle.disk_model.specs.ServerState.{ServerSession, ServerState, Work, joined_server, restarted_server}
-use Rattle.channel_laws.proofs.Apart.{true_is_false}
-use Rattle.channel_laws.specs.Grounds.{has_named}
+use Rattle.lane_models.specs.EndPuts.{handshake_risen}
+use Rattle.lane_models.specs.LaneState.{Shape}
+use Rattle.lane_models.specs.Ranges.{wrapped}
+use Rattle.lane_models.specs.ServerState.{ServerSession, ServerState, Work, joined_server, restarted_server}
+use Rattle.lane_models.proofs.Apart.{true_is_false}
+use Rattle.lane_models.specs.Grounds.{has_named}
 use Rattle.lane_laws.proofs.ClientTaken.{HearsMessage}
-use Rattle.channel_laws.proofs.EndStanding.{open_declines, up_empty}
-use Rattle.channel_laws.proofs.HandshakeCases.{HandshakeTook}
+use Rattle.lane_models.proofs.EndStanding.{open_declines, up_empty}
+use Rattle.lane_models.proofs.HandshakeCases.{HandshakeTook}
 use Rattle.lane_laws.proofs.RangeSums.{count_more, sum_heard, sum_more}
 use Rattle.lane_laws.proofs.RangesSaid.{IsNoData, heard_no_range, no_data}
 use Rattle.lane_laws.proofs.RuleTests.{TakesFree}

@@ -7,18 +7,18 @@ use Rattle.vdisk_msg.specs.Descriptor.{disk_desc_of}
 use Rattle.vdisk_msg.specs.Pieces.{pieces}
 use Rattle.lane_laws.specs.Agreement.{ServerAgrees, ServerCountsAgree, WorkAgrees}
 use Rattle.lane_laws.specs.WorkLog.{ServerCounts, change_server, rest_of}
-use Rattle.channel_laws.specs.EndPuts.{ComesUp, EndsOwn, EndsHandshake, Goes, PutKind}
-use Rattle.disk_model.specs.LaneState.{Shape}
-use Rattle.channel_laws.specs.Ranges.{wrapped}
-use Rattle.channel_laws.specs.Seeing.{Seen}
-use Rattle.disk_model.specs.ServerPutting.{server_kind}
-use Rattle.disk_model.specs.ServerRule.{Fetches, server_rule}
-use Rattle.disk_model.specs.ServerState.{ServerSession, ServerState, SlotRange, Work}
-use Rattle.disk_model.specs.ServerStep.{ServerFetches, ServerFinishes, ServerSends}
+use Rattle.lane_models.specs.EndPuts.{ComesUp, EndsOwn, EndsHandshake, Goes, PutKind}
+use Rattle.lane_models.specs.LaneState.{Shape}
+use Rattle.lane_models.specs.Ranges.{wrapped}
+use Rattle.lane_models.specs.Seeing.{Seen}
+use Rattle.lane_models.specs.ServerPutting.{server_kind}
+use Rattle.lane_models.specs.ServerRule.{Fetches, server_rule}
+use Rattle.lane_models.specs.ServerState.{ServerSession, ServerState, SlotRange, Work}
+use Rattle.lane_models.specs.ServerStep.{ServerFetches, ServerFinishes, ServerSends}
 use Rattle.cookie_copy.specs.Reach.{Reach}
-use Rattle.disk_model.specs.ServerWork.{first_progress}
-use Rattle.channel_laws.proofs.Apart.{none_is_some, some_same}
-use Rattle.channel_laws.proofs.PutSayings.{PutSays, put_says}
+use Rattle.lane_models.specs.ServerWork.{first_progress}
+use Rattle.lane_models.proofs.Apart.{none_is_some, some_same}
+use Rattle.lane_models.proofs.PutSayings.{PutSays, put_says}
 use Rattle.lane_laws.proofs.RulesFree.{ServerFree, server_free}
 use Rattle.lane_laws.proofs.ServerPutCounting.{answers_more, comes_counting, goes_counting, own_counting, put_as, server_holds_counting, handshake_counting}
 use Rattle.lane_laws.proofs.Speaking.{server_blocked_rests, server_blocked_utters}
@@ -26,7 +26,7 @@ use Rattle.lane_laws.proofs.ServerWorkCounting.{begins_owing, first_unit, holds_
 use Rattle.lane_laws.specs.Budget.{one_range}
 use Rattle.lane_laws.specs.Counted.{RangeStands, ServerCounted, ServerOrder}
 use Rattle.lane_laws.specs.LaneRests.{ServerRests, ServerUtters}
-use Rattle.channel_laws.proofs.PacketsLeft.{shut_in}
+use Rattle.lane_models.proofs.PacketsLeft.{shut_in}
 
 not_same : (a b : ℕ) → (a == b) ≡ false → a ≡ b → ⊥
 not_same a b test is = let same : (a == b) ≡ true = grind (arith, nat_tests) in absurd (cc)

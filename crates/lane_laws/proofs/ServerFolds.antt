@@ -9,26 +9,26 @@ use Rattle.vio_tag.specs.declared.message.MsgBody.TheVariants.{DringData}
 use Rattle.vio_tag.specs.Spelling.{SpellsBody, envelope_code}
 use Rattle.lane_laws.proofs.Speaking.{server_holds_owed}
 use Rattle.lane_laws.specs.EndLog.{range_answered, range_asked, range_in_work, range_of}
-use Rattle.channel_laws.specs.EndPuts.{ComesUp, EndsOwn, EndsHandshake, Goes, PutKind}
-use Rattle.channel_laws.specs.Messages.{ended_by, is_range, range_if, range_in}
-use Rattle.channel_laws.specs.Sayings.{half_heard, half_said}
-use Rattle.channel_laws.specs.Seeing.{Seen}
-use Rattle.disk_model.specs.ServerPutting.{answered}
-use Rattle.disk_model.specs.ServerRule.{Fetches}
-use Rattle.disk_model.specs.ServerState.{ServerSession, ServerState, SlotRange}
-use Rattle.disk_model.specs.ServerStep.{ServerFetches, ServerFinishes, ServerMoves, ServerStores}
+use Rattle.lane_models.specs.EndPuts.{ComesUp, EndsOwn, EndsHandshake, Goes, PutKind}
+use Rattle.lane_models.specs.Messages.{ended_by, is_range, range_if, range_in}
+use Rattle.lane_models.specs.Sayings.{half_heard, half_said}
+use Rattle.lane_models.specs.Seeing.{Seen}
+use Rattle.lane_models.specs.ServerPutting.{answered}
+use Rattle.lane_models.specs.ServerRule.{Fetches}
+use Rattle.lane_models.specs.ServerState.{ServerSession, ServerState, SlotRange}
+use Rattle.lane_models.specs.ServerStep.{ServerFetches, ServerFinishes, ServerMoves, ServerStores}
 use Rattle.cookie_copy.specs.Reach.{Reach}
-use Rattle.channel_laws.proofs.PutSayings.{PutSays}
-use Rattle.channel_laws.proofs.UtteranceCases.{heard_none, heard_some, said_none, said_some}
+use Rattle.lane_models.proofs.PutSayings.{PutSays}
+use Rattle.lane_models.proofs.UtteranceCases.{heard_none, heard_some, said_none, said_some}
 use Rattle.lane_laws.proofs.RangesSaid.{heard_no_range, is_data, no_data, owed_no_range, range_is}
 use Rattle.lane_laws.proofs.RulesFree.{ServerFree, server_free}
 use Rattle.lane_laws.proofs.ServerCounting.{opens_new}
 use Rattle.lane_laws.proofs.ServerPutCounting.{put_as, none_is}
 use Rattle.lane_laws.proofs.ServerAnswers.{opened_or}
 use Rattle.lane_laws.proofs.ServerTaken.{ServerTook}
-use Rattle.channel_laws.specs.Cuts.{CarriesOwed}
+use Rattle.lane_models.specs.Cuts.{CarriesOwed}
 use Rattle.lane_laws.specs.Counted.{HoldsAnswer, ServerHolds}
-use Rattle.channel_laws.specs.HandshakeFits.{MayOwe, OwedFits}
+use Rattle.lane_models.specs.HandshakeFits.{MayOwe, OwedFits}
 use Rattle.lane_laws.specs.LaneRests.{ServerRests}
 
 -- the range of an open session

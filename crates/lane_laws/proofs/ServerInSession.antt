@@ -16,20 +16,20 @@ use Rattle.vio_tag.specs.declared.message.Message.{Message}
 use Rattle.vio_tag.specs.Spelling.{SpellsMessage}
 use Rattle.vio_handshake.proofs.Places.{AllSaid, Deal}
 use Rattle.vio_handshake.specs.declared.handshake.Handshake.{Handshake}
-use Rattle.channel_laws.specs.Sayings.{heard, said}
-use Rattle.channel_laws.specs.WireLog.{WireLog}
+use Rattle.lane_models.specs.Sayings.{heard, said}
+use Rattle.lane_models.specs.WireLog.{WireLog}
 use Rattle.lane_laws.specs.DiskLog.{after, nothing_yet}
 use Rattle.lane_laws.specs.WorkLog.{ServerCounts}
-use Rattle.disk_model.specs.DiskEvent.{DiskEvent}
-use Rattle.channel_laws.specs.EndPuts.{handshake_risen}
-use Rattle.disk_model.specs.LaneState.{IsShape, LaneState, Shape, fresh}
-use Rattle.disk_model.specs.LaneStep.{LaneStep}
-use Rattle.channel_laws.specs.Ranges.{wrapped}
-use Rattle.disk_model.specs.ServerState.{ServerSession, ServerState, SlotRange}
-use Rattle.disk_model.specs.ServerTaking.{GoesOn, HearsWhole, ServerTake, asked, hears_message, place_of, reads, takes_info}
-use Rattle.channel_laws.proofs.EndStanding.{open_up}
-use Rattle.channel_laws.proofs.HandshakePlaces.{AtPlace, deal, open_place}
-use Rattle.channel_laws.specs.Sides.{sides_of, swapped}
+use Rattle.lane_models.specs.DiskEvent.{DiskEvent}
+use Rattle.lane_models.specs.EndPuts.{handshake_risen}
+use Rattle.lane_models.specs.LaneState.{IsShape, LaneState, Shape, fresh}
+use Rattle.lane_models.specs.LaneStep.{LaneStep}
+use Rattle.lane_models.specs.Ranges.{wrapped}
+use Rattle.lane_models.specs.ServerState.{ServerSession, ServerState, SlotRange}
+use Rattle.lane_models.specs.ServerTaking.{GoesOn, HearsWhole, ServerTake, asked, hears_message, place_of, reads, takes_info}
+use Rattle.lane_models.proofs.EndStanding.{open_up}
+use Rattle.lane_models.proofs.HandshakePlaces.{AtPlace, deal, open_place}
+use Rattle.lane_models.specs.Sides.{sides_of, swapped}
 use Rattle.lane_laws.proofs.Agreeing.{asked_within}
 use Rattle.lane_laws.proofs.ClientInSession.{no_fault, same_is}
 use Rattle.lane_laws.proofs.DataHeard.{data_spells, decodes_to, read_data, seq_reads}
@@ -91,7 +91,7 @@ info_fits shape d v session turns bytes at last offered few small number same is
 pub server_hears_in_session : (shape : Shape) (events : List DiskEvent) (s : LaneState) (session : ServerSession) (k : LinkState) (bytes : List ℕ) (take : ServerTake)
     → IsShape shape → Run LaneStep (fresh shape) events s → (log_of after (nothing_yet shape) events).wire.forged ≡ false
     → s.server.session ≡ Some session → s.wire.wire.end_b ≡ Up → s.wire.wire.end_a ≡ Up
-    → IsFront (heard (log_of after (nothing_yet shape) events).transcript.server ++ bytes ∷ []) (said (log_of after (nothing_yet shape) events).transcript.client)
+    → IsFront (heard (log_of after (nothing_yet shape) events).transcript.b ++ bytes ∷ []) (said (log_of after (nothing_yet shape) events).transcript.a)
     → HearsWhole (record s.server { link = k; handshake = handshake_risen s.server.link k s.server.handshake }) (Some bytes) take → (t : ServerState) × (take ≡ GoesOn t false)
 server_hears_in_session shape events s session k bytes take sound run clean open_is up_b up_a front hears =
     let l = log_of after (nothing_yet shape) events in
@@ -102,18 +102,18 @@ server_hears_in_session shape events s session k bytes take sound run clean open
     let sid = on.meets.handshakes.sid in
     let d = deal (asks_of shape) (answers_of shape) sid in
     let open_one : is_some s.server.session ≡ true = ap is_some open_is in
-    let link : is_up s.server.link ≡ true = open_up Responder (server_core s.server) l.transcript.server on.stand.mine open_one in
+    let link : is_up s.server.link ≡ true = open_up Responder (server_core s.server) l.transcript.b on.stand.mine open_one in
     let at = on.meets.handshakes.mine up_b link in
-    let last : at.place ≡ AllSaid = open_place false d Responder (server_core s.server) l.transcript.server on.stand.mine at open_one in
-    let tells : EachSaid Initiator shape.slots 0 0 (said l.transcript.client) =
-    subst (λ (x : Shape). EachSaid Initiator x.slots 0 0 (said l.transcript.client)) shape_is (they_tell shape events s sound run clean).client in
-    let sum = range_sum shape.slots 1 (heard l.transcript.server) in
-    let is : IsData Initiator shape.slots sid (range_count 1 (heard l.transcript.server)) sum bytes =
+    let last : at.place ≡ AllSaid = open_place false d Responder (server_core s.server) l.transcript.b on.stand.mine at open_one in
+    let tells : EachSaid Initiator shape.slots 0 0 (said l.transcript.a) =
+    subst (λ (x : Shape). EachSaid Initiator x.slots 0 0 (said l.transcript.a)) shape_is (they_tell shape events s sound run clean).client in
+    let sum = range_sum shape.slots 1 (heard l.transcript.b) in
+    let is : IsData Initiator shape.slots sid (range_count 1 (heard l.transcript.b)) sum bytes =
     next_data shape Responder (swapped (sides_of (core_of s) l.transcript)) bytes on up_b open_one up_a front tells in
-    let asked_is : session.asked ≡ range_sum shape.slots 1 (heard l.transcript.server) =
-    (asked_within shape events s session sound run clean_s up_b open_is).asked ∙ ap (λ (x : Shape). range_sum x.slots 1 (heard l.transcript.server)) shape_is in
-    let number = number_of shape.slots s.server.session l.work.server l.transcript.server session open_is (counted_server shape s l shape_is knows).order in
-    let fits = info_fits shape d s.server session l.transcript.server bytes at last refl sound.most_slots on.meets.handshakes.small number asked_is is in
+    let asked_is : session.asked ≡ range_sum shape.slots 1 (heard l.transcript.b) =
+    (asked_within shape events s session sound run clean_s up_b open_is).asked ∙ ap (λ (x : Shape). range_sum x.slots 1 (heard l.transcript.b)) shape_is in
+    let number = number_of shape.slots s.server.session l.work.server l.transcript.b session open_is (counted_server shape s l shape_is knows).order in
+    let fits = info_fits shape d s.server session l.transcript.b bytes at last refl sound.most_slots on.meets.handshakes.small number asked_is is in
     let start = sum % shape.slots in
     let ends = is.ends in
     let small = on.meets.handshakes.small in

@@ -20,31 +20,31 @@ use Rattle.vio_tag.specs.Decoding.{Decodes}
 use Rattle.vio_tag.specs.Spelling.{canonical}
 use Rattle.vio_handshake.specs.declared.handshake.Handshake.{Handshake}
 use Rattle.vio_handshake.specs.Rules.{HandshakeTake, handshake_take}
-use Rattle.channel_laws.specs.EndPuts.{PutKind, ending, kind_in, put_opens, handshake_behind, handshake_risen}
-use Rattle.disk_model.specs.Offering.{server_offer}
-use Rattle.channel_laws.specs.Ranges.{wrapped}
-use Rattle.channel_laws.specs.Seeing.{Seen}
-use Rattle.disk_model.specs.ServerPutting.{server_holds, server_kind, server_put, session_behind}
-use Rattle.disk_model.specs.ServerRule.{Fetches, Puts, Says, ServerRule, Serves, Takes, answer, server_rule}
-use Rattle.disk_model.specs.ServerState.{ServerSession, ServerState, SlotRange, Work, joined_server, restarted_server}
-use Rattle.disk_model.specs.ServerStep.{ServerFails, ServerFetches, ServerFinishes, ServerMoves, ServerSends, ServerStores}
-use Rattle.disk_model.specs.ServerTaking.{GoesOn, HearsLink, Resets, ServerTake, ServerTakes, asked}
+use Rattle.lane_models.specs.EndPuts.{PutKind, ending, kind_in, put_opens, handshake_behind, handshake_risen}
+use Rattle.lane_models.specs.Offering.{server_offer}
+use Rattle.lane_models.specs.Ranges.{wrapped}
+use Rattle.lane_models.specs.Seeing.{Seen}
+use Rattle.lane_models.specs.ServerPutting.{server_holds, server_kind, server_put, session_behind}
+use Rattle.lane_models.specs.ServerRule.{Fetches, Puts, Says, ServerRule, Serves, Takes, answer, server_rule}
+use Rattle.lane_models.specs.ServerState.{ServerSession, ServerState, SlotRange, Work, joined_server, restarted_server}
+use Rattle.lane_models.specs.ServerStep.{ServerFails, ServerFetches, ServerFinishes, ServerMoves, ServerSends, ServerStores}
+use Rattle.lane_models.specs.ServerTaking.{GoesOn, HearsLink, Resets, ServerTake, ServerTakes, asked}
 use Rattle.cookie_copy.specs.Reach.{Reach}
-use Rattle.disk_model.specs.ServerWork.{first_progress}
+use Rattle.lane_models.specs.ServerWork.{first_progress}
 use Rattle.vdisk_msg.specs.Descriptor as slot_says
-use Rattle.channel_laws.proofs.Apart.{none_is_some, some_same, true_is_false}
-use Rattle.channel_laws.specs.EndCore.{holds}
-use Rattle.channel_laws.specs.EndStep.{EndBegins, EndFails, EndHears, EndRenews, EndSays, EndStays, EndWaits, HandshakeTakes, HearsWhole, Holding, Holds, HoldsOn, HoldsOwed, HoldsOwn, IsOfSession, KeepsOwn, LinkFails, MayTake, WholeFails}
-use Rattle.channel_laws.specs.EndStep as core
+use Rattle.lane_models.proofs.Apart.{none_is_some, some_same, true_is_false}
+use Rattle.lane_models.specs.EndCore.{holds}
+use Rattle.lane_models.specs.EndStep.{EndBegins, EndFails, EndHears, EndRenews, EndSays, EndStays, EndWaits, HandshakeTakes, HearsWhole, Holding, Holds, HoldsOn, HoldsOwed, HoldsOwn, IsOfSession, KeepsOwn, LinkFails, MayTake, WholeFails}
+use Rattle.lane_models.specs.EndStep as core
 use Rattle.lane_laws.proofs.ClientAnswers.{HandshakesTo}
 use Rattle.lane_laws.proofs.ClientMoves.{cleared_is, holds_none}
-use Rattle.channel_laws.proofs.EndStanding.{holds_some, up_empty}
+use Rattle.lane_models.proofs.EndStanding.{holds_some, up_empty}
 use Rattle.lane_laws.proofs.Ruling.{server_may}
 use Rattle.lane_laws.proofs.RulesFree.{ServerFree, server_free}
 use Rattle.lane_laws.proofs.RuleTests.{TakesFree}
 use Rattle.lane_laws.proofs.ServerAnswers.{Answers, comes_to, goes_by, heard_on, opened_or}
 use Rattle.lane_laws.proofs.ServerSpeaking.{range_few}
-use Rattle.channel_laws.proofs.Short.{some_bytes}
+use Rattle.lane_models.proofs.Short.{some_bytes}
 use Rattle.lane_laws.specs.Budget.{one_range, range_packets}
 use Rattle.lane_laws.specs.ChannelEnds.{answers_to_begin, server_core}
 use Rattle.lane_laws.specs.RuleFacts.{ServerMay, ServerSays}

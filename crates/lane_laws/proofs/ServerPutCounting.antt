@@ -8,27 +8,27 @@ use Rattle.ldc_packet.specs.declared.packet.Subtype.TheVariants.{Ack}
 use Rattle.ldc_queue.specs.Transcript.{Said, Utterance}
 use Rattle.vio_tag.specs.declared.message.Message.{Message}
 use Rattle.vio_tag.specs.Spelling.{canonical}
-use Rattle.channel_laws.specs.Sayings.{half_said, heard, said}
+use Rattle.lane_models.specs.Sayings.{half_said, heard, said}
 use Rattle.lane_laws.proofs.Speaking.{server_holds_owed}
 use Rattle.lane_laws.specs.Agreement.{ServerAgrees, ServerCountsAgree, WorkAgrees}
-use Rattle.channel_laws.specs.Messages.{range_ended, range_in}
+use Rattle.lane_models.specs.Messages.{range_ended, range_in}
 use Rattle.lane_laws.specs.WorkLog.{ServerCounts, change_server, length_in, one_in}
-use Rattle.channel_laws.specs.EndPuts.{ComesUp, EndsOwn, EndsHandshake, Goes, PutKind, handshake_behind}
-use Rattle.disk_model.specs.LaneState.{Shape}
+use Rattle.lane_models.specs.EndPuts.{ComesUp, EndsOwn, EndsHandshake, Goes, PutKind, handshake_behind}
+use Rattle.lane_models.specs.LaneState.{Shape}
 use Rattle.dring.specs.Slots.{range_length}
-use Rattle.disk_model.specs.ServerPutting.{answered, server_holds, session_behind}
-use Rattle.disk_model.specs.ServerRule.{Puts, Says, ServerRule}
-use Rattle.disk_model.specs.ServerState.{ServerSession, ServerState, SlotRange, Work}
-use Rattle.channel_laws.proofs.Apart.{none_is_some, some_same}
-use Rattle.channel_laws.proofs.PutSayings.{SaysWhole, SaysOn}
-use Rattle.channel_laws.proofs.EndStanding.{open_up, owing_up, up_empty}
+use Rattle.lane_models.specs.ServerPutting.{answered, server_holds, session_behind}
+use Rattle.lane_models.specs.ServerRule.{Puts, Says, ServerRule}
+use Rattle.lane_models.specs.ServerState.{ServerSession, ServerState, SlotRange, Work}
+use Rattle.lane_models.proofs.Apart.{none_is_some, some_same}
+use Rattle.lane_models.proofs.PutSayings.{SaysWhole, SaysOn}
+use Rattle.lane_models.proofs.EndStanding.{open_up, owing_up, up_empty}
 use Rattle.lane_laws.proofs.RangeSums.{count_said, sum_more, sum_said}
 use Rattle.lane_laws.proofs.RangesSaid.{owed_no_range, said_range}
 use Rattle.lane_laws.proofs.RulesFree.{ServerFree}
 use Rattle.lane_laws.proofs.RuleTests.{AnswersFree}
 use Rattle.lane_laws.specs.Counted.{HoldsAnswer, InServerOrder, RangeStands, ServerCounted, ServerOrder, range_count, range_sum}
 use Rattle.lane_laws.specs.LaneRests.{ServerRests, ServerUtters}
-use Rattle.channel_laws.specs.HandshakeFits.{MayOwe, OwedFits}
+use Rattle.lane_models.specs.HandshakeFits.{MayOwe, OwedFits}
 use Rattle.lane_laws.specs.ChannelEnds.{server_core}
 
 -- the same answer of a server with another link

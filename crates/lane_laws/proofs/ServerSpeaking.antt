@@ -1,10 +1,10 @@
 -- A server that gets a message to put is up, and owes one answer to a range at most.
 use Rattle.std.proofs.Common.{◌≡◌, ◌≤◌, Option, Some, None, arith}
 use Rattle.ldc_queue.specs.declared.end.ChannelState.TheVariants.{Up}
-use Rattle.channel_laws.specs.Seeing.{Seen}
-use Rattle.disk_model.specs.ServerPutting.{server_holds}
-use Rattle.disk_model.specs.ServerRule.{ServerRule}
-use Rattle.disk_model.specs.ServerState.{ServerSession, ServerState, SlotRange}
+use Rattle.lane_models.specs.Seeing.{Seen}
+use Rattle.lane_models.specs.ServerPutting.{server_holds}
+use Rattle.lane_models.specs.ServerRule.{ServerRule}
+use Rattle.lane_models.specs.ServerState.{ServerSession, ServerState, SlotRange}
 use Rattle.lane_laws.specs.Budget.{one_range, range_packets}
 use Rattle.lane_laws.specs.RuleFacts.{ServerMay}
 

@@ -8,16 +8,16 @@ use Rattle.ldc_queue.specs.Transcript.{Heard as Heard_, Utterance}
 use Rattle.vio_tag.specs.declared.message.Message.{Message}
 use Rattle.vio_handshake.specs.declared.handshake.Handshake.{Handshake}
 use Rattle.vio_handshake.specs.State.{handshake_up}
-use Rattle.channel_laws.specs.EndPuts.{handshake_risen}
-use Rattle.disk_model.specs.ServerState.{ServerState}
-use Rattle.disk_model.specs.ServerTaking.{GoesOn, Resets, ServerTake, ServerTakes, asked}
-use Rattle.channel_laws.specs.Sayings.{heard}
+use Rattle.lane_models.specs.EndPuts.{handshake_risen}
+use Rattle.lane_models.specs.ServerState.{ServerState}
+use Rattle.lane_models.specs.ServerTaking.{GoesOn, Resets, ServerTake, ServerTakes, asked}
+use Rattle.lane_models.specs.Sayings.{heard}
 use Rattle.lane_laws.proofs.ClientTaken.{HearsMessage, took_to, was_up}
 use Rattle.lane_laws.proofs.ServerAnswers.{Answers, Asks, GoesBy, comes_to, goes_by, opened_or}
-use Rattle.channel_laws.proofs.EndStanding.{heard_leaves}
-use Rattle.channel_laws.proofs.EndCases.{HearsUp, link_hears}
-use Rattle.channel_laws.proofs.HandshakeCases.{HandshakeTook}
-use Rattle.channel_laws.proofs.UtteranceCases.{with_whole}
+use Rattle.lane_models.proofs.EndStanding.{heard_leaves}
+use Rattle.lane_models.proofs.EndCases.{HearsUp, link_hears}
+use Rattle.lane_models.proofs.HandshakeCases.{HandshakeTook}
+use Rattle.lane_models.proofs.UtteranceCases.{with_whole}
 
 pub record ServerHearsPart (s : ServerState) (turns : List Utterance) (packet : List ℕ) (t : ServerState) (opens : Bool) : Type 0 where
   pub link : LinkState

@@ -12,13 +12,13 @@ use Rattle.vdisk_msg.specs.declared.desc.DiskDesc.{DiskDesc}
 use Rattle.vdisk_msg.specs.Pieces.{Finishes, Piece, Stores, checked_pieces, pieces, read_pieces, unit_count, write_pieces}
 use Rattle.lane_laws.specs.Agreement.{owed_of}
 use Rattle.lane_laws.specs.WorkLog.{ServerCounts, change_server, moved_rest, rest_of, stored_rest}
-use Rattle.disk_model.specs.LaneState.{Shape}
-use Rattle.channel_laws.specs.Seeing.{Seen}
-use Rattle.disk_model.specs.ServerState.{Ends, Flushes, Gathers, Gives, Progress, Reads, ServerState, Work, Writes}
-use Rattle.disk_model.specs.ServerStep.{ServerMoves, ServerStores}
-use Rattle.disk_model.specs.ServerWork as server_work
+use Rattle.lane_models.specs.LaneState.{Shape}
+use Rattle.lane_models.specs.Seeing.{Seen}
+use Rattle.lane_models.specs.ServerState.{Ends, Flushes, Gathers, Gives, Progress, Reads, ServerState, Work, Writes}
+use Rattle.lane_models.specs.ServerStep.{ServerMoves, ServerStores}
+use Rattle.lane_models.specs.ServerWork as server_work
 use Rattle.cookie_copy.specs.Reach.{Reach}
-use Rattle.disk_model.specs.ServerWork.{MovesIn, StoresIn, desc_of, first_progress, gathers_next, or_ends}
+use Rattle.lane_models.specs.ServerWork.{MovesIn, StoresIn, desc_of, first_progress, gathers_next, or_ends}
 use Rattle.lane_laws.proofs.RulesFree.{server_free}
 use Rattle.lane_laws.specs.Counted.{ServerCounted, ServerHolds, UnitIn}
 use Rattle.lane_laws.specs.LaneRests.{ServerRests}

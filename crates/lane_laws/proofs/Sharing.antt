@@ -1,6 +1,6 @@
 -- What the proofs of both ends share.
 use Rattle.std.proofs.Common.{◌≡◌, ℕ, ◌≤◌, Option, Some, subst, arith, None}
-use Rattle.disk_model.specs.ClientState.{ClientSession}
+use Rattle.lane_models.specs.ClientState.{ClientSession}
 use Rattle.lane_laws.specs.Budget.{infos_left}
 use Rattle.lane_laws.specs.Sound.{CountsInOrder, SessionInOrder}
 

@@ -9,9 +9,9 @@ use Rattle.vdisk_msg.specs.Descriptor.{HasWidths, canonical, disk_desc_of}
 use Rattle.vdisk_msg.specs.Requested.{buffer_cookies, buffer_place, cookie_count, descriptor_of, size_of, status_word}
 use Rattle.vio_bytes.specs.Place.{put_at}
 use Rattle.lane_laws.specs.RingLog.{Done, Ready, SlotLog}
-use Rattle.disk_model.specs.ServerWork.{header_of}
+use Rattle.lane_models.specs.ServerWork.{header_of}
 use Rattle.lane_laws.specs.RingSlots.{HoldsIssued, RingOf, SlotHolds}
-use Rattle.channel_laws.proofs.Apart.{some_same}
+use Rattle.lane_models.proofs.Apart.{some_same}
 
 -- the descriptor of a request with a state and a status
 abbrev pub stated : ℕ → Request → ℕ → ℕ → ℕ → ℕ → DiskDesc

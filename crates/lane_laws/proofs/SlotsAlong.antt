@@ -7,18 +7,18 @@ use Rattle.runs.specs.Run.{Run, run_push}
 use Rattle.dring.specs.Slots.{slot_bytes}
 use Rattle.ldc_queue.specs.declared.end.ChannelState.TheVariants.{Up}
 use Rattle.ldc_queue.specs.declared.end.End.TheVariants.{B}
-use Rattle.channel_laws.specs.WireEvent.{Sent, Took}
-use Rattle.channel_laws.specs.WireLog.{WireLog}
+use Rattle.lane_models.specs.WireEvent.{Sent, Took}
+use Rattle.lane_models.specs.WireLog.{WireLog}
 use Rattle.lane_laws.specs.Agreement.{ClientAgrees, ServerAgrees}
-use Rattle.disk_model.specs.ClientState.{ClientSession}
+use Rattle.lane_models.specs.ClientState.{ClientSession}
 use Rattle.lane_laws.specs.DiskLog.{DiskLog, after, nothing_yet}
 use Rattle.lane_laws.specs.RingLog.{SlotLog}
 use Rattle.lane_laws.specs.WorkLaws.{IfServer}
 use Rattle.lane_laws.specs.WorkLog.{ClientCounts, ServerCounts, WorkLog}
-use Rattle.disk_model.specs.DiskEvent.{DiskEvent, OnWire}
-use Rattle.disk_model.specs.LaneState.{IsShape, LaneState, Shape, fresh}
-use Rattle.disk_model.specs.LaneStep.{LaneStep}
-use Rattle.disk_model.specs.ServerState.{ServerSession, Work}
+use Rattle.lane_models.specs.DiskEvent.{DiskEvent, OnWire}
+use Rattle.lane_models.specs.LaneState.{IsShape, LaneState, Shape, fresh}
+use Rattle.lane_models.specs.LaneStep.{LaneStep}
+use Rattle.lane_models.specs.ServerState.{ServerSession, Work}
 use Rattle.lane_laws.proofs.AckedFinished.{acked_finished}
 use Rattle.lane_laws.proofs.Agreeing.{always_agree, server_alive}
 use Rattle.lane_laws.proofs.LaneCounting.{Knows, run_knows}
@@ -28,7 +28,7 @@ use Rattle.lane_laws.proofs.RingRuns.{before, known_of}
 use Rattle.lane_laws.proofs.RingTable.{some_entry}
 use Rattle.lane_laws.proofs.ServerCounting.{opens_new}
 use Rattle.lane_laws.proofs.EndMoves.{step_b}
-use Rattle.channel_laws.proofs.EndSending.{responder_never}
+use Rattle.lane_models.proofs.EndSending.{responder_never}
 use Rattle.lane_laws.specs.ChannelEnds.{server_core}
 use Rattle.lane_laws.proofs.ServerTaken.{server_took_what}
 use Rattle.lane_laws.proofs.SlotsStepping.{StepFacts, event_slots}
@@ -52,12 +52,12 @@ none_log o w q is agrees = grind arith
 opens_none : (s : LaneState) (l : DiskLog) (event : DiskEvent) (t : LaneState) (packet : List ℕ) → Knows s l → LaneStep s event t → event ≡ OnWire (Took B packet true) → l.work.server ≡ None
 opens_none s l event t packet knows step is =
     let here : LaneStep s (OnWire (Took B packet true)) t = subst (λ (e : DiskEvent). LaneStep s e t) is step in
-    let took = server_took_what s.server l.transcript.server packet t.server true knows.rests.server.stands.link.follows knows.rests.server.whole here.1.step.1.1 in
-    none_log s.server.session s.server.work l.work.server (opens_new s.server t.server l.transcript.server packet knows.rests.server took) knows.counted.server.agrees
+    let took = server_took_what s.server l.transcript.b packet t.server true knows.rests.server.stands.link.follows knows.rests.server.whole here.1.step.1.1 in
+    none_log s.server.session s.server.work l.work.server (opens_new s.server t.server l.transcript.b packet knows.rests.server took) knows.counted.server.agrees
 
 pub never_sends : (s : LaneState) (l : DiskLog) (t : LaneState) (packet : List ℕ) → Knows s l → LaneStep s (OnWire (Sent B packet true)) t → ⊥
 never_sends s l t packet knows step =
-    responder_never (server_core s.server) (server_core t.server) l.transcript.server packet knows.rests.server.stands (step_b s (OnWire (Sent B packet true)) t step)
+    responder_never (server_core s.server) (server_core t.server) l.transcript.b packet knows.rests.server.stands (step_b s (OnWire (Sent B packet true)) t step)
 
 pub facts_at : (shape : Shape) (events : List DiskEvent) (s : LaneState) (event : DiskEvent) (t : LaneState) → IsShape shape → Along shape s (log_of after (nothing_yet shape) events)
     → Run LaneStep (fresh shape) events s → LaneStep s event t → (after (log_of after (nothing_yet shape) events) event).wire.forged ≡ false

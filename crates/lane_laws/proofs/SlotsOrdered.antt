@@ -3,7 +3,7 @@ use Rattle.std.proofs.Common.{◌≡◌, ◌≢◌, ℕ, ◌+◌, ◌-◌, ◌%�
 use Rattle.std.specs.Prelude.{slice_get}
 use Rattle.std.proofs.lemmas.Nat.{mod_below}
 use Rattle.std.proofs.Math.Nat.{add-mod_right}
-use Rattle.channel_laws.proofs.Apart.{some_same}
+use Rattle.lane_models.proofs.Apart.{some_same}
 use Rattle.lane_laws.specs.RingLog.{Accepted, Done, Free, Ready, SlotLog}
 use Rattle.lane_laws.proofs.RingTable.{free_entry, got_other, got_same, same_or_other}
 use Rattle.lane_laws.specs.SlotsInOrder.{SlotOf, SlotsOf}

@@ -4,21 +4,21 @@ use Rattle.ldc_queue.specs.declared.end.ChannelState.{ChannelState}
 use Rattle.ldc_queue.specs.declared.end.ChannelState.TheVariants.{Up}
 use Rattle.ldc_queue.specs.declared.end.End.TheVariants.{A, B}
 use Rattle.ldc_queue.specs.Wire.{closed, Wire, configured, peer_behind, upset}
-use Rattle.channel_laws.specs.WireEvent.{Injected, Joined, Lost, Reset, Sent, Took, WireEvent}
+use Rattle.lane_models.specs.WireEvent.{Injected, Joined, Lost, Reset, Sent, Took, WireEvent}
 use Rattle.lane_laws.specs.Agreement.{ServerAgrees, WorkAgrees}
 use Rattle.lane_laws.specs.DiskLog.{DiskLog, after}
-use Rattle.channel_laws.specs.Messages.{range_ended}
+use Rattle.lane_models.specs.Messages.{range_ended}
 use Rattle.lane_laws.specs.RingLog.{Accepted as IsAccepted, Done as IsDone, SlotLog, fetched_at, finished_at, freed_at, id_at, published_at}
 use Rattle.lane_laws.specs.WorkLaws.{IfServer}
 use Rattle.lane_laws.specs.WorkLog.{ClientCounts, ServerCounts, WorkLog, change_client, change_server, length_in, one_in}
-use Rattle.disk_model.specs.ClientRule as client_rules
-use Rattle.disk_model.specs.DiskEvent.{Accepted, Asks, Desc, DiskEvent, Done, Finished, Misplaced, Moved, OnWire, Published, Stopped, Stored, Switches, Worked, Works}
-use Rattle.disk_model.specs.LaneState.{LaneState}
-use Rattle.disk_model.specs.LaneStep.{LaneStep, WorkStep}
-use Rattle.channel_laws.specs.Sayings.{half_heard, half_said}
-use Rattle.channel_laws.specs.Seeing.{seen}
-use Rattle.disk_model.specs.ServerRule as server_rules
-use Rattle.disk_model.specs.ServerState.{ServerSession, Work}
+use Rattle.lane_models.specs.ClientRule as client_rules
+use Rattle.lane_models.specs.DiskEvent.{Accepted, Asks, Desc, DiskEvent, Done, Finished, Misplaced, Moved, OnWire, Published, Stopped, Stored, Switches, Worked, Works}
+use Rattle.lane_models.specs.LaneState.{LaneState}
+use Rattle.lane_models.specs.LaneStep.{LaneStep, WorkStep}
+use Rattle.lane_models.specs.Sayings.{half_heard, half_said}
+use Rattle.lane_models.specs.Seeing.{seen}
+use Rattle.lane_models.specs.ServerRule as server_rules
+use Rattle.lane_models.specs.ServerState.{ServerSession, Work}
 use Rattle.lane_laws.proofs.RingClientSteps.{completes_slot, publishing}
 use Rattle.lane_laws.proofs.RingEnds.{has_work}
 use Rattle.lane_laws.proofs.RingSessions.{of_client}
@@ -30,7 +30,7 @@ use Rattle.lane_laws.specs.RingAgreed.{OneRing, SessionsAgree}
 use Rattle.lane_laws.specs.RuleFacts.{ClientMay, ServerMay}
 use Rattle.lane_laws.specs.SlotsInOrder.{ServerAt, SlotsIn, SlotsInOrder, SlotsOf}
 use Rattle.lane_laws.specs.TableStands.{TableAt}
-use Rattle.channel_laws.proofs.Apart.{some_same, true_is_false}
+use Rattle.lane_models.proofs.Apart.{some_same, true_is_false}
 
 -- what is known of an event
 pub record StepFacts (s : LaneState) (l : DiskLog) (event : DiskEvent) (t : LaneState) : Type 0 where
@@ -148,7 +148,7 @@ wire_slots s l (Reset B cause packet lost) t step facts slots =
     keep_server l.shape.slots l.work (after l (OnWire (Reset B cause packet lost))).work l.wire.wire (after l (OnWire (Reset B cause packet lost))).wire.wire l.ring l.work.client refl (λ finished descs at. at_begun l.wire.wire l.work.server finished descs at) slots
 wire_slots s l (Took A packet false) t step facts slots =
     let adds : ClientCounts → ClientCounts =
-    λ (c : ClientCounts). record c { acked = c.acked + length_in l.shape.slots (range_ended 2 (half_heard l.transcript.client) packet) } in
+    λ (c : ClientCounts). record c { acked = c.acked + length_in l.shape.slots (range_ended 2 (half_heard l.transcript.a) packet) } in
     keep_client l.shape.slots (after l (OnWire (Took A packet false))).work (after l (OnWire (Took A packet false))).wire.wire l.ring adds l.work.client (λ k. refl) (λ k. refl)
     (λ k is. (omega arith, facts.announced (adds k) (ap (change_client adds) is)))
     (λ k finished descs is at most. facts.acked (adds k) finished descs (ap (change_client adds) is) facts.table.0 at)
@@ -159,8 +159,8 @@ wire_slots s l (Sent A packet true) t step facts slots = opened_slots s l packet
 wire_slots s l (Sent A packet false) t step facts slots =
     let adds : ClientCounts → ClientCounts =
     λ (c : ClientCounts). record c {
-      announced = c.announced + length_in l.shape.slots (range_ended 1 (half_said l.transcript.client) packet);
-      infos = c.infos + one_in (range_ended 1 (half_said l.transcript.client) packet);
+      announced = c.announced + length_in l.shape.slots (range_ended 1 (half_said l.transcript.a) packet);
+      infos = c.infos + one_in (range_ended 1 (half_said l.transcript.a) packet);
     } in
     keep_client l.shape.slots (after l (OnWire (Sent A packet false))).work (after l (OnWire (Sent A packet false))).wire.wire l.ring adds l.work.client (λ k. refl) (λ k. refl)
     (λ k is. (omega arith, facts.announced (adds k) (ap (change_client adds) is)))

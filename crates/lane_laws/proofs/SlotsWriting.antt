@@ -6,12 +6,12 @@ use Rattle.dring.proofs.Laps.{slot_cleared}
 use Rattle.dring.specs.Slots.{free_slots, slot_bytes}
 use Rattle.ldc_queue.specs.declared.end.End.TheVariants.{A}
 use Rattle.vio_bytes.specs.Place.{put_at}
-use Rattle.channel_laws.specs.WireEvent.{Sent}
-use Rattle.disk_model.specs.ClientRule as client_rules
-use Rattle.disk_model.specs.DiskEvent.{DiskEvent, Done, OnWire, Published, Works}
-use Rattle.disk_model.specs.LaneState.{IsShape, LaneState, Shape, fresh}
-use Rattle.disk_model.specs.LaneStep.{LaneStep}
-use Rattle.channel_laws.specs.Seeing.{seen}
+use Rattle.lane_models.specs.WireEvent.{Sent}
+use Rattle.lane_models.specs.ClientRule as client_rules
+use Rattle.lane_models.specs.DiskEvent.{DiskEvent, Done, OnWire, Published, Works}
+use Rattle.lane_models.specs.LaneState.{IsShape, LaneState, Shape, fresh}
+use Rattle.lane_models.specs.LaneStep.{LaneStep}
+use Rattle.lane_models.specs.Seeing.{seen}
 use Rattle.lane_laws.proofs.MemorySteps.{got_sound}
 use Rattle.lane_laws.proofs.ReachedFacts.{all_behind}
 use Rattle.lane_laws.proofs.Requesting.{sent_kept}

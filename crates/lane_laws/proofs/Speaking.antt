@@ -6,28 +6,28 @@ use Rattle.runs.specs.Run.{Run}
 use Rattle.ldc_link.specs.declared.phase.Role.TheVariants.{Initiator, Responder}
 use Rattle.ldc_queue.specs.declared.end.End.TheVariants.{A, B}
 use Rattle.ldc_queue.specs.Transcript.{Utterance}
-use Rattle.disk_model.specs.ClientPutting.{client_holds}
-use Rattle.disk_model.specs.ClientRule.{client_rule}
-use Rattle.disk_model.specs.ClientState.{ClientState}
-use Rattle.disk_model.specs.DiskEvent.{DiskEvent}
+use Rattle.lane_models.specs.ClientPutting.{client_holds}
+use Rattle.lane_models.specs.ClientRule.{client_rule}
+use Rattle.lane_models.specs.ClientState.{ClientState}
+use Rattle.lane_models.specs.DiskEvent.{DiskEvent}
 use Rattle.lane_laws.specs.DiskLog.{after_transcript}
-use Rattle.disk_model.specs.LaneState.{IsShape, LaneState, Shape, fresh}
-use Rattle.disk_model.specs.LaneStep.{LaneStep}
-use Rattle.channel_laws.specs.Sayings.{half_said, heard, said}
-use Rattle.channel_laws.specs.Seeing.{Seen}
-use Rattle.disk_model.specs.ServerPutting.{server_holds}
-use Rattle.disk_model.specs.ServerRule.{server_rule}
-use Rattle.disk_model.specs.ServerState.{ServerState}
-use Rattle.channel_laws.specs.TranscriptLog.{TranscriptLog, nothing_said}
-use Rattle.channel_laws.proofs.EndResting.{open_rests}
-use Rattle.channel_laws.proofs.EndsResting.{fresh_end_rests, rests_move, utters_of}
-use Rattle.channel_laws.proofs.Lifting.{transcript_turns}
-use Rattle.channel_laws.specs.Cuts.{CarriesOwed}
-use Rattle.channel_laws.specs.EndCore.{Waits}
-use Rattle.channel_laws.specs.Grounds.{OpenRests}
-use Rattle.channel_laws.specs.LaneCore.{move_of, transcript_after}
-use Rattle.channel_laws.specs.Standing.{EndStands}
-use Rattle.channel_laws.specs.Utterances.{SaysEach}
+use Rattle.lane_models.specs.LaneState.{IsShape, LaneState, Shape, fresh}
+use Rattle.lane_models.specs.LaneStep.{LaneStep}
+use Rattle.lane_models.specs.Sayings.{half_said, heard, said}
+use Rattle.lane_models.specs.Seeing.{Seen}
+use Rattle.lane_models.specs.ServerPutting.{server_holds}
+use Rattle.lane_models.specs.ServerRule.{server_rule}
+use Rattle.lane_models.specs.ServerState.{ServerState}
+use Rattle.lane_models.specs.TranscriptLog.{TranscriptLog, nothing_said}
+use Rattle.lane_models.proofs.EndResting.{open_rests}
+use Rattle.lane_models.proofs.EndsResting.{fresh_end_rests, rests_move, utters_of}
+use Rattle.lane_models.proofs.Lifting.{transcript_turns}
+use Rattle.lane_models.specs.Cuts.{CarriesOwed}
+use Rattle.lane_models.specs.EndCore.{Waits}
+use Rattle.lane_models.specs.Grounds.{OpenRests}
+use Rattle.lane_models.specs.LaneCore.{move_of, transcript_after}
+use Rattle.lane_models.specs.Standing.{EndStands}
+use Rattle.lane_models.specs.Utterances.{SaysEach}
 use Rattle.lane_laws.proofs.ClientMoves.{client_waits}
 use Rattle.lane_laws.proofs.EndMoves.{step_a, step_b, transcript_same}
 use Rattle.lane_laws.proofs.LaneStepping.{fresh_sound, sound_step}
@@ -62,10 +62,10 @@ pub rests_step : (s : LaneState) (event : DiskEvent) (t : LaneState) (transcript
 rests_step s event t transcript sound rests step =
     let now : LaneRests t (transcript_after transcript (core_event event)) = record {
       client = subst (λ (turns : List Utterance). ClientRests t.client turns) (sym (transcript_turns A transcript (core_event event)))
-          (rests_move Initiator (client_core s.client) (move_of A (core_event event)) (client_core t.client) transcript.client rests.client
+          (rests_move Initiator (client_core s.client) (move_of A (core_event event)) (client_core t.client) transcript.a rests.client
           (step_a s event t (record { before = sound; behind = sound_step s event t sound step }) step));
       server = subst (λ (turns : List Utterance). ServerRests t.server turns) (sym (transcript_turns B transcript (core_event event)))
-          (rests_move Responder (server_core s.server) (move_of B (core_event event)) (server_core t.server) transcript.server rests.server (step_b s event t step));
+          (rests_move Responder (server_core s.server) (move_of B (core_event event)) (server_core t.server) transcript.b rests.server (step_b s event t step));
     } in
     subst (λ (l : TranscriptLog). LaneRests t l) (transcript_same transcript event) now
 
@@ -81,7 +81,7 @@ fresh_rests shape sound =
 -- what both ends said, where they rest so
 pub lane_utters : (s : LaneState) (transcript : TranscriptLog) → LaneRests s transcript → LaneUtters s transcript
 lane_utters s transcript rests =
-    record { client = utters_of Initiator (client_core s.client) transcript.client rests.client; server = utters_of Responder (server_core s.server) transcript.server rests.server }
+    record { client = utters_of Initiator (client_core s.client) transcript.a rests.client; server = utters_of Responder (server_core s.server) transcript.b rests.server }
 
 -- ALONG EVERY RUN
 pub run_rests : (shape : Shape) (events : List DiskEvent) (s : LaneState) → IsShape shape → Run LaneStep (fresh shape) events s → LaneRests s (transcript_behind events)
@@ -92,21 +92,21 @@ run_rests shape events s sound run =
     both.1.1
 
 pub client_open_rests : (shape : Shape) (events : List DiskEvent) (s : LaneState) → IsShape shape → Run LaneStep (fresh shape) events s → is_some s.client.session ≡ true
-    → OpenRests Initiator s.client.handshake (heard (transcript_behind events).client)
+    → OpenRests Initiator s.client.handshake (heard (transcript_behind events).a)
 client_open_rests shape events s sound run is =
     let rests = (run_rests shape events s sound run).client in
-    open_rests Initiator (client_core s.client) (transcript_behind events).client (record { stands = rests.stands; rests = rests.rests }) is
+    open_rests Initiator (client_core s.client) (transcript_behind events).a (record { stands = rests.stands; rests = rests.rests }) is
 
 pub server_open_rests : (shape : Shape) (events : List DiskEvent) (s : LaneState) → IsShape shape → Run LaneStep (fresh shape) events s → is_some s.server.session ≡ true
-    → OpenRests Responder s.server.handshake (heard (transcript_behind events).server)
+    → OpenRests Responder s.server.handshake (heard (transcript_behind events).b)
 server_open_rests shape events s sound run is =
     let rests = (run_rests shape events s sound run).server in
-    open_rests Responder (server_core s.server) (transcript_behind events).server (record { stands = rests.stands; rests = rests.rests }) is
+    open_rests Responder (server_core s.server) (transcript_behind events).b (record { stands = rests.stands; rests = rests.rests }) is
 
 pub client_said : (shape : Shape) (events : List DiskEvent) (s : LaneState) → IsShape shape → Run LaneStep (fresh shape) events s
-    → SaysEach Initiator s.client.handshake.phase s.client.handshake.offer s.client.handshake.draft (said (transcript_behind events).client)
+    → SaysEach Initiator s.client.handshake.phase s.client.handshake.offer s.client.handshake.draft (said (transcript_behind events).a)
 client_said shape events s sound run = (run_rests shape events s sound run).client.utters.said
 
 pub server_said : (shape : Shape) (events : List DiskEvent) (s : LaneState) → IsShape shape → Run LaneStep (fresh shape) events s
-    → SaysEach Responder s.server.handshake.phase s.server.handshake.offer s.server.handshake.draft (said (transcript_behind events).server)
+    → SaysEach Responder s.server.handshake.phase s.server.handshake.offer s.server.handshake.draft (said (transcript_behind events).b)
 server_said shape events s sound run = (run_rests shape events s sound run).server.utters.said

@@ -3,8 +3,8 @@ use Rattle.std.proofs.Common.{◌≡◌, ℕ, ◌+◌, ◌-◌, ◌≤◌, Some,
 use Rattle.ldc_queue.specs.declared.end.ChannelState.TheVariants.{Up}
 use Rattle.lane_laws.specs.DiskLog.{DiskLog}
 use Rattle.lane_laws.specs.WorkLog.{ServerCounts}
-use Rattle.disk_model.specs.ClientState.{ClientSession, ClientState, ever_published_count}
-use Rattle.disk_model.specs.LaneState.{LaneState}
+use Rattle.lane_models.specs.ClientState.{ClientSession, ClientState, ever_published_count}
+use Rattle.lane_models.specs.LaneState.{LaneState}
 use Rattle.lane_laws.proofs.LaneCounting.{Knows}
 use Rattle.lane_laws.proofs.Requesting.{first_done}
 use Rattle.lane_laws.proofs.RingWork.{Known}

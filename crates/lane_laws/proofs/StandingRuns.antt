@@ -3,16 +3,16 @@ use Rattle.std.proofs.Common.{◌≡◌, ℕ, Bool, None, ◌-◌, List, [], ◌
 use Rattle.runs.specs.Lawful.{Lawful, run_lawful}
 use Rattle.runs.specs.Run.{Run}
 use Rattle.ldc_queue.specs.declared.end.End.TheVariants.{A}
-use Rattle.channel_laws.specs.WireLog.{WireLog}
+use Rattle.lane_models.specs.WireLog.{WireLog}
 use Rattle.lane_laws.specs.DiskLog.{DiskLog, after, after_wire, nothing_yet}
 use Rattle.lane_laws.specs.RequestLaws.{AdmissionAt, Admits, OnceAt, ServerRunsAt}
 use Rattle.lane_laws.specs.WorkLog.{WorkLog}
-use Rattle.disk_model.specs.ClientState.{ClientState}
-use Rattle.disk_model.specs.ClientStep.{ClientAdmits, ClientStep}
-use Rattle.channel_laws.specs.WireEvent.{Reset}
-use Rattle.disk_model.specs.DiskEvent.{Accepted, Admitted, Asks, DiskEvent, Done, Full, OnWire, Published, Refused, Works}
-use Rattle.disk_model.specs.LaneState.{IsShape, LaneState, Shape, fresh}
-use Rattle.disk_model.specs.LaneStep.{LaneStep}
+use Rattle.lane_models.specs.ClientState.{ClientState}
+use Rattle.lane_models.specs.ClientStep.{ClientAdmits, ClientStep}
+use Rattle.lane_models.specs.WireEvent.{Reset}
+use Rattle.lane_models.specs.DiskEvent.{Accepted, Admitted, Asks, DiskEvent, Done, Full, OnWire, Published, Refused, Works}
+use Rattle.lane_models.specs.LaneState.{IsShape, LaneState, Shape, fresh}
+use Rattle.lane_models.specs.LaneStep.{LaneStep}
 use Rattle.lane_laws.proofs.Requesting.{KeepsRequests, accepted_stand, completed_next, kept_stand, published_kept, same_stand}
 use Rattle.lane_laws.proofs.StandingSteps.{client_kept, joined_client_kept, same_client, wired_keeps}
 use Rattle.lane_laws.proofs.LaneViews.{Beside, ClientActs, ClientAsked, ClientCalled, ClientStays, ClientView, after_stopped, at_client, lane_view}

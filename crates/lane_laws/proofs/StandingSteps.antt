@@ -1,19 +1,19 @@
 -- Each event of a lane may stand where the conditions on requests say, and keeps what its requests and its log are to each other.
 use Rattle.std.proofs.Common.{◌≡◌, ℕ, List, sym, ap, subst, arith}
 use Rattle.ldc_queue.specs.declared.end.End.TheVariants.{A}
-use Rattle.channel_laws.specs.TranscriptLog.{TranscriptLog}
-use Rattle.channel_laws.specs.WireEvent.{Blocked, Idle, Joined, Reset, Sent, Took, WireEvent}
-use Rattle.channel_laws.specs.WireLog.{wire_moved}
+use Rattle.lane_models.specs.TranscriptLog.{TranscriptLog}
+use Rattle.lane_models.specs.WireEvent.{Blocked, Idle, Joined, Reset, Sent, Took, WireEvent}
+use Rattle.lane_models.specs.WireLog.{wire_moved}
 use Rattle.lane_laws.specs.WorkLog.{WorkLog, work_wired}
-use Rattle.disk_model.specs.ClientState.{ClientState, joined_client}
-use Rattle.disk_model.specs.DiskEvent.{OnWire}
-use Rattle.disk_model.specs.LaneState.{LaneState}
-use Rattle.disk_model.specs.LaneStep.{WireStep}
+use Rattle.lane_models.specs.ClientState.{ClientState, joined_client}
+use Rattle.lane_models.specs.DiskEvent.{OnWire}
+use Rattle.lane_models.specs.LaneState.{LaneState}
+use Rattle.lane_models.specs.LaneStep.{WireStep}
 use Rattle.lane_laws.proofs.LaneViews.{ClientActs, ClientCalled, ClientStays, ClientView, at_client, lane_view}
-use Rattle.disk_model.specs.ClientStep.{ClientStep}
+use Rattle.lane_models.specs.ClientStep.{ClientStep}
 use Rattle.lane_laws.proofs.Requesting.{KeepsRequests, held_kept, joined_kept, sent_kept, stays_kept, took_kept}
 use Rattle.lane_laws.proofs.Ruling.{client_may}
-use Rattle.disk_model.specs.ClientRule.{client_rule}
+use Rattle.lane_models.specs.ClientRule.{client_rule}
 
 -- what the wire's events leave of the log of requests
 pub record LogKeeps (w x : WorkLog) : Type 0 where

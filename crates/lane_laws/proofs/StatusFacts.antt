@@ -12,30 +12,30 @@ use Rattle.ldc_queue.specs.OneStream.{IsFront}
 use Rattle.ldc_queue.specs.Transcript.{Heard as Heard_, Said, Utterance}
 use Rattle.vio_handshake.proofs.Places.{AllSaid, Deal, Place}
 use Rattle.vio_handshake.specs.declared.handshake.Phase.TheVariants.{Open}
-use Rattle.channel_laws.specs.Sayings.{half_heard, half_said, heard, said}
-use Rattle.channel_laws.specs.TranscriptLog.{TranscriptLog}
-use Rattle.channel_laws.specs.WireEvent.{Sent, Took}
-use Rattle.channel_laws.specs.WireLog.{WireLog}
+use Rattle.lane_models.specs.Sayings.{half_heard, half_said, heard, said}
+use Rattle.lane_models.specs.TranscriptLog.{TranscriptLog}
+use Rattle.lane_models.specs.WireEvent.{Sent, Took}
+use Rattle.lane_models.specs.WireLog.{WireLog}
 use Rattle.lane_laws.specs.Agreement.{ClientAgrees}
 use Rattle.lane_laws.specs.DiskLog.{DiskLog, after, nothing_yet}
 use Rattle.lane_laws.specs.RingLog.{Done}
 use Rattle.lane_laws.specs.WorkLaws.{IfServer}
-use Rattle.channel_laws.specs.Messages.{opening_sid}
+use Rattle.lane_models.specs.Messages.{opening_sid}
 use Rattle.lane_laws.specs.WorkLog.{ClientCounts, ServerCounts}
-use Rattle.disk_model.specs.ClientPutting.{client_kind}
-use Rattle.disk_model.specs.ClientState.{ClientSession, ClientState}
-use Rattle.disk_model.specs.DiskEvent.{DiskEvent, OnWire}
-use Rattle.channel_laws.specs.EndPuts.{PutKind, put_opens}
-use Rattle.disk_model.specs.LaneState.{IsShape, LaneState, Shape, fresh}
-use Rattle.disk_model.specs.LaneStep.{LaneStep}
-use Rattle.channel_laws.specs.Seeing.{seen}
-use Rattle.disk_model.specs.ServerState.{ServerState}
-use Rattle.channel_laws.proofs.Apart.{true_is_false}
-use Rattle.channel_laws.proofs.EndStanding.{open_up}
-use Rattle.channel_laws.proofs.HandshakePlaces.{AtPlace, deal, open_place}
-use Rattle.channel_laws.proofs.Script.{said_at}
-use Rattle.channel_laws.specs.Sides.{sides_of}
-use Rattle.channel_laws.specs.Standing.{EndStands}
+use Rattle.lane_models.specs.ClientPutting.{client_kind}
+use Rattle.lane_models.specs.ClientState.{ClientSession, ClientState}
+use Rattle.lane_models.specs.DiskEvent.{DiskEvent, OnWire}
+use Rattle.lane_models.specs.EndPuts.{PutKind, put_opens}
+use Rattle.lane_models.specs.LaneState.{IsShape, LaneState, Shape, fresh}
+use Rattle.lane_models.specs.LaneStep.{LaneStep}
+use Rattle.lane_models.specs.Seeing.{seen}
+use Rattle.lane_models.specs.ServerState.{ServerState}
+use Rattle.lane_models.proofs.Apart.{true_is_false}
+use Rattle.lane_models.proofs.EndStanding.{open_up}
+use Rattle.lane_models.proofs.HandshakePlaces.{AtPlace, deal, open_place}
+use Rattle.lane_models.proofs.Script.{said_at}
+use Rattle.lane_models.specs.Sides.{sides_of}
+use Rattle.lane_models.specs.Standing.{EndStands}
 use Rattle.lane_laws.proofs.LaneChannel.{OnLane, answers_of, asks_of, lane_meets, lane_meets_next}
 use Rattle.lane_laws.proofs.Agreeing.{client_some, server_open}
 use Rattle.lane_laws.proofs.LaneCores.{transcript_is}
@@ -58,7 +58,7 @@ use Rattle.lane_laws.specs.RingSlots.{IdStands}
 use Rattle.lane_laws.specs.SlotsInOrder.{SlotsIn, SlotsInOrder, SlotsOf}
 use Rattle.lane_laws.specs.TableStands.{TableAt}
 use Rattle.lane_laws.proofs.StatusSteps.{NoneDone, front_named, hears_fifth, says_fifth}
-use Rattle.lane_laws.specs.Statuses.{IsNamed}
+use Rattle.lane_laws.specs.Statuses.{IsSidNamed}
 use Rattle.lane_laws.specs.ChannelEnds.{client_core, core_of, server_core}
 
 -- WHAT IS KNOWN before an event and after it
@@ -69,7 +69,7 @@ pub record Around (shape : Shape) (s : LaneState) (l : DiskLog) (event : DiskEve
   pub table : TableAt l event
   pub next : Knows t (after l event)
   pub next_on : OnLane shape Initiator (sides_of (core_of t) (after l event).transcript)
-  pub front : t.wire.wire.end_b ≡ Up → IsFront (heard (after l event).transcript.server) (said (after l event).transcript.client)
+  pub front : t.wire.wire.end_b ≡ Up → IsFront (heard (after l event).transcript.b) (said (after l event).transcript.a)
   pub slots : SlotsInOrder (after l event)
 
 pub around : (shape : Shape) (events : List DiskEvent) (s : LaneState) (event : DiskEvent) (t : LaneState) → IsShape shape → Run LaneStep (fresh shape) events s → LaneStep s event t
@@ -91,7 +91,7 @@ around shape events s event t sound run step clean =
       table = (lawful_split TableAt after (nothing_yet shape) events (event ∷ []) (table_lawful shape more t sound then_run)).1.0;
       next = subst (Knows t) behind next;
       next_on = lane_meets_next shape events s event t sound run step clean_t;
-      front = λ up. subst (λ (x : TranscriptLog). IsFront (heard x.server) (said x.client)) transcript (heard_messages shape more t B sound then_run clean_t up);
+      front = λ up. subst (λ (x : TranscriptLog). IsFront (heard x.b) (said x.a)) transcript (heard_messages shape more t B sound then_run clean_t up);
       slots = subst SlotsInOrder behind (run_slots shape more t sound then_run clean_more);
     }
 
@@ -113,7 +113,7 @@ sends_new shape s l packet t now step =
     let at = seen A s.shape.entries s.wire.wire in
     let sends = step.step in
     let held = sends.held in
-    let rests : ClientRests held l.transcript.client = client_blocked_rests s.client at held l.transcript.client now.knows.all.sound sends.holds now.knows.rests.client in
+    let rests : ClientRests held l.transcript.a = client_blocked_rests s.client at held l.transcript.a now.knows.all.sound sends.holds now.knows.rests.client in
     let same : is_some held.session ≡ is_some s.client.session = held_open s.client at held now.knows.all.sound sends.holds in
     none_if s.client.session (λ open_one.
     let closed : put_opens (client_kind held) held.handshake ≡ false = kind_opens (client_kind held) held (rests.opened (same ∙ open_one)) in
@@ -124,16 +124,16 @@ few_said : (d : Deal) (c : ClientState) (turns : List Utterance) → EndStands I
 few_said d c turns stands there none = grind arith
 
 pub names_session : (shape : Shape) (s : LaneState) (l : DiskLog) (packet : List ℕ) (t : LaneState) → Around shape s l (OnWire (Sent A packet true)) t → LaneStep s (OnWire (Sent A packet true)) t
-    → IsNamed (opening_sid (half_said l.transcript.client) packet) (said (Said packet ∷ l.transcript.client))
+    → IsSidNamed (opening_sid (half_said l.transcript.a) packet) (said (Said packet ∷ l.transcript.a))
 names_session shape s l packet t now step =
     let up : s.wire.wire.end_a ≡ Up = ap (λ (w : WireLog). w.wire.end_a) now.knows.all.stands.wire ∙ now.table.0 in
     let up_t : t.wire.wire.end_a ≡ Up = ap (λ (x : LaneState). x.wire.wire.end_a) step.is ∙ up in
-    let few = few_said (deal (asks_of shape) (answers_of shape) now.on.meets.handshakes.sid) s.client l.transcript.client now.on.stand.mine (now.on.meets.handshakes.mine up) (sends_new shape s l packet t now step) in
+    let few = few_said (deal (asks_of shape) (answers_of shape) now.on.meets.handshakes.sid) s.client l.transcript.a now.on.stand.mine (now.on.meets.handshakes.mine up) (sends_new shape s l packet t now step) in
     let open_one : is_some t.client.session ≡ true = client_some t.client.session _ _ _ refl now.next.counted.client.agrees in
     let d = deal (asks_of shape) (answers_of shape) now.next_on.meets.handshakes.sid in
-    let behind : List Utterance = Said packet ∷ l.transcript.client in
+    let behind : List Utterance = Said packet ∷ l.transcript.a in
     let at = now.next_on.meets.handshakes.mine up_t (open_up Initiator (client_core t.client) behind now.next_on.stand.mine open_one) in
-    says_fifth packet l.transcript.client few
+    says_fifth packet l.transcript.a few
     (subst (λ (xs : List (List ℕ)). 5 ≤ length xs) (sym at.said_is) (five_at d at.place at.mine (open_place false d Initiator (client_core t.client) behind now.next_on.stand.mine at open_one)))
 
 -- and no server whose end is up works
@@ -151,19 +151,19 @@ few_heard : (d : Deal) (v : ServerState) (turns : List Utterance) → EndStands 
 few_heard d v turns stands there none = grind arith
 
 pub hears_session : (shape : Shape) (s : LaneState) (l : DiskLog) (packet : List ℕ) (t : LaneState) → Around shape s l (OnWire (Took B packet true)) t → LaneStep s (OnWire (Took B packet true)) t
-    → IsNamed (opening_sid (half_heard l.transcript.server) packet) (said l.transcript.client)
+    → IsSidNamed (opening_sid (half_heard l.transcript.b) packet) (said l.transcript.a)
 hears_session shape s l packet t now step =
     let up : s.wire.wire.end_b ≡ Up = ap (λ (w : WireLog). w.wire.end_b) now.knows.all.stands.wire ∙ now.table.0 in
     let up_t : t.wire.wire.end_b ≡ Up = ap (λ (x : LaneState). x.wire.wire.end_b) step.1.is ∙ up in
-    let took = server_took_what s.server l.transcript.server packet t.server true now.knows.rests.server.stands.link.follows now.knows.rests.server.whole step.1.step.1.1 in
-    let few = few_heard (deal (asks_of shape) (answers_of shape) now.on.meets.handshakes.sid) s.server l.transcript.server now.on.stand.theirs (now.on.meets.handshakes.theirs up) (opens_new s.server t.server l.transcript.server packet now.knows.rests.server took) in
+    let took = server_took_what s.server l.transcript.b packet t.server true now.knows.rests.server.stands.link.follows now.knows.rests.server.whole step.1.step.1.1 in
+    let few = few_heard (deal (asks_of shape) (answers_of shape) now.on.meets.handshakes.sid) s.server l.transcript.b now.on.stand.theirs (now.on.meets.handshakes.theirs up) (opens_new s.server t.server l.transcript.b packet now.knows.rests.server took) in
     let open_one : is_some t.server.session ≡ true = server_open t.server.session t.server.work _ _ refl now.next.counted.server.agrees in
     let d = deal (asks_of shape) (answers_of shape) now.next_on.meets.handshakes.sid in
-    let behind : List Utterance = Heard_ packet ∷ l.transcript.server in
+    let behind : List Utterance = Heard_ packet ∷ l.transcript.b in
     let at = now.next_on.meets.handshakes.theirs up_t (open_up Responder (server_core t.server) behind now.next_on.stand.theirs open_one) in
-    let named = hears_fifth packet l.transcript.server few
+    let named = hears_fifth packet l.transcript.b few
     (subst (λ (xs : List (List ℕ)). 5 ≤ length xs) (sym at.heard_is) (five_at d at.place at.theirs (open_place false d Responder (server_core t.server) behind now.next_on.stand.theirs at open_one))) in
-    front_named (opening_sid (half_heard l.transcript.server) packet) (heard (Heard_ packet ∷ l.transcript.server)) (said l.transcript.client) (now.front up_t) named
+    front_named (opening_sid (half_heard l.transcript.b) packet) (heard (Heard_ packet ∷ l.transcript.b)) (said l.transcript.a) (now.front up_t) named
 
 -- where the client's session is open no slot is DONE yet
 none_done : (s : LaneState) (l : DiskLog) (k : ClientCounts) (finished descs : ℕ) → Known s l → l.work.client ≡ Some k

@@ -6,18 +6,18 @@ use Rattle.runs.specs.Lawful.{Lawful, log_append, log_of, run_lawful}
 use Rattle.runs.specs.Run.{Run, run_push}
 use Rattle.ldc_queue.specs.declared.end.End.TheVariants.{A, B}
 use Rattle.ldc_queue.specs.Transcript.{Said}
-use Rattle.channel_laws.specs.Sayings.{half_heard, said}
-use Rattle.channel_laws.specs.WireEvent.{Injected, Joined, Lost, Reset, Sent, Took}
+use Rattle.lane_models.specs.Sayings.{half_heard, said}
+use Rattle.lane_models.specs.WireEvent.{Injected, Joined, Lost, Reset, Sent, Took}
 use Rattle.lane_laws.specs.DiskLog.{DiskLog, after, nothing_yet}
 use Rattle.lane_laws.specs.RingLog.{Done as IsDone, Free, SlotLog, finished_at, id_at}
 use Rattle.lane_laws.specs.WorkLaws.{IfClient, Unforged, WorkUnforgedAt}
-use Rattle.channel_laws.specs.Messages.{opening_sid}
+use Rattle.lane_models.specs.Messages.{opening_sid}
 use Rattle.lane_laws.specs.WorkLog.{ClientCounts, Opened, ServerCounts, change_server}
-use Rattle.disk_model.specs.DiskEvent.{Accepted, Asks, Desc, DiskEvent, Done, Finished, Misplaced, Moved, OnWire, Published, Stopped, Stored, Switches, Worked, Works}
-use Rattle.disk_model.specs.LaneState.{IsShape, LaneState, Shape, fresh}
-use Rattle.disk_model.specs.LaneStep.{LaneStep, WorkStep}
-use Rattle.channel_laws.specs.Seeing.{seen}
-use Rattle.disk_model.specs.ServerRule as server_rules
+use Rattle.lane_models.specs.DiskEvent.{Accepted, Asks, Desc, DiskEvent, Done, Finished, Misplaced, Moved, OnWire, Published, Stopped, Stored, Switches, Worked, Works}
+use Rattle.lane_models.specs.LaneState.{IsShape, LaneState, Shape, fresh}
+use Rattle.lane_models.specs.LaneStep.{LaneStep, WorkStep}
+use Rattle.lane_models.specs.Seeing.{seen}
+use Rattle.lane_models.specs.ServerRule as server_rules
 use Rattle.lane_laws.proofs.RingAlong.{run_fetches, run_status}
 use Rattle.lane_laws.proofs.RingRuns.{before}
 use Rattle.lane_laws.proofs.RingWork.{Known, at_work}
@@ -28,15 +28,15 @@ use Rattle.lane_laws.proofs.StatusSteps.{cleared_none, fetched_keeps, freed_keep
 use Rattle.lane_laws.proofs.UnforgedMoves.{moved_answered}
 use Rattle.lane_laws.proofs.PieceLaw.{Working}
 use Rattle.lane_laws.proofs.WorkRuns.{fresh_working, working_step}
-use Rattle.lane_laws.specs.Statuses.{IsLast, IsNamed, KeepsStatus, LastIn, StatusesStand}
-use Rattle.channel_laws.proofs.Apart.{true_is_false}
+use Rattle.lane_laws.specs.Statuses.{IsLastSession, IsSidNamed, KeepsStatus, LastIn, StatusesStand}
+use Rattle.lane_models.proofs.Apart.{true_is_false}
 use Rattle.lane_laws.proofs.ServerEndCounting.{finished_log as finished_counts}
 
 -- A SESSION OPENS
-opened_last : (l : DiskLog) (packet : List ℕ) (o : Option ClientCounts) → IfClient o (λ (k : ClientCounts). IsNamed k.sid (said l.transcript.client))
-    → IsNamed (opening_sid (half_heard l.transcript.server) packet) (said l.transcript.client) → LastIn (after l (OnWire (Took B packet true))).work.server o (after l (OnWire (Took B packet true))).work.opened
+opened_last : (l : DiskLog) (packet : List ℕ) (o : Option ClientCounts) → IfClient o (λ (k : ClientCounts). IsSidNamed k.sid (said l.transcript.a))
+    → IsSidNamed (opening_sid (half_heard l.transcript.b) packet) (said l.transcript.a) → LastIn (after l (OnWire (Took B packet true))).work.server o (after l (OnWire (Took B packet true))).work.opened
 opened_last l packet None named hears = tt
-opened_last l packet (Some k) named hears = (one_name (opening_sid (half_heard l.transcript.server) packet) k.sid (said l.transcript.client) hears named, refl)
+opened_last l packet (Some k) named hears = (one_name (opening_sid (half_heard l.transcript.b) packet) k.sid (said l.transcript.a) hears named, refl)
 
 none_if : (ring : List SlotLog) (opened : List Opened) (o : Option ClientCounts) → ((k : ClientCounts) → o ≡ Some k → (slot id status : ℕ) → slice_get ring slot ≡ Some (IsDone id status) → ⊥)
     → IfClient o (KeepsStatus ring opened)
@@ -65,7 +65,7 @@ sent_status : (opens : Bool) (shape : Shape) (s : LaneState) (l : DiskLog) (pack
 sent_status false shape s l packet t now step stand = record {
   done = keeps_changed _ l.work.client l.ring l.work.opened (λ k. refl) (λ k. refl) stand.done;
   last = λ up. last_client _ l.work.server l.work.client l.work.opened (λ k. refl) (stand.last up);
-  named = named_changed _ l.work.client (said (Said packet ∷ l.transcript.client)) (λ k. refl) (named_more l.work.client packet l.transcript.client stand.named);
+  named = named_changed _ l.work.client (said (Said packet ∷ l.transcript.a)) (λ k. refl) (named_more l.work.client packet l.transcript.a stand.named);
 }
 sent_status true shape s l packet t now step stand = record {
   done = none_keeps (replicate l.shape.slots Free) l.work.opened (after l (OnWire (Sent A packet true))).work.client (cleared_none l.shape.slots);
@@ -95,7 +95,7 @@ finished_status s l slot status t known step stand =
       done = subst (λ (ring : List SlotLog). IfClient l.work.client (KeepsStatus ring m.work.opened)) (sym table)
           (subst (λ (o : Option ClientCounts). IfClient o (KeepsStatus (set l.ring slot (IsDone (k.base + d.finished) status)) m.work.opened)) (sym work.one.open_is) gives.keeps);
       last = λ up. subst (λ (q : Option ServerCounts). LastIn (change_server finished_counts q) l.work.client m.work.opened) (sym work.of.open_is)
-          (subst (λ (o : Option ClientCounts). IfClient o (λ (c : ClientCounts). IsLast c.sid (d.finished + 1) m.work.opened)) (sym work.one.open_is) gives.last);
+          (subst (λ (o : Option ClientCounts). IfClient o (λ (c : ClientCounts). IsLastSession c.sid (d.finished + 1) m.work.opened)) (sym work.one.open_is) gives.last);
       named = stand.named;
     }
 
@@ -103,7 +103,7 @@ work_status : (s : LaneState) (l : DiskLog) (event : Worked) (t : LaneState) →
 work_status s l (Published id) t known step stand = record {
   done = published_keeps l.shape.slots l.work.client id l.ring l.work.opened stand.done;
   last = λ up. last_client _ l.work.server l.work.client l.work.opened (λ k. refl) (stand.last up);
-  named = named_changed _ l.work.client (said l.transcript.client) (λ k. refl) stand.named;
+  named = named_changed _ l.work.client (said l.transcript.a) (λ k. refl) stand.named;
 }
 work_status s l (Done id operation status bytes) t known step stand =
     record { done = freed_keeps l.shape.slots l.work l.work.client l.ring l.work.opened stand.done; last = stand.last; named = stand.named }
@@ -134,7 +134,7 @@ event_status shape s l (OnWire (Reset B cause packet lost)) t now step stand = r
 event_status shape s l (OnWire (Took A packet false)) t now step stand = record {
   done = keeps_changed _ l.work.client l.ring l.work.opened (λ k. refl) (λ k. refl) stand.done;
   last = λ up. last_client _ l.work.server l.work.client l.work.opened (λ k. refl) (stand.last up);
-  named = named_changed _ l.work.client (said l.transcript.client) (λ k. refl) stand.named;
+  named = named_changed _ l.work.client (said l.transcript.a) (λ k. refl) stand.named;
 }
 event_status shape s l (OnWire (Took A packet true)) t now step stand = true_is_false (step.step.2)
 event_status shape s l (OnWire (Took B packet opens)) t now step stand = took_status opens shape s l packet t now step stand

@@ -5,13 +5,13 @@ use Rattle.std.proofs.lemmas.Bool.{eq-eqb}
 use Rattle.ldc_queue.specs.Fragments.{Fragment, fragment_at, is_part}
 use Rattle.ldc_queue.specs.OneStream.{IsFront}
 use Rattle.ldc_queue.specs.Transcript.{Heard as Heard_, Said, Utterance}
-use Rattle.channel_laws.specs.Sayings.{half_heard, half_said, heard, said, whole_by, whole_past}
-use Rattle.channel_laws.specs.Messages.{whole_with, opening_sid, sid_in}
-use Rattle.channel_laws.proofs.Apart.{some_same}
+use Rattle.lane_models.specs.Sayings.{half_heard, half_said, heard, said, whole_by, whole_past}
+use Rattle.lane_models.specs.Messages.{whole_with, opening_sid, sid_in}
+use Rattle.lane_models.proofs.Apart.{some_same}
 use Rattle.lane_laws.specs.RingLog.{Done, Free, Ready, SlotLog, fetched_at, freed_at, published_at}
 use Rattle.lane_laws.specs.WorkLaws.{IfClient, last_of}
 use Rattle.lane_laws.specs.WorkLog.{ClientCounts, Opened, ServerCounts, WorkLog, change_client, change_server, finished_in}
-use Rattle.lane_laws.specs.Statuses.{IsLast, IsNamed, KeepsStatus, LastIn}
+use Rattle.lane_laws.specs.Statuses.{IsLastSession, IsSidNamed, KeepsStatus, LastIn}
 
 -- THE CLIENT'S COUNTS change but for the sid and the base
 pub keeps_changed : (f : ClientCounts → ClientCounts) (o : Option ClientCounts) (ring : List SlotLog) (opened : List Opened) → ((k : ClientCounts) → (f k).sid ≡ k.sid)
@@ -26,20 +26,20 @@ if_client f (Some k) P sid holds = subst P (sym (sid k)) holds
 pub last_client : (f : ClientCounts → ClientCounts) (q : Option ServerCounts) (o : Option ClientCounts) (opened : List Opened) → ((k : ClientCounts) → (f k).sid ≡ k.sid) → LastIn q o opened
     → LastIn q (change_client f o) opened
 last_client f None o opened sid last = tt
-last_client f (Some d) o opened sid last = if_client f o (λ (n : ℕ). IsLast n d.finished opened) sid last
+last_client f (Some d) o opened sid last = if_client f o (λ (n : ℕ). IsLastSession n d.finished opened) sid last
 
 pub last_server : (g : ServerCounts → ServerCounts) (q : Option ServerCounts) (o : Option ClientCounts) (opened : List Opened) → ((d : ServerCounts) → (g d).finished ≡ d.finished) → LastIn q o opened
     → LastIn (change_server g q) o opened
 last_server g None o opened same last = tt
-last_server g (Some d) o opened same last = subst (λ (n : ℕ). IfClient o (λ (k : ClientCounts). IsLast k.sid n opened)) (sym (same d)) last
+last_server g (Some d) o opened same last = subst (λ (n : ℕ). IfClient o (λ (k : ClientCounts). IsLastSession k.sid n opened)) (sym (same d)) last
 
 pub last_gone : (q : Option ServerCounts) (opened : List Opened) → LastIn q None opened
 last_gone None opened = tt
 last_gone (Some d) opened = tt
 
 pub named_changed : (f : ClientCounts → ClientCounts) (o : Option ClientCounts) (messages : List (List ℕ)) → ((k : ClientCounts) → (f k).sid ≡ k.sid)
-    → IfClient o (λ (k : ClientCounts). IsNamed k.sid messages) → IfClient (change_client f o) (λ (k : ClientCounts). IsNamed k.sid messages)
-named_changed f o messages sid named = if_client f o (λ (n : ℕ). IsNamed n messages) sid named
+    → IfClient o (λ (k : ClientCounts). IsSidNamed k.sid messages) → IfClient (change_client f o) (λ (k : ClientCounts). IsSidNamed k.sid messages)
+named_changed f o messages sid named = if_client f o (λ (n : ℕ). IsSidNamed n messages) sid named
 
 -- MORE MESSAGES
 got_more : (messages : List (List ℕ)) (more : List (List ℕ)) (n : ℕ) (m : List ℕ) → slice_get messages n ≡ Some m → slice_get (messages ++ more) n ≡ Some m
@@ -47,19 +47,19 @@ got_more [] more n m is = absurd (cc is)
 got_more (x ∷ messages) more zero m is = is
 got_more (x ∷ messages) more (suc n) m is = got_more messages more n m is
 
-more_named : (sid : ℕ) (messages more : List (List ℕ)) → IsNamed sid messages → IsNamed sid (messages ++ more)
+more_named : (sid : ℕ) (messages more : List (List ℕ)) → IsSidNamed sid messages → IsSidNamed sid (messages ++ more)
 more_named sid messages more named = record { message = named.message; fifth = got_more messages more 4 named.message named.fifth; sid_is = named.sid_is }
 
-said_named : (sid : ℕ) (is : Bool) (part : Fragment) (half : List ℕ) (messages : List (List ℕ)) → IsNamed sid messages → IsNamed sid (whole_past is part half messages)
+said_named : (sid : ℕ) (is : Bool) (part : Fragment) (half : List ℕ) (messages : List (List ℕ)) → IsSidNamed sid messages → IsSidNamed sid (whole_past is part half messages)
 said_named sid false part half messages named = named
 said_named sid true part half messages named = by_stop part.stop
   where
-    by_stop : (stop : Bool) → IsNamed sid (whole_by stop (half ++ part.bytes) messages)
+    by_stop : (stop : Bool) → IsSidNamed sid (whole_by stop (half ++ part.bytes) messages)
     by_stop true = more_named sid messages ((half ++ part.bytes) ∷ []) named
     by_stop false = named
 
-pub named_more : (o : Option ClientCounts) (packet : List ℕ) (turns : List Utterance) → IfClient o (λ (k : ClientCounts). IsNamed k.sid (said turns))
-    → IfClient o (λ (k : ClientCounts). IsNamed k.sid (said (Said packet ∷ turns)))
+pub named_more : (o : Option ClientCounts) (packet : List ℕ) (turns : List Utterance) → IfClient o (λ (k : ClientCounts). IsSidNamed k.sid (said turns))
+    → IfClient o (λ (k : ClientCounts). IsSidNamed k.sid (said (Said packet ∷ turns)))
 named_more None packet turns named = tt
 named_more (Some k) packet turns named = said_named k.sid (is_part packet) (fragment_at packet) (half_said turns) (said turns) named
 
@@ -69,30 +69,30 @@ got_last [] m = refl
 got_last (x ∷ messages) m = got_last messages m
 
 fifth_named : (is : Bool) (part : Fragment) (half : List ℕ) (messages : List (List ℕ)) → length messages ≤ 4 → 5 ≤ length (whole_past is part half messages)
-    → IsNamed (sid_in (whole_with (is && part.stop) (half ++ part.bytes))) (whole_past is part half messages)
+    → IsSidNamed (sid_in (whole_with (is && part.stop) (half ++ part.bytes))) (whole_past is part half messages)
 fifth_named false part half messages few many = absurd (omega (arith, few, many))
 fifth_named true part half messages few many = by_stop part.stop many
   where
-    by_stop : (stop : Bool) → 5 ≤ length (whole_by stop (half ++ part.bytes) messages) → IsNamed (sid_in (whole_with stop (half ++ part.bytes))) (whole_by stop (half ++ part.bytes) messages)
+    by_stop : (stop : Bool) → 5 ≤ length (whole_by stop (half ++ part.bytes) messages) → IsSidNamed (sid_in (whole_with stop (half ++ part.bytes))) (whole_by stop (half ++ part.bytes) messages)
     by_stop false five = absurd (omega (arith, few, five))
     by_stop true five =
         let m : List ℕ = half ++ part.bytes in
         let four : length messages ≡ 4 = omega (arith, few, five, length-append messages (m ∷ [])) in
         record { message = m; fifth = subst (λ (n : ℕ). slice_get (messages ++ m ∷ []) n ≡ Some m) four (got_last messages m); sid_is = refl }
 
-pub says_fifth : (packet : List ℕ) (turns : List Utterance) → length (said turns) ≤ 4 → 5 ≤ length (said (Said packet ∷ turns)) → IsNamed (opening_sid (half_said turns) packet) (said (Said packet ∷ turns))
+pub says_fifth : (packet : List ℕ) (turns : List Utterance) → length (said turns) ≤ 4 → 5 ≤ length (said (Said packet ∷ turns)) → IsSidNamed (opening_sid (half_said turns) packet) (said (Said packet ∷ turns))
 says_fifth packet turns few many = fifth_named (is_part packet) (fragment_at packet) (half_said turns) (said turns) few many
 
 pub hears_fifth : (packet : List ℕ) (turns : List Utterance) → length (heard turns) ≤ 4 → 5 ≤ length (heard (Heard_ packet ∷ turns))
-    → IsNamed (opening_sid (half_heard turns) packet) (heard (Heard_ packet ∷ turns))
+    → IsSidNamed (opening_sid (half_heard turns) packet) (heard (Heard_ packet ∷ turns))
 hears_fifth packet turns few many = fifth_named (is_part packet) (fragment_at packet) (half_heard turns) (heard turns) few many
 
 -- of what the other said this is a front
-pub front_named : (sid : ℕ) (messages all : List (List ℕ)) → IsFront messages all → IsNamed sid messages → IsNamed sid all
-front_named sid messages all front named = subst (IsNamed sid) (sym front.1) (more_named sid messages front.0 named)
+pub front_named : (sid : ℕ) (messages all : List (List ℕ)) → IsFront messages all → IsSidNamed sid messages → IsSidNamed sid all
+front_named sid messages all front named = subst (IsSidNamed sid) (sym front.1) (more_named sid messages front.0 named)
 
 -- so both ends have one sid
-pub one_name : (sid other : ℕ) (messages : List (List ℕ)) → IsNamed sid messages → IsNamed other messages → sid ≡ other
+pub one_name : (sid other : ℕ) (messages : List (List ℕ)) → IsSidNamed sid messages → IsSidNamed other messages → sid ≡ other
 one_name sid other messages named also = search
 
 -- ONE SLOT of the ring changes
@@ -147,7 +147,7 @@ last_is session before sid same =
 same_done : (a b status value : ℕ) → Done a value ≡ Done b status → (a ≡ b) × (value ≡ status)
 same_done a b status value is = (cc, cc)
 
-finished_one : (ring : List SlotLog) (opened : List Opened) (k : ClientCounts) (finished slot status : ℕ) → IsLast k.sid finished opened → KeepsStatus ring opened k
+finished_one : (ring : List SlotLog) (opened : List Opened) (k : ClientCounts) (finished slot status : ℕ) → IsLastSession k.sid finished opened → KeepsStatus ring opened k
     → KeepsStatus (set ring slot (Done (k.base + finished) status)) (finished_in status opened) k
 finished_one ring [] k finished slot status last keeps = absurd last
 finished_one ring (session ∷ before) k finished slot status last keeps =
@@ -165,13 +165,13 @@ finished_one ring (session ∷ before) k finished slot status last keeps =
           ap (λ (xs : List ℕ). slice_get xs (id - k.base)) now ∙ got_grown session.statuses status (id - k.base) value old
     ]
 
-last_grown : (opened : List Opened) (sid finished status : ℕ) → IsLast sid finished opened → IsLast sid (finished + 1) (finished_in status opened)
+last_grown : (opened : List Opened) (sid finished status : ℕ) → IsLastSession sid finished opened → IsLastSession sid (finished + 1) (finished_in status opened)
 last_grown [] sid finished status last = absurd last
 last_grown (session ∷ before) sid finished status last = (last.0, omega (arith, length-append session.statuses (status ∷ []), last.1))
 
 pub record GivesStatus (ring : List SlotLog) (opened : List Opened) (k : ClientCounts) (finished : ℕ) : Type 0 where
   pub keeps : KeepsStatus ring opened k
-  pub last : IsLast k.sid finished opened
+  pub last : IsLastSession k.sid finished opened
 
 pub gives_status : (ring : List SlotLog) (opened : List Opened) (k : ClientCounts) (finished slot status : ℕ) → GivesStatus ring opened k finished
     → GivesStatus (set ring slot (Done (k.base + finished) status)) (finished_in status opened) k (finished + 1)

@@ -1,9 +1,9 @@
 -- A step of an end neither forges nor loses a packet, and neither stops nor starts the server.
 use Rattle.std.proofs.Common.{◌≡◌, ap, arith}
 use Rattle.ldc_queue.specs.declared.end.End.{End}
-use Rattle.disk_model.specs.DiskEvent.{DiskEvent}
-use Rattle.disk_model.specs.LaneState.{LaneState}
-use Rattle.disk_model.specs.LaneStep.{LaneStep}
+use Rattle.lane_models.specs.DiskEvent.{DiskEvent}
+use Rattle.lane_models.specs.LaneState.{LaneState}
+use Rattle.lane_models.specs.LaneStep.{LaneStep}
 use Rattle.lane_laws.specs.DiskLog.{after_wire}
 use Rattle.lane_laws.proofs.LaneViews.{after_stopped, lane_view}
 use Rattle.lane_laws.specs.CalmEnds.{IsStep, StepKeeps}

@@ -12,17 +12,17 @@ use Rattle.vdisk_msg.specs.Requested.{block_of, descriptor_of, size_of}
 use Rattle.vdisk_msg.specs.Requests.{operation_of}
 use Rattle.vio_bytes.specs.Place.{put_at}
 use Rattle.vio_bytes.specs.Range.{range_at}
-use Rattle.channel_laws.proofs.Apart.{some_same}
+use Rattle.lane_models.proofs.Apart.{some_same}
 use Rattle.lane_laws.specs.Agreement.{WorkAgrees}
 use Rattle.lane_laws.specs.DiskLog.{DiskLog}
 use Rattle.lane_laws.specs.WorkLog.{ClientCounts}
-use Rattle.disk_model.specs.DiskEvent.{Desc, Stored as StoredUnit, Works}
-use Rattle.disk_model.specs.LaneState.{LaneState, NearCounts, pages_of, risen}
-use Rattle.disk_model.specs.LaneStep.{ServerWorks, WorkStep, reach, stored_blocks}
-use Rattle.channel_laws.specs.Seeing.{seen}
-use Rattle.disk_model.specs.ServerRule as server_rules
-use Rattle.disk_model.specs.ServerState.{Ends, Flushes, Gives, Progress, Reads, ServerState, Work, Writes}
-use Rattle.disk_model.specs.ServerWork.{StoresIn, first_progress, gathers_next, header_of, unit_length, with_word}
+use Rattle.lane_models.specs.DiskEvent.{Desc, Stored as StoredUnit, Works}
+use Rattle.lane_models.specs.LaneState.{LaneState, NearCounts, pages_of, risen}
+use Rattle.lane_models.specs.LaneStep.{ServerWorks, WorkStep, reach, stored_blocks}
+use Rattle.lane_models.specs.Seeing.{seen}
+use Rattle.lane_models.specs.ServerRule as server_rules
+use Rattle.lane_models.specs.ServerState.{Ends, Flushes, Gives, Progress, Reads, ServerState, Work, Writes}
+use Rattle.lane_models.specs.ServerWork.{StoresIn, first_progress, gathers_next, header_of, unit_length, with_word}
 use Rattle.lane_laws.proofs.RingServer.{header_long}
 use Rattle.lane_laws.proofs.RingWork.{fetched_next}
 use Rattle.lane_laws.proofs.StandingRuns.{slots_is as slots_are}

@@ -14,16 +14,16 @@ use Rattle.vdisk_msg.specs.declared.desc.DescFault.{DescFault}
 use Rattle.vdisk_msg.specs.declared.desc.DiskDesc.{DiskDesc}
 use Rattle.vdisk_msg.specs.Descriptor as slot_says
 use Rattle.vdisk_msg.specs.Pieces.{unit_count}
-use Rattle.channel_laws.specs.WireLog.{WireLog}
+use Rattle.lane_models.specs.WireLog.{WireLog}
 use Rattle.lane_laws.specs.DiskLog.{DiskLog}
-use Rattle.disk_model.specs.DiskEvent.{Desc, Done, Finished, Misplaced, Moved, Published, Stored, Worked}
-use Rattle.disk_model.specs.LaneState.{LaneState, risen}
-use Rattle.disk_model.specs.LaneStep.{WorkStep, reach, stored_blocks}
-use Rattle.channel_laws.specs.Seeing.{seen}
-use Rattle.disk_model.specs.ServerRule as server_rules
-use Rattle.disk_model.specs.ServerState.{Ends, Flushes, Gathers, Gives, Progress, Reads, ServerState, Work, Writes}
+use Rattle.lane_models.specs.DiskEvent.{Desc, Done, Finished, Misplaced, Moved, Published, Stored, Worked}
+use Rattle.lane_models.specs.LaneState.{LaneState, risen}
+use Rattle.lane_models.specs.LaneStep.{WorkStep, reach, stored_blocks}
+use Rattle.lane_models.specs.Seeing.{seen}
+use Rattle.lane_models.specs.ServerRule as server_rules
+use Rattle.lane_models.specs.ServerState.{Ends, Flushes, Gathers, Gives, Progress, Reads, ServerState, Work, Writes}
 use Rattle.cookie_copy.specs.Reach.{Reach}
-use Rattle.disk_model.specs.ServerWork.{MovesIn, StoresIn, checked_progress, data_cookies, desc_of, first_progress, gathered, gathers_next, given, length_of, or_ends}
+use Rattle.lane_models.specs.ServerWork.{MovesIn, StoresIn, checked_progress, data_cookies, desc_of, first_progress, gathered, gathers_next, given, length_of, or_ends}
 use Rattle.lane_laws.proofs.RulesFree.{ServerFree, server_free}
 use Rattle.lane_laws.proofs.Ruling.{server_may}
 use Rattle.lane_laws.specs.Counted.{UnitFits, UnitIn}

@@ -9,32 +9,32 @@ use Rattle.ldc_queue.specs.declared.end.End.{End}
 use Rattle.ldc_queue.specs.declared.end.End.TheVariants.{A, B}
 use Rattle.ldc_queue.specs.Wire.{waiting_for}
 use Rattle.vio_tag.specs.declared.cause.Cause.{Cause}
-use Rattle.channel_laws.specs.WireAt.{IsUp, MayCarry, MayReset, WireAnswersAt, WireTableAt}
-use Rattle.channel_laws.specs.WireEvent.{Blocked, Declines, Giver, Idle, Joined, Reset, Sent, Took, WireEvent}
-use Rattle.channel_laws.specs.WireLog.{WireLog}
+use Rattle.lane_models.specs.WireAt.{IsUp, MayCarry, MayReset, WireAnswersAt, WireTableAt}
+use Rattle.lane_models.specs.WireEvent.{Blocked, Declines, Giver, Idle, Joined, Reset, Sent, Took, WireEvent}
+use Rattle.lane_models.specs.WireLog.{WireLog}
 use Rattle.lane_laws.specs.DiskLog.{DiskLog, after, after_wire, nothing_yet}
-use Rattle.disk_model.specs.ClientRule as client_rules
-use Rattle.disk_model.specs.ClientStep.{ClientFails, ClientStep}
-use Rattle.disk_model.specs.DiskEvent.{DiskEvent, OnWire, Stopped, Switches}
-use Rattle.disk_model.specs.LaneState.{IsShape, LaneState, Shape, fresh}
-use Rattle.disk_model.specs.LaneStep.{EndOnWire, LaneStep, WireStep, sizes_of}
-use Rattle.disk_model.specs.ServerRule as server_rules
-use Rattle.disk_model.specs.ServerStep.{ServerFails, ServerStep}
+use Rattle.lane_models.specs.ClientRule as client_rules
+use Rattle.lane_models.specs.ClientStep.{ClientFails, ClientStep}
+use Rattle.lane_models.specs.DiskEvent.{DiskEvent, OnWire, Stopped, Switches}
+use Rattle.lane_models.specs.LaneState.{IsShape, LaneState, Shape, fresh}
+use Rattle.lane_models.specs.LaneStep.{EndOnWire, LaneStep, WireStep, sizes_of}
+use Rattle.lane_models.specs.ServerRule as server_rules
+use Rattle.lane_models.specs.ServerStep.{ServerFails, ServerStep}
 use Rattle.cookie_copy.specs.Reach.{Reach}
 use Rattle.lane_laws.proofs.CarriedRuns.{AllStand, all_step, fresh_all}
 use Rattle.lane_laws.proofs.ClientHolding.{holds_up}
 use Rattle.lane_laws.proofs.LaneViews.{IsOwnStep, at_client, at_server, reach_of}
-use Rattle.disk_model.specs.ClientState.{ClientState}
-use Rattle.disk_model.specs.ServerState.{ServerState}
+use Rattle.lane_models.specs.ClientState.{ClientState}
+use Rattle.lane_models.specs.ServerState.{ServerState}
 use Rattle.lane_laws.proofs.IdleRules.{client_idles, server_idles}
 use Rattle.lane_laws.proofs.Ruling.{client_may, server_may}
 use Rattle.lane_laws.proofs.StandingRuns.{lawful_by}
 use Rattle.lane_laws.specs.RuleFacts.{ClientMay, ServerMay}
 use Rattle.lane_laws.specs.TableStands.{AnswersAt, IdleNone, MayOfTable, TableAt}
 use Rattle.lane_laws.specs.ChannelEnds.{core_event}
-use Rattle.channel_laws.proofs.CoreRuns.{Room, room_after}
-use Rattle.channel_laws.proofs.EndsAtRest.{none_waits}
-use Rattle.channel_laws.specs.LaneCore.{CoreStands, wire_after}
+use Rattle.lane_models.proofs.CoreRuns.{Room, room_after}
+use Rattle.lane_models.proofs.EndsAtRest.{none_waits}
+use Rattle.lane_models.specs.LaneCore.{CoreStands, wire_after}
 
 -- what a rule tells of the end
 pub client_known : (s : LaneState) (rule : client_rules.ClientRule) → client_rules.client_rule s.client (at_client s) ≡ rule → ClientMay s.client (at_client s) rule

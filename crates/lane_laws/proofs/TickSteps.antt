@@ -5,12 +5,12 @@ use Rattle.ldc_queue.specs.declared.end.ChannelState.{ChannelState}
 use Rattle.ldc_queue.specs.declared.end.End.{End}
 use Rattle.ldc_queue.specs.declared.end.End.TheVariants.{A, B}
 use Rattle.vio_tag.specs.declared.cause.Cause.{Cause}
-use Rattle.channel_laws.specs.WireEvent.{ByTick, Giver, Reset, giver}
-use Rattle.channel_laws.specs.WireLog.{lossy_behind}
-use Rattle.disk_model.specs.ClientState.{is_finished}
-use Rattle.disk_model.specs.DiskEvent.{DiskEvent, OnWire}
-use Rattle.disk_model.specs.LaneState.{IsShape, LaneState, Shape, fresh}
-use Rattle.disk_model.specs.LaneStep.{LaneStep, ResetBy}
+use Rattle.lane_models.specs.WireEvent.{ByTick, Giver, Reset, giver}
+use Rattle.lane_models.specs.WireLog.{lossy_behind}
+use Rattle.lane_models.specs.ClientState.{is_finished}
+use Rattle.lane_models.specs.DiskEvent.{DiskEvent, OnWire}
+use Rattle.lane_models.specs.LaneState.{IsShape, LaneState, Shape, fresh}
+use Rattle.lane_models.specs.LaneStep.{LaneStep, ResetBy}
 use Rattle.lane_laws.proofs.RemainingRuns.{resets_fall, resets_remain}
 use Rattle.lane_laws.specs.TickBegins.{TickBegins}
 

@@ -5,14 +5,14 @@ use Rattle.runs.specs.Run.{Run}
 use Rattle.ldc_queue.specs.declared.end.End.{End}
 use Rattle.ldc_queue.specs.declared.end.End.TheVariants.{A, B}
 use Rattle.ldc_queue.specs.Wire.{peer_of}
-use Rattle.channel_laws.specs.WireEvent.{Idle}
-use Rattle.channel_laws.specs.WireLog.{WireLog}
+use Rattle.lane_models.specs.WireEvent.{Idle}
+use Rattle.lane_models.specs.WireLog.{WireLog}
 use Rattle.lane_laws.specs.Agreement.{IdleAgrees}
 use Rattle.lane_laws.specs.DiskLog.{after, nothing_yet}
 use Rattle.lane_laws.specs.QuietLaws.{TwoIdleAt}
-use Rattle.disk_model.specs.DiskEvent.{DiskEvent, OnWire}
-use Rattle.disk_model.specs.LaneState.{IsShape, LaneState, Shape, fresh}
-use Rattle.disk_model.specs.LaneStep.{EndOnWire, LaneStep}
+use Rattle.lane_models.specs.DiskEvent.{DiskEvent, OnWire}
+use Rattle.lane_models.specs.LaneState.{IsShape, LaneState, Shape, fresh}
+use Rattle.lane_models.specs.LaneStep.{EndOnWire, LaneStep}
 use Rattle.lane_laws.proofs.IdleRuns.{idle_agrees}
 use Rattle.lane_laws.proofs.AlongRuns.{reached_lawful}
 use Rattle.lane_laws.proofs.QuietEnds.{BothRest, quiet_ends}

@@ -13,14 +13,14 @@ use Rattle.vdisk_msg.specs.declared.request.Request.{Request}
 use Rattle.vdisk_msg.specs.Pieces.{unit_count}
 use Rattle.vdisk_msg.specs.Requested.{buffer_place, descriptor_of, size_of}
 use Rattle.lane_laws.specs.DiskLog.{after, nothing_yet}
-use Rattle.disk_model.specs.DiskEvent.{DiskEvent, Moved, Works}
-use Rattle.disk_model.specs.LaneState.{IsShape, LaneState, Shape, fresh, pages_of}
-use Rattle.disk_model.specs.LaneStep.{LaneStep, reach}
-use Rattle.channel_laws.specs.Seeing.{seen}
-use Rattle.disk_model.specs.ServerRule as server_rules
-use Rattle.disk_model.specs.ServerState.{Gathers, Gives, Progress, Work}
+use Rattle.lane_models.specs.DiskEvent.{DiskEvent, Moved, Works}
+use Rattle.lane_models.specs.LaneState.{IsShape, LaneState, Shape, fresh, pages_of}
+use Rattle.lane_models.specs.LaneStep.{LaneStep, reach}
+use Rattle.lane_models.specs.Seeing.{seen}
+use Rattle.lane_models.specs.ServerRule as server_rules
+use Rattle.lane_models.specs.ServerState.{Gathers, Gives, Progress, Work}
 use Rattle.cookie_copy.specs.Reach.{Reach}
-use Rattle.disk_model.specs.ServerWork.{MovesIn, data_cookies, desc_of, unit_length}
+use Rattle.lane_models.specs.ServerWork.{MovesIn, data_cookies, desc_of, unit_length}
 use Rattle.lane_laws.proofs.LaneCounting.{run_knows}
 use Rattle.lane_laws.proofs.NoOwnReset.{Working, working}
 use Rattle.lane_laws.proofs.RingEnds.{has_work, work_below}

@@ -15,9 +15,9 @@ use Rattle.vdisk_msg.specs.Requested.{block_of, buffer_cookies, buffer_place, co
 use Rattle.vdisk_msg.specs.Requests.{operation_of}
 use Rattle.vio_bytes.specs.Place.{put_at}
 use Rattle.vio_bytes.specs.Range.{range_at}
-use Rattle.disk_model.specs.ServerState.{Work}
+use Rattle.lane_models.specs.ServerState.{Work}
 use Rattle.cookie_copy.specs.Reach.{Reach}
-use Rattle.disk_model.specs.ServerWork.{desc_of}
+use Rattle.lane_models.specs.ServerWork.{desc_of}
 use Rattle.lane_laws.proofs.RingCookies.{buffer_bytes, even_word}
 use Rattle.lane_laws.proofs.RingWrites.{into_buffer}
 use Rattle.lane_laws.proofs.SlotBytes.{Sizes, reads_back, stated}

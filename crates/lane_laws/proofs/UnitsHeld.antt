@@ -21,9 +21,9 @@ use Rattle.vdisk_msg.specs.declared.desc.DescFault.TheVariants as fault
 use Rattle.vdisk_msg.specs.declared.desc.DiskDesc.{DiskDesc}
 use Rattle.vdisk_msg.specs.Descriptor as slot_says
 use Rattle.vdisk_msg.specs.Pieces.{unit_count}
-use Rattle.disk_model.specs.ServerState.{Ends, Flushes, Gathers, Gives, Progress, Reads, Work, Writes}
+use Rattle.lane_models.specs.ServerState.{Ends, Flushes, Gathers, Gives, Progress, Reads, Work, Writes}
 use Rattle.cookie_copy.specs.Reach.{Reach}
-use Rattle.disk_model.specs.ServerWork.{GaveUnit, MovesIn, StoresIn, checked_progress, data_cookies, desc_of, first_progress, first_progress_of, gathered, gathers_next, given, in_fault, length_of, or_ends}
+use Rattle.lane_models.specs.ServerWork.{GaveUnit, MovesIn, StoresIn, checked_progress, data_cookies, desc_of, first_progress, first_progress_of, gathered, gathers_next, given, in_fault, length_of, or_ends}
 use Rattle.lane_laws.specs.Units.{UnitIs, WorkIs}
 
 -- A COPY that isn't refused gives as many bytes as it asks for

@@ -6,14 +6,14 @@ use Rattle.ldc_queue.specs.declared.end.End.{End}
 use Rattle.ldc_queue.specs.declared.end.End.TheVariants.{A, B}
 use Rattle.ldc_queue.specs.Wire.{Wire, peer_behind}
 use Rattle.vdisk_msg.specs.declared.request.Request.{Request}
-use Rattle.channel_laws.specs.WireEvent.{Reset, WireEvent}
-use Rattle.channel_laws.specs.WireLog.{WireLog, wire_moved}
+use Rattle.lane_models.specs.WireEvent.{Reset, WireEvent}
+use Rattle.lane_models.specs.WireLog.{WireLog, wire_moved}
 use Rattle.lane_laws.specs.DiskLog.{DiskLog, after}
-use Rattle.disk_model.specs.ClientState.{ClientSession, ever_published_count}
-use Rattle.disk_model.specs.DiskEvent.{DiskEvent, OnWire}
-use Rattle.disk_model.specs.LaneState.{LaneState, NearCounts}
-use Rattle.disk_model.specs.LaneStep.{WireStep, near_on_wire}
-use Rattle.disk_model.specs.ServerState.{Work}
+use Rattle.lane_models.specs.ClientState.{ClientSession, ever_published_count}
+use Rattle.lane_models.specs.DiskEvent.{DiskEvent, OnWire}
+use Rattle.lane_models.specs.LaneState.{LaneState, NearCounts}
+use Rattle.lane_models.specs.LaneStep.{WireStep, near_on_wire}
+use Rattle.lane_models.specs.ServerState.{Work}
 use Rattle.lane_laws.proofs.RingLeaves.{OpensNot}
 use Rattle.lane_laws.proofs.RingWire.{wire_same}
 use Rattle.lane_laws.proofs.SlotsStepping.{StepFacts}

@@ -4,16 +4,16 @@ use Rattle.ldc_queue.specs.declared.end.ChannelState.{ChannelState}
 use Rattle.ldc_queue.specs.declared.end.ChannelState.TheVariants.{Up}
 use Rattle.ldc_queue.specs.declared.end.End.TheVariants.{A, B}
 use Rattle.ldc_queue.specs.Wire.{peer_behind}
-use Rattle.channel_laws.specs.WireEvent.{Injected, Joined, Lost, Reset, Sent, Took, WireEvent}
-use Rattle.channel_laws.proofs.Apart.{some_same}
+use Rattle.lane_models.specs.WireEvent.{Injected, Joined, Lost, Reset, Sent, Took, WireEvent}
+use Rattle.lane_models.proofs.Apart.{some_same}
 use Rattle.lane_laws.specs.DiskLog.{DiskLog, after}
 use Rattle.lane_laws.specs.WorkLaws.{IfServer}
 use Rattle.lane_laws.specs.WorkLog.{ClientCounts, ServerCounts}
-use Rattle.disk_model.specs.ClientState.{ClientSession, opened_session}
-use Rattle.disk_model.specs.DiskEvent.{OnWire}
-use Rattle.disk_model.specs.LaneState.{LaneState, NearCounts}
-use Rattle.disk_model.specs.LaneStep.{WireStep, near_on_wire}
-use Rattle.channel_laws.specs.Seeing.{seen}
+use Rattle.lane_models.specs.ClientState.{ClientSession, opened_session}
+use Rattle.lane_models.specs.DiskEvent.{OnWire}
+use Rattle.lane_models.specs.LaneState.{LaneState, NearCounts}
+use Rattle.lane_models.specs.LaneStep.{WireStep, near_on_wire}
+use Rattle.lane_models.specs.Seeing.{seen}
 use Rattle.lane_laws.proofs.RingLeaves.{OpensNot}
 use Rattle.lane_laws.proofs.RingWork.{turn_in}
 use Rattle.lane_laws.proofs.SlotsStepping.{StepFacts, work_first}

@@ -6,18 +6,18 @@ use Rattle.ldc_queue.specs.declared.end.ChannelState.{ChannelState}
 use Rattle.ldc_queue.specs.declared.end.ChannelState.TheVariants.{Up}
 use Rattle.ldc_queue.specs.declared.end.End.TheVariants.{A}
 use Rattle.ldc_queue.specs.Wire.{Wire}
-use Rattle.channel_laws.specs.WireLog.{WireLog}
-use Rattle.channel_laws.proofs.Apart.{some_same}
+use Rattle.lane_models.specs.WireLog.{WireLog}
+use Rattle.lane_models.proofs.Apart.{some_same}
 use Rattle.lane_laws.specs.DiskLog.{DiskLog, after}
 use Rattle.lane_laws.specs.RingLog.{Done as IsDone}
 use Rattle.lane_laws.specs.WorkLaws.{IfServer}
 use Rattle.lane_laws.specs.WorkLog.{ClientCounts, ServerCounts, change_server}
-use Rattle.disk_model.specs.ClientRule as client_rules
-use Rattle.disk_model.specs.ClientState.{ClientSession, ClientState}
-use Rattle.disk_model.specs.DiskEvent.{Admitted, Asks, Calm, Desc, DiskEvent, Done, Finished, Misplaced, Moved, Published, Calms, Stored, Switched, Switches, Worked, Works}
-use Rattle.disk_model.specs.LaneState.{LaneState, NearCounts}
-use Rattle.disk_model.specs.LaneStep.{LaneStep, CalmStep, SwitchedStep, WorkStep}
-use Rattle.channel_laws.specs.Seeing.{seen}
+use Rattle.lane_models.specs.ClientRule as client_rules
+use Rattle.lane_models.specs.ClientState.{ClientSession, ClientState}
+use Rattle.lane_models.specs.DiskEvent.{Admitted, Asks, Calm, Desc, DiskEvent, Done, Finished, Misplaced, Moved, Published, Calms, Stored, Switched, Switches, Worked, Works}
+use Rattle.lane_models.specs.LaneState.{LaneState, NearCounts}
+use Rattle.lane_models.specs.LaneStep.{LaneStep, CalmStep, SwitchedStep, WorkStep}
+use Rattle.lane_models.specs.Seeing.{seen}
 use Rattle.lane_laws.proofs.RingClientSteps.{completes_slot, in_order, publishing, since_base}
 use Rattle.lane_laws.proofs.RingSessions.{of_client}
 use Rattle.lane_laws.proofs.RingWork.{some_slots, turn_in}

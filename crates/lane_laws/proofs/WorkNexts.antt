@@ -2,7 +2,7 @@
 use Rattle.std.proofs.Common.{◌≡◌, ℕ, zero, suc, ◌-◌, ◌<◌, Option, [], ◌∷◌, ◌++◌, ap, ◌∙◌, arith}
 use Rattle.vdisk_msg.specs.declared.desc.DiskDesc.{DiskDesc}
 use Rattle.vdisk_msg.specs.Pieces.{Finishes, read_pieces, unit_count, write_pieces}
-use Rattle.disk_model.specs.ServerState.{Gathers, Progress, Reads, ServerSession, Work}
+use Rattle.lane_models.specs.ServerState.{Gathers, Progress, Reads, ServerSession, Work}
 use Rattle.lane_laws.specs.Agreement.{ServerAgrees, WorkNextAgrees, owed_of}
 use Rattle.lane_laws.specs.Counted.{UnitFits, UnitIn}
 use Rattle.lane_laws.specs.Units.{UnitIs, WorkIs}

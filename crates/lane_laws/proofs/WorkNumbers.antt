@@ -5,17 +5,17 @@ use Rattle.ldc_queue.specs.Transcript.{Utterance}
 use Rattle.lane_laws.specs.DiskLog.{DiskLog}
 use Rattle.lane_laws.specs.WorkLaws.{InClient, InServer, MayComplete, MayFetch, MayPublish, WorkNumbersAt}
 use Rattle.lane_laws.specs.WorkLog.{ClientCounts, ServerCounts}
-use Rattle.disk_model.specs.ClientStep.{ClientCompletes, ClientPublishes}
-use Rattle.disk_model.specs.DiskEvent.{Desc, DiskEvent, Done, Misplaced, Published, Works}
-use Rattle.disk_model.specs.LaneState.{IsShape, LaneState}
-use Rattle.disk_model.specs.LaneStep.{LaneStep, reach}
-use Rattle.channel_laws.specs.Seeing.{Seen}
+use Rattle.lane_models.specs.ClientStep.{ClientCompletes, ClientPublishes}
+use Rattle.lane_models.specs.DiskEvent.{Desc, DiskEvent, Done, Misplaced, Published, Works}
+use Rattle.lane_models.specs.LaneState.{IsShape, LaneState}
+use Rattle.lane_models.specs.LaneStep.{LaneStep, reach}
+use Rattle.lane_models.specs.Seeing.{Seen}
 use Rattle.lane_laws.specs.Agreement.{WorkAgrees}
-use Rattle.channel_laws.specs.Ranges.{wrapped}
-use Rattle.disk_model.specs.ServerRule as server
-use Rattle.disk_model.specs.ServerState.{ServerSession, Work}
-use Rattle.disk_model.specs.ServerStep.{ServerFetches}
-use Rattle.disk_model.specs.ServerWork.{slot_at}
+use Rattle.lane_models.specs.Ranges.{wrapped}
+use Rattle.lane_models.specs.ServerRule as server
+use Rattle.lane_models.specs.ServerState.{ServerSession, Work}
+use Rattle.lane_models.specs.ServerStep.{ServerFetches}
+use Rattle.lane_models.specs.ServerWork.{slot_at}
 use Rattle.cookie_copy.specs.Reach.{Reach}
 use Rattle.lane_laws.proofs.LaneCounting.{Knows}
 use Rattle.lane_laws.specs.Counted.{InServerOrder, ServerOrder}
@@ -25,7 +25,7 @@ use Rattle.lane_laws.proofs.RuleTests.{ServesFree}
 use Rattle.lane_laws.proofs.Sharing.{in_order}
 use Rattle.lane_laws.specs.RuleFacts.{ClientMay}
 use Rattle.lane_laws.specs.Sound.{SessionInOrder}
-use Rattle.channel_laws.proofs.LinkResets.{other_number}
+use Rattle.lane_models.proofs.LinkResets.{other_number}
 use Rattle.lane_laws.proofs.Counting.{OfClient, OfServer, of_client, of_server, slot_of_count}
 pub use Rattle.lane_laws.proofs.LaneViews.{at_client, at_server}
 use Rattle.lane_laws.proofs.Requesting.{got_below}
@@ -71,7 +71,7 @@ order_of slots o session d c turns is has order =
 
 pub record Serving (s : LaneState) (l : DiskLog) (session : ServerSession) : Type 0 where
   pub of : OfServer session s.server.work l.work.server
-  pub order : InServerOrder l.shape.slots session of.counts l.transcript.server
+  pub order : InServerOrder l.shape.slots session of.counts l.transcript.b
   pub finished : of.counts.finished ≤ of.counts.asked
   pub unfinished : of.counts.finished ≢ of.counts.asked
 
@@ -79,8 +79,8 @@ pub serving : (s : LaneState) (l : DiskLog) (session : ServerSession) → Ground
 serving s l session grounded free =
     let of : OfServer session s.server.work l.work.server =
     of_server s.server.session session s.server.work l.work.server free.session_is grounded.knows.counted.server.agrees in
-    let order : InServerOrder l.shape.slots session of.counts l.transcript.server =
-    order_of l.shape.slots s.server.session session l.work.server of.counts l.transcript.server free.session_is of.is grounded.knows.counted.server.order in
+    let order : InServerOrder l.shape.slots session of.counts l.transcript.b =
+    order_of l.shape.slots s.server.session session l.work.server of.counts l.transcript.b free.session_is of.is grounded.knows.counted.server.order in
     record {
       of = of;
       order = order;

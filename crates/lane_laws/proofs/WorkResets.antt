@@ -9,27 +9,27 @@ use Rattle.ldc_queue.specs.declared.end.End.{End}
 use Rattle.ldc_queue.specs.declared.end.End.TheVariants.{A, B}
 use Rattle.vio_tag.specs.declared.cause.Cause.{Cause}
 use Rattle.vio_tag.specs.declared.cause.Cause.TheVariants as the_cause
-use Rattle.channel_laws.specs.WireEvent.{Reset}
+use Rattle.lane_models.specs.WireEvent.{Reset}
 use Rattle.lane_laws.specs.DiskLog.{DiskLog}
 use Rattle.lane_laws.specs.WorkLaws.{InRange, InServer, MayFetch, OwnReset, ResetOf, WorkResetAt}
 use Rattle.lane_laws.specs.WorkLog.{ServerCounts}
-use Rattle.disk_model.specs.ClientRule as client
-use Rattle.disk_model.specs.ClientStep.{ClientFails}
-use Rattle.disk_model.specs.DiskEvent.{DiskEvent, OnWire}
-use Rattle.disk_model.specs.LaneState.{LaneState}
-use Rattle.disk_model.specs.LaneStep.{EndOnWire, LaneStep, WireStep, reach}
-use Rattle.disk_model.specs.ServerRule as server
-use Rattle.disk_model.specs.ServerState.{Ends, Progress, ServerSession, Work}
-use Rattle.disk_model.specs.ServerStep.{ServerFails, WorkFails}
+use Rattle.lane_models.specs.ClientRule as client
+use Rattle.lane_models.specs.ClientStep.{ClientFails}
+use Rattle.lane_models.specs.DiskEvent.{DiskEvent, OnWire}
+use Rattle.lane_models.specs.LaneState.{LaneState}
+use Rattle.lane_models.specs.LaneStep.{EndOnWire, LaneStep, WireStep, reach}
+use Rattle.lane_models.specs.ServerRule as server
+use Rattle.lane_models.specs.ServerState.{Ends, Progress, ServerSession, Work}
+use Rattle.lane_models.specs.ServerStep.{ServerFails, WorkFails}
 use Rattle.cookie_copy.specs.Reach.{Reach, copy_number}
-use Rattle.disk_model.specs.ServerWork.{EndFails, FetchFails, cause_of, fetch_fault, slot_at, slot_fetched}
+use Rattle.lane_models.specs.ServerWork.{EndFails, FetchFails, cause_of, fetch_fault, slot_at, slot_fetched}
 use Rattle.lane_laws.proofs.Ruling.{client_may}
 use Rattle.lane_laws.proofs.RulesFree.{ServerFree, server_free}
 use Rattle.lane_laws.proofs.RuleTests.{ServesFree}
 use Rattle.lane_laws.specs.RuleFacts.{ClientMay}
 use Rattle.lane_laws.proofs.EndResets.{LiesIn}
 use Rattle.lane_laws.proofs.LaneResets.{by_giver}
-use Rattle.channel_laws.specs.Resetting.{LiesInPacket}
+use Rattle.lane_models.specs.Resetting.{LiesInPacket}
 use Rattle.lane_laws.proofs.WorkNumbers.{Grounded, Serving, fetches_next, in_server, serving}
 use Rattle.lane_laws.proofs.LaneViews.{at_client, at_server}
 use Rattle.lane_laws.proofs.NoOwnReset.{below_other}

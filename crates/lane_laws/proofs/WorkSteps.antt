@@ -16,10 +16,10 @@ use Rattle.vdisk_msg.specs.Requests.{defect, written}
 use Rattle.vio_bytes.proofs.Ranges.{length-range_at, range_at-range_at}
 use Rattle.vio_bytes.specs.Place.{put_at}
 use Rattle.vio_bytes.specs.Range.{range_at}
-use Rattle.disk_model.specs.ClientState.{ClientSession}
-use Rattle.disk_model.specs.ServerState.{Ends, Flushes, Gathers, Gives, Progress, Reads, Work, Writes}
-use Rattle.disk_model.specs.ServerWork.{gathers_next, reads_next, unit_length}
-use Rattle.channel_laws.proofs.Apart.{some_same}
+use Rattle.lane_models.specs.ClientState.{ClientSession}
+use Rattle.lane_models.specs.ServerState.{Ends, Flushes, Gathers, Gives, Progress, Reads, Work, Writes}
+use Rattle.lane_models.specs.ServerWork.{gathers_next, reads_next, unit_length}
+use Rattle.lane_models.proofs.Apart.{some_same}
 use Rattle.lane_laws.proofs.MemorySteps.{got_sound}
 use Rattle.lane_laws.specs.Contents.{ContentsStand, HoldsWritten, ProgressIs, WritesStand}
 use Rattle.lane_laws.specs.LaneView.{View, place_of}

@@ -12,13 +12,13 @@ use Rattle.vdisk_msg.specs.declared.request.Request.{Request}
 use Rattle.vdisk_msg.specs.Requested.{buffer_cookies, buffer_place, cookie_count, size_of}
 use Rattle.vio_bytes.specs.Place.{put_at}
 use Rattle.vio_bytes.specs.Range.{range_at}
-use Rattle.channel_laws.specs.WireLog.{WireLog}
+use Rattle.lane_models.specs.WireLog.{WireLog}
 use Rattle.lane_laws.specs.DiskLog.{DiskLog}
-use Rattle.disk_model.specs.LaneState.{LaneState, pages_of}
-use Rattle.disk_model.specs.LaneStep.{reach}
-use Rattle.channel_laws.specs.Seeing.{seen}
-use Rattle.disk_model.specs.ServerState.{Work}
-use Rattle.disk_model.specs.ServerWork.{data_cookies}
+use Rattle.lane_models.specs.LaneState.{LaneState, pages_of}
+use Rattle.lane_models.specs.LaneStep.{reach}
+use Rattle.lane_models.specs.Seeing.{seen}
+use Rattle.lane_models.specs.ServerState.{Work}
+use Rattle.lane_models.specs.ServerWork.{data_cookies}
 use Rattle.lane_laws.proofs.RingEnds.{work_below}
 use Rattle.lane_laws.proofs.RingSessions.{sizes_of}
 use Rattle.lane_laws.proofs.RingWork.{memory_is}

@@ -7,13 +7,13 @@ use Rattle.ldc_packet.specs.declared.packet.Body.TheVariants.{Vers}
 use Rattle.ldc_packet.specs.declared.packet.Subtype.TheVariants.{Info}
 use Rattle.ldc_packet.specs.Spelling.{canonical}
 use Rattle.ldc_queue.specs.declared.end.End.TheVariants.{A, B}
-use Rattle.channel_laws.specs.WireEvent.{Joined, Lost, Sent}
-use Rattle.channel_laws.specs.WireLog.{wire_moved}
-use Rattle.disk_model.specs.ClientPutting.{client_put}
-use Rattle.disk_model.specs.ClientState.{joined_client}
-use Rattle.disk_model.specs.DiskEvent.{DiskEvent, OnWire}
-use Rattle.disk_model.specs.LaneState.{IsShape, LaneState, Shape, fresh}
-use Rattle.disk_model.specs.LaneStep.{LaneStep}
+use Rattle.lane_models.specs.WireEvent.{Joined, Lost, Sent}
+use Rattle.lane_models.specs.WireLog.{wire_moved}
+use Rattle.lane_models.specs.ClientPutting.{client_put}
+use Rattle.lane_models.specs.ClientState.{joined_client}
+use Rattle.lane_models.specs.DiskEvent.{DiskEvent, OnWire}
+use Rattle.lane_models.specs.LaneState.{IsShape, LaneState, Shape, fresh}
+use Rattle.lane_models.specs.LaneStep.{LaneStep}
 use Rattle.lane_laws.specs.Remaining.{remaining}
 
 -- its end is configured, it puts the packet, and the packet is lost

@@ -13,27 +13,27 @@ use Rattle.vdisk_msg.specs.declared.request.Request.{Request}
 use Rattle.vdisk_msg.specs.Descriptor as slot_says
 use Rattle.vdisk_msg.specs.Pieces.{Finishes, Moves, Piece, Stores, read_pieces, unit_count, write_pieces}
 use Rattle.vdisk_msg.specs.Requested as asks_for
-use Rattle.channel_laws.specs.Sayings.{count_heard, count_said, half_heard, half_said}
-use Rattle.channel_laws.specs.WireAt.{counts_next}
-use Rattle.channel_laws.specs.Blockage.{Blockage, is_stuck_with_own}
-use Rattle.disk_model.specs.ClientPutting.{is_announcing}
-use Rattle.disk_model.specs.ClientRule as client_rules
-use Rattle.disk_model.specs.ClientState.{ClientSession, ClientState, ever_published_count}
-use Rattle.channel_laws.specs.EndFold.{handshake_of, link_phase}
+use Rattle.lane_models.specs.Sayings.{count_heard, count_said, half_heard, half_said}
+use Rattle.lane_models.specs.WireAt.{counts_next}
+use Rattle.lane_models.specs.Blockage.{Blockage, is_stuck_with_own}
+use Rattle.lane_models.specs.ClientPutting.{is_announcing}
+use Rattle.lane_models.specs.ClientRule as client_rules
+use Rattle.lane_models.specs.ClientState.{ClientSession, ClientState, ever_published_count}
+use Rattle.lane_models.specs.EndFold.{handshake_of, link_phase}
 use Rattle.lane_laws.specs.EndLog.{client_left, infos_heard, range_in_work, server_left}
-use Rattle.disk_model.specs.LaneState.{LaneState, Shape, pages_of}
-use Rattle.disk_model.specs.Offering.{client_offer, server_offer}
-use Rattle.channel_laws.specs.Ranges.{wrapped}
-use Rattle.channel_laws.specs.Seeing.{seen}
-use Rattle.disk_model.specs.ServerRule as server_rules
-use Rattle.disk_model.specs.ServerState.{Ends, Flushes, Gathers, Gives, Progress, Reads, ServerSession, ServerState, Work, Writes}
+use Rattle.lane_models.specs.LaneState.{LaneState, Shape, pages_of}
+use Rattle.lane_models.specs.Offering.{client_offer, server_offer}
+use Rattle.lane_models.specs.Ranges.{wrapped}
+use Rattle.lane_models.specs.Seeing.{seen}
+use Rattle.lane_models.specs.ServerRule as server_rules
+use Rattle.lane_models.specs.ServerState.{Ends, Flushes, Gathers, Gives, Progress, Reads, ServerSession, ServerState, Work, Writes}
 use Rattle.lane_laws.specs.DiskLog.{DiskLog}
-use Rattle.channel_laws.specs.TranscriptLog.{TranscriptLog}
+use Rattle.lane_models.specs.TranscriptLog.{TranscriptLog}
 use Rattle.lane_laws.specs.NearLog.{NearLog}
 use Rattle.lane_laws.specs.RingLog.{Accepted, Done, Free, Ready, SlotLog, Zeros}
 use Rattle.lane_laws.specs.WorkLog.{ClientCounts, ServerCounts, WorkLog}
 use Rattle.lane_laws.specs.WorkNext.{bytes_held, count_held, next_by, without_bytes}
-use Rattle.channel_laws.specs.OwnMemory.{own_table}
+use Rattle.lane_models.specs.OwnMemory.{own_table}
 
 -- A LINK counts what was said and heard, and holds what came of a message that isn't whole; part of its own message is put where part of
 -- one was said; before it is up it has heard nothing and holds nothing; the version that it offers in place of a refused one is 1.0 or 0.0.
@@ -140,10 +140,10 @@ pub record ClientEndAgrees (c : ClientState) (shape : Shape) (transcript : Trans
   pub blocks : c.blocks ≡ shape.blocks
   pub slots : c.slots ≡ shape.slots
   pub role : c.link.role ≡ Initiator
-  pub phase : c.link.phase ≡ link_phase Initiator transcript.client
-  pub handshake : c.handshake ≡ handshake_of Initiator (client_offer shape.blocks shape.slots) (transcript.links % 2 ^ 32) transcript.client
+  pub phase : c.link.phase ≡ link_phase Initiator transcript.a
+  pub handshake : c.handshake ≡ handshake_of Initiator (client_offer shape.blocks shape.slots) (transcript.links % 2 ^ 32) transcript.a
   pub announcing : is_announcing c.session ≡ (is_some c.session && is_stuck_with_own blockage c.handshake.owed)
-  pub left : c.link.to_send ≡ client_left c c.session (half_said transcript.client) blockage
+  pub left : c.link.to_send ≡ client_left c c.session (half_said transcript.a) blockage
 
 abbrev pub RangeAgrees : Option ServerSession → List Utterance → Type 0
 RangeAgrees None utterances = ⊤
@@ -155,10 +155,10 @@ pub record ServerEndAgrees (v : ServerState) (shape : Shape) (transcript : Trans
   pub blocks : v.blocks ≡ shape.blocks
   pub slots : v.slots ≡ shape.slots
   pub role : v.link.role ≡ Responder
-  pub phase : v.link.phase ≡ link_phase Responder transcript.server
-  pub handshake : v.handshake ≡ handshake_of Responder (server_offer shape.blocks shape.slots) 0 transcript.server
-  pub range : RangeAgrees v.session transcript.server
-  pub left : v.link.to_send ≡ server_left v v.handshake.owed (half_said transcript.server) blockage
+  pub phase : v.link.phase ≡ link_phase Responder transcript.b
+  pub handshake : v.handshake ≡ handshake_of Responder (server_offer shape.blocks shape.slots) 0 transcript.b
+  pub range : RangeAgrees v.session transcript.b
+  pub left : v.link.to_send ≡ server_left v v.handshake.owed (half_said transcript.b) blockage
 
 pub record AgreesWithLog (s : LaneState) (l : DiskLog) : Type 0 where
   pub shape : s.shape ≡ l.shape
@@ -166,8 +166,8 @@ pub record AgreesWithLog (s : LaneState) (l : DiskLog) : Type 0 where
   pub table : s.table ≡ own_table (pages_of l.shape)
   pub stopped : s.stopped ≡ l.work.stopped
   pub failed : s.failed ≡ l.failed
-  pub client_link : LinkAgrees s.client.link l.transcript.client
-  pub server_link : LinkAgrees s.server.link l.transcript.server
+  pub client_link : LinkAgrees s.client.link l.transcript.a
+  pub server_link : LinkAgrees s.server.link l.transcript.b
   pub sids : s.client.handshake.last_sid ≡ l.transcript.links % 2 ^ 32
   pub client_end : ClientEndAgrees s.client l.shape l.transcript l.blocked.client
   pub server_end : ServerEndAgrees s.server l.shape l.transcript l.blocked.server

@@ -1,9 +1,9 @@
 -- Whether each end found no room for its next packet since it last put one or began anew.
 use Rattle.ldc_queue.specs.declared.end.End.{End}
 use Rattle.ldc_queue.specs.declared.end.End.TheVariants.{A, B}
-use Rattle.channel_laws.specs.WireEvent.{Blocked, Joined, Reset, Sent, Took, WireEvent}
-use Rattle.channel_laws.specs.Blockage.{Blockage, Clear, hearing, stuck}
-use Rattle.disk_model.specs.DiskEvent.{DiskEvent, OnWire, Stopped, Switches}
+use Rattle.lane_models.specs.WireEvent.{Blocked, Joined, Reset, Sent, Took, WireEvent}
+use Rattle.lane_models.specs.Blockage.{Blockage, Clear, hearing, stuck}
+use Rattle.lane_models.specs.DiskEvent.{DiskEvent, OnWire, Stopped, Switches}
 
 pub record BlockLog : Type 0 where
   pub client : Blockage

@@ -1,8 +1,8 @@
 -- How many messages of its session an end may begin before it takes a packet: a client an INFO for each slot that isn't announced, a server
 -- an answer to its range.
 use Rattle.std.specs.Prelude.{ℕ, ◌+◌, ◌-◌, Bool, true, false, Option, Some, None}
-use Rattle.disk_model.specs.ClientState.{ClientSession}
-use Rattle.disk_model.specs.ServerState.{ServerSession, SlotRange}
+use Rattle.lane_models.specs.ClientState.{ClientSession}
+use Rattle.lane_models.specs.ServerState.{ServerSession, SlotRange}
 
 abbrev pub one_if : Bool → ℕ
 one_if true = 1

@@ -3,13 +3,13 @@ use Rattle.std.specs.Prelude.{◌≡◌, ◌⊎◌, ◌+◌, ◌≤◌, true, fa
 use Rattle.ldc_queue.specs.declared.end.End.{End}
 use Rattle.ldc_queue.specs.declared.end.End.TheVariants.{A, B}
 use Rattle.ldc_queue.specs.Wire.{peer_of, waiting_for}
-use Rattle.channel_laws.specs.WireAt.{IsUp}
-use Rattle.channel_laws.specs.WireEvent.{Blocked, ByStep, Idle, Joined, Reset, Sent, Took, WireEvent, giver}
+use Rattle.lane_models.specs.WireAt.{IsUp}
+use Rattle.lane_models.specs.WireEvent.{Blocked, ByStep, Idle, Joined, Reset, Sent, Took, WireEvent, giver}
 use Rattle.lane_laws.specs.DiskLog.{DiskLog}
 use Rattle.lane_laws.specs.QuietLaws.{EndIsIdle}
-use Rattle.disk_model.specs.ClientState.{is_finished}
-use Rattle.disk_model.specs.DiskEvent.{Desc, DiskEvent, Done, Finished, Moved, Off, OnWire, Published, Stored, Switches, Worked, Works}
-use Rattle.disk_model.specs.LaneState.{LaneState}
+use Rattle.lane_models.specs.ClientState.{is_finished}
+use Rattle.lane_models.specs.DiskEvent.{Desc, DiskEvent, Done, Finished, Moved, Off, OnWire, Published, Stored, Switches, Worked, Works}
+use Rattle.lane_models.specs.LaneState.{LaneState}
 
 -- A STEP IS CALM where its end idles or finds no room for its packet, or its server is stopped
 abbrev pub IsCalm : End → DiskEvent → Type 0

@@ -1,15 +1,15 @@
 -- A disk's lane as two ends on a channel: its client begins, and its server answers.
 use Rattle.std.specs.Prelude.{ℕ, Bool, true, false, ◌&&◌, is_none, is_some, not}
-use Rattle.channel_laws.specs.EndCore.{EndCore, holds}
-use Rattle.channel_laws.specs.LaneCore.{Beside, Closes, CoreEvent, LaneCore, OnChannel}
+use Rattle.lane_models.specs.EndCore.{EndCore, holds}
+use Rattle.lane_models.specs.LaneCore.{Beside, Closes, CoreEvent, LaneCore, OnChannel}
 use Rattle.ldc_queue.specs.declared.end.End.TheVariants.{B}
 use Rattle.ldc_queue.specs.Messages.{is_empty}
-use Rattle.disk_model.specs.ClientPutting.{is_announcing}
-use Rattle.disk_model.specs.ClientState.{ClientState}
-use Rattle.disk_model.specs.DiskEvent.{DiskEvent, OnWire, Stopped, Switches}
-use Rattle.disk_model.specs.LaneState.{LaneState}
-use Rattle.disk_model.specs.Offering.{client_offer, server_offer}
-use Rattle.disk_model.specs.ServerState.{ServerState}
+use Rattle.lane_models.specs.ClientPutting.{is_announcing}
+use Rattle.lane_models.specs.ClientState.{ClientState}
+use Rattle.lane_models.specs.DiskEvent.{DiskEvent, OnWire, Stopped, Switches}
+use Rattle.lane_models.specs.LaneState.{LaneState}
+use Rattle.lane_models.specs.Offering.{client_offer, server_offer}
+use Rattle.lane_models.specs.ServerState.{ServerState}
 use Rattle.lane_laws.specs.Budget.{infos_left, range_packets}
 
 -- the messages of a client's session are its INFO: the link's is one where it announces

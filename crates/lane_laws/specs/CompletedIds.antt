@@ -1,6 +1,6 @@
 -- The numbers of the completions among events, in their order.
 use Rattle.std.specs.Prelude.{◌≡◌, ℕ, ◌+◌, List, [], ◌∷◌, Option, Some, None, ⊤}
-use Rattle.disk_model.specs.DiskEvent.{DiskEvent, Done, Worked, Works}
+use Rattle.lane_models.specs.DiskEvent.{DiskEvent, Done, Worked, Works}
 
 abbrev pub id_done : Worked → Option ℕ
 id_done (Done id operation status bytes) = Some id

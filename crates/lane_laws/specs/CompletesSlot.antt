@@ -3,7 +3,7 @@ use Rattle.std.specs.Prelude.{◌≡◌, ℕ, ◌-◌, ◌%◌, ◌≤◌, Some,
 use Rattle.lane_laws.specs.DiskLog.{DiskLog}
 use Rattle.lane_laws.specs.RingLog.{Done}
 use Rattle.lane_laws.specs.WorkLog.{ClientCounts}
-use Rattle.disk_model.specs.LaneState.{LaneState}
+use Rattle.lane_models.specs.LaneState.{LaneState}
 
 pub record CompletesSlot (s : LaneState) (l : DiskLog) (id status : ℕ) (k : ClientCounts) : Type 0 where
   pub open_is : l.work.client ≡ Some k

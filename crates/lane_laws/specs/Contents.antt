@@ -6,10 +6,10 @@ use Rattle.vdisk_msg.specs.declared.request.Request.TheVariants.{Read, Write, Fl
 use Rattle.vdisk_msg.specs.Requested.{buffer_of}
 use Rattle.vdisk_msg.specs.Requests.{written}
 use Rattle.vio_bytes.specs.Range.{range_at}
-use Rattle.disk_model.specs.ClientState.{ClientSession, slot_in}
-use Rattle.disk_model.specs.LaneState.{LaneState}
-use Rattle.disk_model.specs.ServerState.{Ends, Flushes, Gathers, Gives, Progress, Reads, Work, Writes}
-use Rattle.disk_model.specs.ServerWork.{unit_length}
+use Rattle.lane_models.specs.ClientState.{ClientSession, slot_in}
+use Rattle.lane_models.specs.LaneState.{LaneState}
+use Rattle.lane_models.specs.ServerState.{Ends, Flushes, Gathers, Gives, Progress, Reads, Work, Writes}
+use Rattle.lane_models.specs.ServerWork.{unit_length}
 use Rattle.lane_laws.specs.LaneView.{View, place_of}
 
 -- THE BUFFER of a write that is published holds what it writes

@@ -4,19 +4,19 @@ use Rattle.std.specs.Prelude.{◌≡◌, ℕ, ◌+◌, ◌%◌, ◌^◌, ◌<◌
 use Rattle.ldc_queue.specs.Transcript.{Utterance}
 use Rattle.vdisk_msg.specs.Pieces.{unit_count}
 use Rattle.vio_tag.specs.Spelling.{canonical}
-use Rattle.channel_laws.specs.Sayings.{half_said, heard, said}
+use Rattle.lane_models.specs.Sayings.{half_said, heard, said}
 use Rattle.lane_laws.specs.Agreement.{ClientAgrees, ServerAgrees}
 use Rattle.lane_laws.specs.DiskLog.{DiskLog}
-use Rattle.channel_laws.specs.Messages.{range_in}
+use Rattle.lane_models.specs.Messages.{range_in}
 use Rattle.lane_laws.specs.WorkLog.{ClientCounts, ServerCounts, length_in, one_in}
-use Rattle.disk_model.specs.ClientPutting.{announcement}
-use Rattle.disk_model.specs.ClientState.{ClientSession, ClientState}
-use Rattle.disk_model.specs.LaneState.{LaneState, Shape}
-use Rattle.channel_laws.specs.Ranges.{wrapped}
+use Rattle.lane_models.specs.ClientPutting.{announcement}
+use Rattle.lane_models.specs.ClientState.{ClientSession, ClientState}
+use Rattle.lane_models.specs.LaneState.{LaneState, Shape}
+use Rattle.lane_models.specs.Ranges.{wrapped}
 use Rattle.dring.specs.Slots.{range_length}
-use Rattle.disk_model.specs.ServerRule.{answer}
-use Rattle.disk_model.specs.ServerState.{Gathers, Gives, Progress, Reads, ServerSession, ServerState, SlotRange, Work, Writes}
-use Rattle.disk_model.specs.ServerWork.{desc_of}
+use Rattle.lane_models.specs.ServerRule.{answer}
+use Rattle.lane_models.specs.ServerState.{Gathers, Gives, Progress, Reads, ServerSession, ServerState, SlotRange, Work, Writes}
+use Rattle.lane_models.specs.ServerWork.{desc_of}
 use Rattle.lane_laws.specs.Budget.{one_range}
 
 -- SUMS over messages: the slots of their ranges, INFO 1 or ACK 2, and how many ranges
@@ -115,5 +115,5 @@ pub record ServerCounted (shape : Shape) (v : ServerState) (utterances : List Ut
 
 -- BOTH ENDS of a lane, and its log
 pub record LaneCounted (s : LaneState) (l : DiskLog) : Type 0 where
-  pub client : ClientCounted l.shape s.client l.transcript.client l.work.done l.work.client
-  pub server : ServerCounted l.shape s.server l.transcript.server l.work.server
+  pub client : ClientCounted l.shape s.client l.transcript.a l.work.done l.work.client
+  pub server : ServerCounted l.shape s.server l.transcript.b l.work.server

@@ -2,12 +2,12 @@
 use Rattle.std.specs.Prelude.{Bool, false, ◌||◌, List, Option, Some, None}
 use Rattle.ldc_queue.specs.declared.end.End.{End}
 use Rattle.ldc_queue.specs.declared.end.End.TheVariants.{B}
-use Rattle.channel_laws.specs.TranscriptLog.{TranscriptLog, nothing_said, silenced, transcript_moved}
-use Rattle.channel_laws.specs.WireEvent.{Idle, WireEvent}
-use Rattle.channel_laws.specs.WireLog.{WireLog, nothing_on_wire, server_closed, wire_moved}
+use Rattle.lane_models.specs.TranscriptLog.{TranscriptLog, nothing_said, silenced, transcript_moved}
+use Rattle.lane_models.specs.WireEvent.{Idle, WireEvent}
+use Rattle.lane_models.specs.WireLog.{WireLog, nothing_on_wire, server_closed, wire_moved}
 use Rattle.lane_laws.specs.BlockLog.{BlockLog, after_block, nothing_blocked}
-use Rattle.disk_model.specs.DiskEvent.{DiskEvent, OnWire, Stopped, Stored, Switches, Works}
-use Rattle.disk_model.specs.LaneState.{Shape}
+use Rattle.lane_models.specs.DiskEvent.{DiskEvent, OnWire, Stopped, Stored, Switches, Works}
+use Rattle.lane_models.specs.LaneState.{Shape}
 use Rattle.lane_laws.specs.NearLog.{NearLog, after_near, nothing_near}
 use Rattle.lane_laws.specs.RingLog.{SlotLog, after_ring, no_ring}
 use Rattle.lane_laws.specs.WorkLog.{WorkLog, after_work, no_work}

@@ -5,13 +5,13 @@ use Rattle.ldc_queue.specs.Transcript.{Heard, Said, Utterance}
 use Rattle.vio_bytes.specs.Place.{number_at}
 use Rattle.vio_tag.specs.declared.message.Message.{Message}
 use Rattle.vio_tag.specs.Spelling.{canonical}
-use Rattle.channel_laws.specs.Blockage.{Blockage, left_of, owed_left}
-use Rattle.disk_model.specs.ClientPutting.{announcement}
-use Rattle.disk_model.specs.ClientState.{ClientSession, ClientState}
-use Rattle.channel_laws.specs.Messages.{end_slot_of, range_ended, seq_of, start_slot_of}
-use Rattle.channel_laws.specs.Sayings.{half_heard, half_said}
-use Rattle.disk_model.specs.ServerRule.{answer}
-use Rattle.disk_model.specs.ServerState.{ServerSession, ServerState, SlotRange}
+use Rattle.lane_models.specs.Blockage.{Blockage, left_of, owed_left}
+use Rattle.lane_models.specs.ClientPutting.{announcement}
+use Rattle.lane_models.specs.ClientState.{ClientSession, ClientState}
+use Rattle.lane_models.specs.Messages.{end_slot_of, range_ended, seq_of, start_slot_of}
+use Rattle.lane_models.specs.Sayings.{half_heard, half_said}
+use Rattle.lane_models.specs.ServerRule.{answer}
+use Rattle.lane_models.specs.ServerState.{ServerSession, ServerState, SlotRange}
 use Rattle.lane_laws.specs.WorkLog.{one_in}
 
 -- THE SERVER'S RANGE is the last INFO that it heard, until it said its ACK; its next INFO has the number behind that

@@ -4,10 +4,10 @@ use Rattle.vdisk_msg.specs.declared.request.Request.{Request}
 use Rattle.vdisk_msg.specs.Requests.{after_request}
 use Rattle.vio_bytes.specs.Place.{put_at}
 use Rattle.vio_bytes.specs.Range.{range_at}
-use Rattle.disk_model.specs.DiskEvent.{DiskEvent, Done, Stored, Works}
-use Rattle.disk_model.specs.LaneState.{LaneState, Shape}
-use Rattle.disk_model.specs.LaneStep.{ServerWorks}
-use Rattle.disk_model.specs.ServerState.{Progress, Reads, Work, Writes}
+use Rattle.lane_models.specs.DiskEvent.{DiskEvent, Done, Stored, Works}
+use Rattle.lane_models.specs.LaneState.{LaneState, Shape}
+use Rattle.lane_models.specs.LaneStep.{ServerWorks}
+use Rattle.lane_models.specs.ServerState.{Progress, Reads, Work, Writes}
 
 -- the first pending request is done
 abbrev pub front_done : List ℕ → List Request → List ℕ

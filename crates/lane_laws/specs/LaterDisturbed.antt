@@ -2,7 +2,7 @@
 -- reset or a stop.
 use Rattle.std.specs.Prelude.{◌≡◌, ◌+◌, ◌≤◌, ◌⊎◌, length}
 use Rattle.lane_laws.specs.DiskLog.{DiskLog}
-use Rattle.disk_model.specs.LaneState.{LaneState}
+use Rattle.lane_models.specs.LaneState.{LaneState}
 
 pub record LaterDisturbed (s : LaneState) (l : DiskLog) : Type 0 where
   pub later : (s.near.m ≡ 0) ⊎ (l.work.done + s.near.m ≤ l.work.disturbed_below)

@@ -1,9 +1,9 @@
 -- The laws of the wire on an event of a lane, which speak of its log.
 use Rattle.lane_laws.specs.DiskLog.{DiskLog}
 use Rattle.lane_laws.specs.May.{OfWire}
-use Rattle.disk_model.specs.DiskEvent.{DiskEvent}
-use Rattle.channel_laws.specs.ResetSays.{WireResetAt}
-use Rattle.channel_laws.specs.WireAt.{WireGapAt, WireLostAt, WireSaidAt, WireUnforgedAt}
+use Rattle.lane_models.specs.DiskEvent.{DiskEvent}
+use Rattle.lane_models.specs.ResetSays.{WireResetAt}
+use Rattle.lane_models.specs.WireAt.{WireGapAt, WireLostAt, WireSaidAt, WireUnforgedAt}
 
 -- what resets an end says why
 abbrev pub ResetAt : DiskLog → DiskEvent → Type 0

@@ -1,11 +1,11 @@
 -- Where an event may stand in the log of those before it: one field for each law, so that each can be cited by itself.
 use Rattle.std.specs.Prelude.{◌*◌, List, ⊤}
 use Rattle.runs.specs.Lawful.{Lawful}
-use Rattle.channel_laws.specs.ResetSays.{WireResetAt}
-use Rattle.channel_laws.specs.WireAt.{Sizes, WireAnswersAt, WireGapAt, WireHeardAt, WireLostAt, WireSaidAt, WireTableAt, WireUnforgedAt}
-use Rattle.channel_laws.specs.WireEvent.{WireEvent}
-use Rattle.disk_model.specs.DiskEvent.{DiskEvent, OnWire}
-use Rattle.disk_model.specs.LaneState.{Shape, pages_of}
+use Rattle.lane_models.specs.ResetSays.{WireResetAt}
+use Rattle.lane_models.specs.WireAt.{Sizes, WireAnswersAt, WireGapAt, WireHeardAt, WireLostAt, WireSaidAt, WireTableAt, WireUnforgedAt}
+use Rattle.lane_models.specs.WireEvent.{WireEvent}
+use Rattle.lane_models.specs.DiskEvent.{DiskEvent, OnWire}
+use Rattle.lane_models.specs.LaneState.{Shape, pages_of}
 use Rattle.lane_laws.specs.DiskLog.{DiskLog, after, nothing_yet}
 use Rattle.lane_laws.specs.NearLaws.{NearAt}
 use Rattle.lane_laws.specs.OrderLaws.{OrderAt}

@@ -3,7 +3,7 @@
 use Rattle.std.specs.Prelude.{◌≡◌, ℕ, ◌+◌, ◌*◌, ◌≤◌, length}
 use Rattle.vdisk_msg.specs.Requested.{ring_pages}
 use Rattle.vdisk_msg.specs.Requests.{AreSound}
-use Rattle.disk_model.specs.LaneState.{LaneState}
+use Rattle.lane_models.specs.LaneState.{LaneState}
 
 -- the bytes of the ring's pages and of each slot's buffer
 abbrev pub memory_long : ℕ → ℕ

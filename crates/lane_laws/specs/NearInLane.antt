@@ -1,8 +1,8 @@
 -- The counts of what is near, as a lane has them: k are finished, m were published in an earlier session, of those that were
 -- ever published, which are pending.
 use Rattle.std.specs.Prelude.{◌≤◌, length}
-use Rattle.disk_model.specs.ClientState.{ever_published_count}
-use Rattle.disk_model.specs.LaneState.{LaneState}
+use Rattle.lane_models.specs.ClientState.{ever_published_count}
+use Rattle.lane_models.specs.LaneState.{LaneState}
 
 pub record NearInLane (s : LaneState) : Type 0 where
   pub finished : s.near.k ≤ ever_published_count s.client

@@ -1,6 +1,6 @@
 -- How the counts of what is near stand to one another, where nobody meddles.
 use Rattle.std.specs.Prelude.{◌≡◌, ◌≤◌, false, ⊤}
-use Rattle.disk_model.specs.DiskEvent.{DiskEvent, Done, Works}
+use Rattle.lane_models.specs.DiskEvent.{DiskEvent, Done, Works}
 use Rattle.lane_laws.specs.DiskLog.{DiskLog}
 use Rattle.lane_laws.specs.RequestLaws.{pending_count}
 

@@ -1,8 +1,8 @@
 -- How near the image is, as what happened tells: of the pending requests the server finished the first k in this session and stored the
 -- first u blocks of the write after them, the first m were published in an earlier session, and the first p ever.
 use Rattle.std.specs.Prelude.{ℕ, ◌+◌, ◌-◌, ◌==◌, max, Bool, true, false, if◌then◌else◌}
-use Rattle.channel_laws.specs.WireEvent.{Reset, WireEvent}
-use Rattle.disk_model.specs.DiskEvent.{Desc, DiskEvent, Done, Finished, Misplaced, Moved, OnWire, Published, Stopped, Stored, Switches, Worked, Works}
+use Rattle.lane_models.specs.WireEvent.{Reset, WireEvent}
+use Rattle.lane_models.specs.DiskEvent.{Desc, DiskEvent, Done, Finished, Misplaced, Moved, OnWire, Published, Stopped, Stored, Switches, Worked, Works}
 
 pub record NearLog : Type 0 where
   pub k : ℕ

@@ -6,12 +6,12 @@ use Rattle.ldc_queue.specs.declared.end.ChannelState.TheVariants.{Up}
 use Rattle.ldc_queue.specs.Numbered.{numbered}
 use Rattle.ldc_queue.specs.Transcript.{numbered_heard, numbered_said}
 use Rattle.lane_laws.specs.DiskLog.{DiskLog}
-use Rattle.disk_model.specs.LaneState.{LaneState}
-use Rattle.channel_laws.specs.Messages.{end_slot_of, is_range, seq_of, start_slot_of}
-use Rattle.channel_laws.specs.Ranges.{wrapped}
+use Rattle.lane_models.specs.LaneState.{LaneState}
+use Rattle.lane_models.specs.Messages.{end_slot_of, is_range, seq_of, start_slot_of}
+use Rattle.lane_models.specs.Ranges.{wrapped}
 use Rattle.dring.specs.Slots.{range_length}
-use Rattle.channel_laws.specs.Sayings.{heard, said}
-use Rattle.disk_model.specs.ServerState.{ServerSession}
+use Rattle.lane_models.specs.Sayings.{heard, said}
+use Rattle.lane_models.specs.ServerState.{ServerSession}
 use Rattle.lane_laws.specs.WorkLog.{ClientCounts, ServerCounts}
 
 -- of what an end said, the ranges of a subtype, INFO 1 or ACK 2, that the other hasn't heard: it heard the first ones
@@ -50,8 +50,8 @@ pub record WaitsOrLost (put taken waiting : List (List ℕ)) (lossy : Bool) : Ty
 
 pub record OnTheWay (s : LaneState) (l : DiskLog) (k : ClientCounts) : Type 0 where
   pub server_up : l.wire.wire.end_b ≡ Up
-  pub infos : NameAll l.shape.slots (asked_count l.work.server) k.announced (ranges_behind 1 (said l.transcript.client) (heard l.transcript.server))
-  pub seqs : SeqsFrom (expected_by s.server.session) (ranges_behind 1 (said l.transcript.client) (heard l.transcript.server))
-  pub acks : NameAll l.shape.slots k.acked (answered_count l.work.server) (ranges_behind 2 (said l.transcript.server) (heard l.transcript.client))
-  pub to_server : WaitsOrLost (numbered_said l.transcript.client) (numbered_heard l.transcript.server) (numbered l.wire.wire.to_b) l.wire.lossy
-  pub to_client : WaitsOrLost (numbered_said l.transcript.server) (numbered_heard l.transcript.client) (numbered l.wire.wire.to_a) l.wire.lossy
+  pub infos : NameAll l.shape.slots (asked_count l.work.server) k.announced (ranges_behind 1 (said l.transcript.a) (heard l.transcript.b))
+  pub seqs : SeqsFrom (expected_by s.server.session) (ranges_behind 1 (said l.transcript.a) (heard l.transcript.b))
+  pub acks : NameAll l.shape.slots k.acked (answered_count l.work.server) (ranges_behind 2 (said l.transcript.b) (heard l.transcript.a))
+  pub to_server : WaitsOrLost (numbered_said l.transcript.a) (numbered_heard l.transcript.b) (numbered l.wire.wire.to_b) l.wire.lossy
+  pub to_client : WaitsOrLost (numbered_said l.transcript.b) (numbered_heard l.transcript.a) (numbered l.wire.wire.to_a) l.wire.lossy

@@ -5,10 +5,10 @@ use Rattle.ldc_link.specs.Putting.{owes_in}
 use Rattle.ldc_queue.specs.declared.end.End.{End}
 use Rattle.ldc_queue.specs.declared.end.End.TheVariants.{A, B}
 use Rattle.ldc_queue.specs.Wire.{waiting_for}
-use Rattle.channel_laws.specs.WireEvent.{Blocked, Idle, Reset, Sent, Took}
-use Rattle.disk_model.specs.DiskEvent.{Desc, DiskEvent, Finished, Moved, OnWire, Published, Stored, Works}
-use Rattle.channel_laws.specs.EndFold.{link_phase}
-use Rattle.channel_laws.specs.Blockage.{Clear}
+use Rattle.lane_models.specs.WireEvent.{Blocked, Idle, Reset, Sent, Took}
+use Rattle.lane_models.specs.DiskEvent.{Desc, DiskEvent, Finished, Moved, OnWire, Published, Stored, Works}
+use Rattle.lane_models.specs.EndFold.{link_phase}
+use Rattle.lane_models.specs.Blockage.{Clear}
 use Rattle.lane_laws.specs.DiskLog.{DiskLog}
 use Rattle.lane_laws.specs.WorkLaws.{IfClient, IfServer, InClient, InServer, client_handshake, server_handshake}
 use Rattle.lane_laws.specs.WorkLog.{ClientCounts, ServerCounts}
@@ -23,16 +23,16 @@ HasAnswered l = IfServer l.work.server (λ (c : ServerCounts). c.answered ≡ c.
 -- AN END HAS A PACKET TO PUT: of its link's handshake, or of a message that it owes: its handshake, a client announces, or a server answers
 abbrev pub HasToPut : End → DiskLog → Type 0
 HasToPut A l =
-    (owes_in (link_phase Initiator l.transcript.client) ≡ true)
+    (owes_in (link_phase Initiator l.transcript.a) ≡ true)
     ⊎ (((client_handshake l).owed ≢ None) ⊎ InClient l.work.client (λ (c : ClientCounts). c.announced < c.published))
 HasToPut B l =
-    (owes_in (link_phase Responder l.transcript.server) ≡ true)
+    (owes_in (link_phase Responder l.transcript.b) ≡ true)
     ⊎ (((server_handshake l).owed ≢ None) ⊎ InServer l.work.server (λ (c : ServerCounts). (c.answered < c.asked) × (c.finished ≡ c.asked)))
 
 -- AN END OWES NOTHING of its link's handshake, and no message of its own
 abbrev pub OwesNothing : End → DiskLog → Type 0
-OwesNothing A l = (owes_in (link_phase Initiator l.transcript.client) ≡ false) × ((client_handshake l).owed ≡ None)
-OwesNothing B l = (owes_in (link_phase Responder l.transcript.server) ≡ false) × ((server_handshake l).owed ≡ None)
+OwesNothing A l = (owes_in (link_phase Initiator l.transcript.a) ≡ false) × ((client_handshake l).owed ≡ None)
+OwesNothing B l = (owes_in (link_phase Responder l.transcript.b) ≡ false) × ((server_handshake l).owed ≡ None)
 
 -- all that was accepted is published, but where the client was blocked with its INFO before
 abbrev pub HasPublished : DiskLog → Type 0

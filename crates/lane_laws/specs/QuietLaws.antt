@@ -3,8 +3,8 @@ use Rattle.std.specs.Prelude.{◌≡◌, ◌≢◌, ◌+◌, false, [], length, 
 use Rattle.ldc_queue.specs.declared.end.End.{End}
 use Rattle.ldc_queue.specs.declared.end.End.TheVariants.{A, B}
 use Rattle.ldc_queue.specs.Wire.{peer_of, waiting_for}
-use Rattle.channel_laws.specs.WireEvent.{ByTick, Giver, Idle, Reset, giver}
-use Rattle.disk_model.specs.DiskEvent.{CalmTick, DiskEvent, OnWire, Calms}
+use Rattle.lane_models.specs.WireEvent.{ByTick, Giver, Idle, Reset, giver}
+use Rattle.lane_models.specs.DiskEvent.{CalmTick, DiskEvent, OnWire, Calms}
 use Rattle.lane_laws.specs.DiskLog.{DiskLog}
 use Rattle.lane_laws.specs.WorkLaws.{IfClient, IfServer}
 use Rattle.lane_laws.specs.WorkLog.{ClientCounts, ServerCounts}
@@ -30,13 +30,13 @@ IdleAt l (OnWire (Idle e)) = (waiting_for e l.wire.wire ≡ []) × EndIsIdle e l
 IdleAt l _ = ⊤
 
 -- TWO IDLE ENDS, one directly after the other, where nobody meddled and nothing was lost: nothing is pending, and both sessions are open
-pub record IsAtRest (l : DiskLog) : Type 0 where
+pub record IsLogAtRest (l : DiskLog) : Type 0 where
   pub finished : l.work.done ≡ length l.work.issued
   pub client_open : l.work.client ≢ None
   pub server_open : l.work.server ≢ None
 
 abbrev pub TwoIdleAt : DiskLog → DiskEvent → Type 0
-TwoIdleAt l (OnWire (Idle e)) = l.last_idle ≡ Some (peer_of e) → l.wire.forged ≡ false → l.wire.lossy ≡ false → IsAtRest l
+TwoIdleAt l (OnWire (Idle e)) = l.last_idle ≡ Some (peer_of e) → l.wire.forged ≡ false → l.wire.lossy ≡ false → IsLogAtRest l
 TwoIdleAt l _ = ⊤
 
 -- A TICK is calm exactly where the client's session is open and nothing is pending

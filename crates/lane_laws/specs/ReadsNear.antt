@@ -3,8 +3,8 @@ use Rattle.std.specs.Prelude.{◌≡◌, ℕ, ◌+◌, ◌*◌, ◌/◌, ◌<◌
 use Rattle.vdisk_msg.specs.declared.request.Request.{Request}
 use Rattle.vdisk_msg.specs.declared.request.Request.TheVariants.{Read}
 use Rattle.vio_bytes.specs.Range.{range_at}
-use Rattle.disk_model.specs.ClientState.{ClientSession}
-use Rattle.disk_model.specs.ServerState.{Ends, Gives, Progress, Reads, Work}
+use Rattle.lane_models.specs.ClientState.{ClientSession}
+use Rattle.lane_models.specs.ServerState.{Ends, Gives, Progress, Reads, Work}
 use Rattle.lane_laws.specs.LaneView.{View, place_of}
 use Rattle.lane_laws.specs.NearContent.{Shows}
 

@@ -8,11 +8,11 @@ use Rattle.ldc_queue.specs.declared.end.ChannelState.{ChannelState}
 use Rattle.ldc_queue.specs.declared.end.ChannelState.TheVariants.{Down, Up, Resetting}
 use Rattle.ldc_queue.specs.Wire.{Wire}
 use Rattle.vdisk_msg.specs.Pieces.{unit_count}
-use Rattle.disk_model.specs.ClientState.{ClientSession, ClientState}
-use Rattle.disk_model.specs.LaneState.{LaneState}
-use Rattle.disk_model.specs.ServerState.{Ends, Flushes, Gathers, Gives, Progress, Reads, ServerSession, ServerState, Work, Writes}
-use Rattle.disk_model.specs.ServerWork.{desc_of}
-use Rattle.channel_laws.specs.PacketsLeft.{packets_left}
+use Rattle.lane_models.specs.ClientState.{ClientSession, ClientState}
+use Rattle.lane_models.specs.LaneState.{LaneState}
+use Rattle.lane_models.specs.ServerState.{Ends, Flushes, Gathers, Gives, Progress, Reads, ServerSession, ServerState, Work, Writes}
+use Rattle.lane_models.specs.ServerWork.{desc_of}
+use Rattle.lane_models.specs.PacketsLeft.{packets_left}
 use Rattle.lane_laws.specs.Budget.{one_if}
 use Rattle.lane_laws.specs.ChannelEnds.{client_core, server_core}
 

@@ -1,9 +1,9 @@
 -- Which steps of an end lower what remains, and what a server takes.
 use Rattle.std.specs.Prelude.{◌≡◌, List, [], ◌∷◌, ℕ, ◌+◌, ◌*◌, ◌^◌, ◌<◌, ◌≤◌, ◌⊎◌, ⊤, length, Option, Some, None}
-use Rattle.disk_model.specs.ClientState.{ClientState}
-use Rattle.disk_model.specs.DiskEvent.{Desc, DiskEvent, Done, Finished, Moved, OnWire, Published, Stored, Worked, Works}
-use Rattle.disk_model.specs.ServerState.{ServerSession, ServerState}
-use Rattle.channel_laws.specs.WireEvent.{Joined, Sent, Took, WireEvent}
+use Rattle.lane_models.specs.ClientState.{ClientState}
+use Rattle.lane_models.specs.DiskEvent.{Desc, DiskEvent, Done, Finished, Moved, OnWire, Published, Stored, Worked, Works}
+use Rattle.lane_models.specs.ServerState.{ServerSession, ServerState}
+use Rattle.lane_models.specs.WireEvent.{Joined, Sent, Took, WireEvent}
 use Rattle.ldc_queue.specs.declared.end.ChannelState.{ChannelState}
 use Rattle.ldc_queue.specs.declared.end.ChannelState.TheVariants.{Down, Up, Resetting}
 use Rattle.lane_laws.specs.Remaining.{asked_in, server_packets, serving_left, total}

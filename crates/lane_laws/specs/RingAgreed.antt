@@ -8,11 +8,11 @@ use Rattle.lane_laws.specs.Agreement.{ClientAgrees, ServerAgrees}
 use Rattle.lane_laws.specs.DiskLog.{DiskLog, after, nothing_yet}
 use Rattle.lane_laws.specs.WorkLaws.{IfServer}
 use Rattle.lane_laws.specs.WorkLog.{ClientCounts, ServerCounts, WorkLog}
-use Rattle.disk_model.specs.DiskEvent.{DiskEvent}
-use Rattle.disk_model.specs.LaneState.{LaneState, Shape, fresh, pages_of}
-use Rattle.disk_model.specs.LaneStep.{LaneStep}
-use Rattle.disk_model.specs.Offering.{own_cookies}
-use Rattle.disk_model.specs.ServerWork.{slots_cookies}
+use Rattle.lane_models.specs.DiskEvent.{DiskEvent}
+use Rattle.lane_models.specs.LaneState.{LaneState, Shape, fresh, pages_of}
+use Rattle.lane_models.specs.LaneStep.{LaneStep}
+use Rattle.lane_models.specs.Offering.{own_cookies}
+use Rattle.lane_models.specs.ServerWork.{slots_cookies}
 use Rattle.lane_laws.specs.RingSlots.{IdsStand, RingHolds, RingOf, StatusStands, WorkStands}
 
 abbrev pub ring_in : DiskLog → RingOf

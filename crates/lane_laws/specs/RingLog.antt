@@ -1,8 +1,8 @@
 -- The slots of the ring, as what happened leaves them. They stay as the last session left them until the next one opens.
 use Rattle.std.specs.Prelude.{ℕ, ◌+◌, ◌-◌, ◌%◌, Bool, true, false, List, replicate, set, Option, Some, None}
 use Rattle.ldc_queue.specs.declared.end.End.TheVariants.{A}
-use Rattle.channel_laws.specs.WireEvent.{Sent}
-use Rattle.disk_model.specs.DiskEvent as event
+use Rattle.lane_models.specs.WireEvent.{Sent}
+use Rattle.lane_models.specs.DiskEvent as event
 use Rattle.lane_laws.specs.WorkLog.{ClientCounts, ServerCounts, WorkLog}
 
 pub data SlotLog : Type 0 where

@@ -2,11 +2,11 @@
 use Rattle.std.specs.Prelude.{◌≡◌, ◌≢◌, ◌⊎◌, ◌-◌, ◌<◌, false, Some, None, slice_get}
 use Rattle.ldc_link.specs.Putting.{owes}
 use Rattle.ldc_queue.specs.declared.end.ChannelState.TheVariants.{Up}
-use Rattle.disk_model.specs.ClientRule as client
-use Rattle.disk_model.specs.ClientState.{ClientState}
-use Rattle.channel_laws.specs.Seeing.{Seen}
-use Rattle.disk_model.specs.ServerRule as server
-use Rattle.disk_model.specs.ServerState.{ServerSession, ServerState, SlotRange}
+use Rattle.lane_models.specs.ClientRule as client
+use Rattle.lane_models.specs.ClientState.{ClientState}
+use Rattle.lane_models.specs.Seeing.{Seen}
+use Rattle.lane_models.specs.ServerRule as server
+use Rattle.lane_models.specs.ServerState.{ServerSession, ServerState, SlotRange}
 use Rattle.vio_tag.specs.declared.message.Message.{Message}
 
 abbrev pub ClientMay : ClientState → Seen → client.ClientRule → Type 0

@@ -1,9 +1,9 @@
 -- Two lanes that are the same by their log: all but their memories, the bytes of a unit and of the last completion, and where somebody forged
 -- how near their images are and how many requests were ever published.
 use Rattle.std.specs.Prelude.{◌≡◌, false, length, Option, Some, None, ⊤}
-use Rattle.disk_model.specs.ClientState.{ClientState, ever_published_count}
-use Rattle.disk_model.specs.LaneState.{LaneState}
-use Rattle.disk_model.specs.ServerState.{ServerState, Work}
+use Rattle.lane_models.specs.ClientState.{ClientState, ever_published_count}
+use Rattle.lane_models.specs.LaneState.{LaneState}
+use Rattle.lane_models.specs.ServerState.{ServerState, Work}
 use Rattle.lane_laws.specs.WorkNext.{bytes_held, without_bytes}
 
 pub record SameClient (c d : ClientState) : Type 0 where

@@ -9,7 +9,7 @@ use Rattle.lane_laws.specs.DiskLog.{DiskLog}
 use Rattle.lane_laws.specs.RingLog.{Accepted, Done, Free, Ready, SlotLog}
 use Rattle.lane_laws.specs.WorkLaws.{IfServer}
 use Rattle.lane_laws.specs.WorkLog.{ClientCounts, ServerCounts, WorkLog}
-use Rattle.disk_model.specs.LaneState.{LaneState}
+use Rattle.lane_models.specs.LaneState.{LaneState}
 use Rattle.lane_laws.specs.OnTheWay.{OnTheWay}
 use Rattle.lane_laws.specs.RingAgreed.{ring_in}
 use Rattle.lane_laws.specs.RingSlots.{HoldsIssued, RingOf}

@@ -8,8 +8,8 @@ use Rattle.vdisk_msg.specs.declared.request.Request.TheVariants.{Flush, Read, Wr
 use Rattle.vdisk_msg.specs.Requested.{descriptor_of, ring_pages}
 use Rattle.vdisk_msg.specs.Requests.{written}
 use Rattle.vio_bytes.specs.Place.{put_at}
-use Rattle.disk_model.specs.ClientState.{ClientSession, slot_in}
-use Rattle.disk_model.specs.LaneState.{LaneState}
+use Rattle.lane_models.specs.ClientState.{ClientSession, slot_in}
+use Rattle.lane_models.specs.LaneState.{LaneState}
 
 -- what stands behind the pages of the ring: the buffers of the slots, 32 kB each; and these with a write's bytes in one of them
 abbrev pub buffers : ℕ → List ℕ → List ℕ

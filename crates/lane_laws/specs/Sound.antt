@@ -1,7 +1,7 @@
 -- What always holds of a client's session and its requests, also where somebody forges packets and memory.
 use Rattle.std.specs.Prelude.{◌≡◌, ℕ, ◌+◌, ◌<◌, ◌≤◌, true, length, Option, Some, None, ⊤}
-use Rattle.disk_model.specs.ClientPutting.{is_announcing}
-use Rattle.disk_model.specs.ClientState.{ClientSession, ClientState}
+use Rattle.lane_models.specs.ClientPutting.{is_announcing}
+use Rattle.lane_models.specs.ClientState.{ClientSession, ClientState}
 
 -- THE COUNTS of a client's session stand in this order, over so many pending requests
 pub record SessionInOrder (pending : ℕ) (s : ClientSession) : Type 0 where

@@ -3,10 +3,10 @@ use Rattle.std.specs.Prelude.{◌≡◌, [], ⊤}
 use Rattle.ldc_queue.specs.Wire.{waiting_for}
 use Rattle.lane_laws.specs.DiskLog.{DiskLog}
 use Rattle.lane_laws.specs.May.{OfWire, sizes_in}
-use Rattle.disk_model.specs.DiskEvent.{DiskEvent}
-use Rattle.channel_laws.specs.WireAt.{WireAnswersAt, WireTableAt}
-use Rattle.channel_laws.specs.WireEvent.{Idle, WireEvent}
-use Rattle.channel_laws.specs.WireLog.{WireLog}
+use Rattle.lane_models.specs.DiskEvent.{DiskEvent}
+use Rattle.lane_models.specs.WireAt.{WireAnswersAt, WireTableAt}
+use Rattle.lane_models.specs.WireEvent.{Idle, WireEvent}
+use Rattle.lane_models.specs.WireLog.{WireLog}
 
 -- conditions on an event of the wire: the table of states and queues, the answers that change nothing, and that nothing waits for an end which is
 -- idle

@@ -1,9 +1,9 @@
 -- What a tick that resets the client comes to: the lane begins anew, and nothing is lost any more where the client's end was up.
 use Rattle.std.specs.Prelude.{◌≡◌, ◌+◌, ◌*◌, ◌<◌, true, false, length}
 use Rattle.ldc_queue.specs.declared.end.End.TheVariants.{A}
-use Rattle.channel_laws.specs.WireAt.{IsUp}
-use Rattle.disk_model.specs.ClientState.{is_finished}
-use Rattle.disk_model.specs.LaneState.{LaneState}
+use Rattle.lane_models.specs.WireAt.{IsUp}
+use Rattle.lane_models.specs.ClientState.{is_finished}
+use Rattle.lane_models.specs.LaneState.{LaneState}
 use Rattle.lane_laws.specs.Remaining.{remaining}
 
 pub record TickBegins (s t : LaneState) : Type 0 where

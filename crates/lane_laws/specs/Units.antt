@@ -1,8 +1,8 @@
 -- A descriptor in work is what its progress says: a read, a write or a flush; and the bytes that are held of a unit are all of it.
 use Rattle.std.specs.Prelude.{◌≡◌, length, Option, Some, None, ⊤}
 use Rattle.vdisk_msg.specs.declared.desc.DiskDesc.{DiskDesc}
-use Rattle.disk_model.specs.ServerState.{Ends, Flushes, Gathers, Gives, Progress, Reads, Work, Writes}
-use Rattle.disk_model.specs.ServerWork.{desc_of, unit_length}
+use Rattle.lane_models.specs.ServerState.{Ends, Flushes, Gathers, Gives, Progress, Reads, Work, Writes}
+use Rattle.lane_models.specs.ServerWork.{desc_of, unit_length}
 
 abbrev pub UnitIs : DiskDesc → Progress → Type 0
 UnitIs desc (Reads unit) = desc.operation ≡ 1

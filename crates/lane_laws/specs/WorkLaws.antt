@@ -18,22 +18,22 @@ use Rattle.vio_tag.specs.declared.cause.Cause.{Cause}
 use Rattle.vio_tag.specs.declared.cause.Cause.TheVariants as the_cause
 use Rattle.vio_handshake.specs.declared.handshake.Handshake.{Handshake}
 use Rattle.vio_handshake.specs.Rules.{sid_fault}
-use Rattle.channel_laws.specs.HandshakeOrder.{HandshakeOrder}
-use Rattle.channel_laws.specs.Sayings.{half_heard, half_said}
-use Rattle.channel_laws.specs.TranscriptLog.{TranscriptLog, hears, says}
-use Rattle.channel_laws.specs.WireAt.{IsUp}
-use Rattle.channel_laws.specs.WireEvent.{Reset, Sent, Took}
-use Rattle.disk_model.specs.DiskEvent.{Desc, DiskEvent, Done, Finished, Misplaced, Moved, OnWire, Published, Stored, Works}
-use Rattle.channel_laws.specs.OwnMemory.{own_table}
-use Rattle.disk_model.specs.LaneState.{pages_of}
-use Rattle.disk_model.specs.Offering.{client_offer, server_offer}
-use Rattle.disk_model.specs.ServerState.{SlotRange}
-use Rattle.channel_laws.specs.Ranges.{wrapped}
+use Rattle.lane_models.specs.HandshakeOrder.{HandshakeOrder}
+use Rattle.lane_models.specs.Sayings.{half_heard, half_said}
+use Rattle.lane_models.specs.TranscriptLog.{TranscriptLog, hears, says}
+use Rattle.lane_models.specs.WireAt.{IsUp}
+use Rattle.lane_models.specs.WireEvent.{Reset, Sent, Took}
+use Rattle.lane_models.specs.DiskEvent.{Desc, DiskEvent, Done, Finished, Misplaced, Moved, OnWire, Published, Stored, Works}
+use Rattle.lane_models.specs.OwnMemory.{own_table}
+use Rattle.lane_models.specs.LaneState.{pages_of}
+use Rattle.lane_models.specs.Offering.{client_offer, server_offer}
+use Rattle.lane_models.specs.ServerState.{SlotRange}
+use Rattle.lane_models.specs.Ranges.{ring_active, wrapped}
 use Rattle.dring.specs.Slots.{done_state, range_length, ready_state}
-use Rattle.channel_laws.specs.Blockage.{Clear}
+use Rattle.lane_models.specs.Blockage.{Clear}
 use Rattle.lane_laws.specs.DiskLog.{DiskLog}
-use Rattle.channel_laws.specs.Messages.{end_slot_of, ended_by, range_ended, seq_of, sid_of, start_slot_of}
-use Rattle.channel_laws.specs.EndFold.{handshake_of}
+use Rattle.lane_models.specs.Messages.{end_slot_of, ended_by, range_ended, seq_of, sid_of, start_slot_of}
+use Rattle.lane_models.specs.EndFold.{handshake_of}
 use Rattle.lane_laws.specs.EndLog.{ident_of, infos_heard, range_in_work, state_of}
 use Rattle.lane_laws.specs.WorkLog.{ClientCounts, Opened, ServerCounts}
 
@@ -92,10 +92,10 @@ WorksAt l _ = ⊤
 
 -- the handshakes of both ends, by what they said and heard
 abbrev pub client_handshake : DiskLog → Handshake
-client_handshake l = handshake_of Initiator (client_offer l.shape.blocks l.shape.slots) (l.transcript.links % 2 ^ 32) l.transcript.client
+client_handshake l = handshake_of Initiator (client_offer l.shape.blocks l.shape.slots) (l.transcript.links % 2 ^ 32) l.transcript.a
 
 abbrev pub server_handshake : DiskLog → Handshake
-server_handshake l = handshake_of Responder (server_offer l.shape.blocks l.shape.slots) 0 l.transcript.server
+server_handshake l = handshake_of Responder (server_offer l.shape.blocks l.shape.slots) 0 l.transcript.b
 
 -- THE RANGES are said and heard in a session alone, and end within the ring. An INFO that is said has the next number, begins after the
 -- range before and names all that was published since, as active; but where the client was blocked with it, that is all that was accepted.
@@ -122,7 +122,7 @@ pub record Announces (l : DiskLog) (c : ClientCounts) (message : List ℕ) : Typ
   pub ends : end_slot_of message < l.shape.slots
   pub published : c.announced + range_length l.shape.slots (start_slot_of message) (end_slot_of message) ≡ c.published
   pub accepted : l.blocked.client ≡ Clear → c.base + c.published ≡ length l.work.issued
-  pub active : state_of message ≡ 1
+  pub active : state_of message ≡ ring_active
 
 pub record AsksFor (slots : ℕ) (utterances : List Utterance) (h : Handshake) (c : ServerCounts) (message : List ℕ) : Type 0 where
   pub names : NamesRing h.sid h.draft.ident_peer message
@@ -163,15 +163,15 @@ pub record HearsNoOther (subtype : ℕ) (utterances : List Utterance) (packet : 
   pub groups : (message : List ℕ) → ended_by (half_heard utterances) packet ≡ Some message → number_at 2 2 message ≢ 0x0101
 
 abbrev pub RangesAt : DiskLog → DiskEvent → Type 0
-RangesAt l (OnWire (Sent A packet opens)) = OfClientRange l (range_ended 1 (half_said l.transcript.client) packet) (Announces l)
+RangesAt l (OnWire (Sent A packet opens)) = OfClientRange l (range_ended 1 (half_said l.transcript.a) packet) (Announces l)
 RangesAt l (OnWire (Took B packet opens)) =
-    OfServerRange l (range_ended 1 (half_heard l.transcript.server) packet) (AsksFor l.shape.slots l.transcript.server (server_handshake l))
-    × HearsNoOther 1 l.transcript.server packet
+    OfServerRange l (range_ended 1 (half_heard l.transcript.b) packet) (AsksFor l.shape.slots l.transcript.b (server_handshake l))
+    × HearsNoOther 1 l.transcript.b packet
 RangesAt l (OnWire (Took A packet opens)) =
-    OfClientRange l (range_ended 2 (half_heard l.transcript.client) packet) (Acknowledges l.shape.slots (client_handshake l))
-    × HearsNoOther 2 l.transcript.client packet
+    OfClientRange l (range_ended 2 (half_heard l.transcript.a) packet) (Acknowledges l.shape.slots (client_handshake l))
+    × HearsNoOther 2 l.transcript.a packet
 RangesAt l (OnWire (Sent B packet opens)) =
-    OfServerRange l (range_ended 2 (half_said l.transcript.server) packet) (AcknowledgesRange l.shape.slots l.transcript.server (server_handshake l))
+    OfServerRange l (range_ended 2 (half_said l.transcript.b) packet) (AcknowledgesRange l.shape.slots l.transcript.b (server_handshake l))
 RangesAt l _ = ⊤
 
 -- THE PIECES: what is done is what the last descriptor owes next
@@ -223,8 +223,8 @@ PiecesAt l _ = ⊤
 -- THE OPENINGS: a session opens in the handshake's order
 abbrev pub OpensRightly : Bool → End → TranscriptLog → Type 0
 OpensRightly false e t = ⊤
-OpensRightly true A t = HandshakeOrder false Initiator t.client
-OpensRightly true B t = HandshakeOrder false Responder t.server
+OpensRightly true A t = HandshakeOrder false Initiator t.a
+OpensRightly true B t = HandshakeOrder false Responder t.b
 
 abbrev pub OpeningsAt : DiskLog → DiskEvent → Type 0
 OpeningsAt l (OnWire (Sent e packet opens)) = OpensRightly opens e (says e packet l.transcript)

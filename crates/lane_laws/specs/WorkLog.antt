@@ -6,12 +6,12 @@ use Rattle.ldc_queue.specs.declared.end.End.TheVariants.{A, B}
 use Rattle.vdisk_msg.specs.declared.request.Request.{Request}
 use Rattle.vdisk_msg.specs.Descriptor as slot_says
 use Rattle.vdisk_msg.specs.Pieces.{Finishes, Piece, pieces}
-use Rattle.channel_laws.specs.Sayings.{half_heard, half_said}
-use Rattle.channel_laws.specs.TranscriptLog.{TranscriptLog}
-use Rattle.channel_laws.specs.WireEvent.{Joined, Reset, Sent, Took, WireEvent}
-use Rattle.disk_model.specs.DiskEvent.{Accepted, Asks, Desc, DiskEvent, Done, Finished, Full, Misplaced, Moved, Off, OnWire, Published, Refused, Calms, Started, Stopped, Stored, Switches, Works}
+use Rattle.lane_models.specs.Sayings.{half_heard, half_said}
+use Rattle.lane_models.specs.TranscriptLog.{TranscriptLog}
+use Rattle.lane_models.specs.WireEvent.{Joined, Reset, Sent, Took, WireEvent}
+use Rattle.lane_models.specs.DiskEvent.{Accepted, Asks, Desc, DiskEvent, Done, Finished, Full, Misplaced, Moved, Off, OnWire, Published, Refused, Calms, Started, Stopped, Stored, Switches, Works}
 use Rattle.dring.specs.Slots.{range_length}
-use Rattle.channel_laws.specs.Messages.{end_slot_of, opening_sid, range_ended, start_slot_of}
+use Rattle.lane_models.specs.Messages.{end_slot_of, opening_sid, range_ended, start_slot_of}
 
 -- the client's open session, counted without bound: the done ones in it are all that are done less the base
 pub record ClientCounts : Type 0 where
@@ -91,24 +91,24 @@ opened_more false sid before = before
 -- a packet that an end put or took: it may end a range, and the session may open by it
 abbrev pub work_said : ℕ → TranscriptLog → WorkLog → End → List ℕ → Bool → WorkLog
 work_said slots t l A packet opens = record l {
-  client = opened_client opens (opening_sid (half_said t.client) packet) l.done
-      (change_client (λ (c : ClientCounts). record c { announced = c.announced + length_in slots (range_ended 1 (half_said t.client) packet); infos = c.infos + one_in (range_ended 1 (half_said t.client) packet) }) l.client);
+  client = opened_client opens (opening_sid (half_said t.a) packet) l.done
+      (change_client (λ (c : ClientCounts). record c { announced = c.announced + length_in slots (range_ended 1 (half_said t.a) packet); infos = c.infos + one_in (range_ended 1 (half_said t.a) packet) }) l.client);
 }
 work_said slots t l B packet opens = record l {
-  server = opened_counts opens (opening_sid (half_said t.server) packet)
-      (change_server (λ (c : ServerCounts). record c { answered = c.answered + length_in slots (range_ended 2 (half_said t.server) packet) }) l.server);
-  opened = opened_more opens (opening_sid (half_said t.server) packet) l.opened;
+  server = opened_counts opens (opening_sid (half_said t.b) packet)
+      (change_server (λ (c : ServerCounts). record c { answered = c.answered + length_in slots (range_ended 2 (half_said t.b) packet) }) l.server);
+  opened = opened_more opens (opening_sid (half_said t.b) packet) l.opened;
 }
 
 abbrev pub work_heard : ℕ → TranscriptLog → WorkLog → End → List ℕ → Bool → WorkLog
 work_heard slots t l A packet opens = record l {
-  client = opened_client opens (opening_sid (half_heard t.client) packet) l.done
-      (change_client (λ (c : ClientCounts). record c { acked = c.acked + length_in slots (range_ended 2 (half_heard t.client) packet) }) l.client);
+  client = opened_client opens (opening_sid (half_heard t.a) packet) l.done
+      (change_client (λ (c : ClientCounts). record c { acked = c.acked + length_in slots (range_ended 2 (half_heard t.a) packet) }) l.client);
 }
 work_heard slots t l B packet opens = record l {
-  server = opened_counts opens (opening_sid (half_heard t.server) packet)
-      (change_server (λ (c : ServerCounts). record c { asked = c.asked + length_in slots (range_ended 1 (half_heard t.server) packet) }) l.server);
-  opened = opened_more opens (opening_sid (half_heard t.server) packet) l.opened;
+  server = opened_counts opens (opening_sid (half_heard t.b) packet)
+      (change_server (λ (c : ServerCounts). record c { asked = c.asked + length_in slots (range_ended 1 (half_heard t.b) packet) }) l.server);
+  opened = opened_more opens (opening_sid (half_heard t.b) packet) l.opened;
 }
 
 abbrev pub work_wired : ℕ → TranscriptLog → WorkLog → WireEvent → WorkLog

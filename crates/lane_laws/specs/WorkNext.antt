@@ -1,8 +1,8 @@
 -- What comes next of a descriptor in work: its operation and what it owes tell it, but for the bytes that are held of a unit.
 use Rattle.std.specs.Prelude.{ℕ, ◌==◌, if◌then◌else◌, List, [], ◌∷◌}
 use Rattle.vdisk_msg.specs.Pieces.{Finishes, Moves, Piece, Stores}
-use Rattle.disk_model.specs.ServerState.{Ends, Flushes, Gathers, Gives, Progress, Reads, Writes}
-use Rattle.disk_model.specs.ServerWork.{unit_length}
+use Rattle.lane_models.specs.ServerState.{Ends, Flushes, Gathers, Gives, Progress, Reads, Writes}
+use Rattle.lane_models.specs.ServerWork.{unit_length}
 
 -- A unit is read from the store and then given, or gathered and then written to the store. A flush has no unit.
 abbrev pub stores_next : ℕ → ℕ → Progress

@@ -12,10 +12,10 @@ ghost use Rattle.ldc_queue.specs.declared.end.End.TheVariants.{A, B};
 ghost use Rattle.ldc_queue.specs.OneStream.{IsFront};
 ghost use Rattle.ldc_queue.specs.Transcript.{numbered_heard, numbered_said};
 ghost use Rattle.ldc_queue.specs.Wire.{peer_of};
-ghost use Rattle.channel_laws.specs.Sayings.{heard, said};
-ghost use Rattle.channel_laws.specs.TranscriptLog.{transcript_of};
-ghost use Rattle.channel_laws.specs.WireAt.{IsUp};
-ghost use Rattle.channel_laws.specs.WireEvent.{ByTick, Sent, Reset, Took, giver};
+ghost use Rattle.lane_models.specs.Sayings.{heard, said};
+ghost use Rattle.lane_models.specs.TranscriptLog.{transcript_of};
+ghost use Rattle.lane_models.specs.WireAt.{IsUp};
+ghost use Rattle.lane_models.specs.WireEvent.{ByTick, Sent, Reset, Took, giver};
 ghost use Rattle.vio_tag.specs.declared.cause.Cause.{Cause};
 ghost use Rattle.lane_laws.specs.Agreement.{ClientAgrees, IdleAgrees, ServerAgrees};
 ghost use Rattle.lane_laws.specs.DiskLog.{after, nothing_yet};
@@ -23,18 +23,18 @@ ghost use Rattle.lane_laws.specs.QuietLaws.{TickAt};
 ghost use Rattle.lane_laws.specs.RequestLaws.{AdmissionAt, CarriesAt, OnceAt, ServerRunsAt};
 ghost use Rattle.lane_laws.specs.WorkLaws.{Unforged};
 ghost use Rattle.lane_laws.specs.WorkLog.{ClientCounts, ServerCounts};
-ghost use Rattle.disk_model.specs.DiskEvent.{Desc, DiskEvent, Done, OnWire, Published, Works};
-ghost use Rattle.disk_model.specs.LaneState.{fresh, pages_of, IsShape, LaneState, Shape};
-ghost use Rattle.disk_model.specs.LaneStep.{LaneStep};
-ghost use Rattle.disk_model.specs.Offering.{client_offer, server_offer};
-ghost use Rattle.channel_laws.specs.LaneCore.{CoreFits, CoreStep, fresh_core};
+ghost use Rattle.lane_models.specs.DiskEvent.{Desc, DiskEvent, Done, OnWire, Published, Works};
+ghost use Rattle.lane_models.specs.LaneState.{fresh, pages_of, IsShape, LaneState, Shape};
+ghost use Rattle.lane_models.specs.LaneStep.{LaneStep};
+ghost use Rattle.lane_models.specs.Offering.{client_offer, server_offer};
+ghost use Rattle.lane_models.specs.LaneCore.{CoreFits, CoreStep, fresh_core};
 ghost use Rattle.lane_laws.specs.ChannelEnds.{core_event, core_of};
 ghost use Rattle.vio_handshake.specs.Offers.{Match};
 ghost use Rattle.lane_laws.specs.CompletedIds.{done_ids, CountsFrom};
 ghost use Rattle.lane_laws.specs.CompletesSlot.{CompletesSlot};
 ghost use Rattle.lane_laws.specs.CountsOrdered.{CountsOrdered};
 ghost use Rattle.lane_laws.specs.RingAgreed.{AlwaysAgree, RingStands};
-ghost use Rattle.channel_laws.specs.Grounds.{OpenRests};
+ghost use Rattle.lane_models.specs.Grounds.{OpenRests};
 ghost use Rattle.lane_laws.specs.HeardStands.{HeardAt};
 ghost use Rattle.lane_laws.specs.LaneTranscripts.{transcript_behind};
 ghost use Rattle.lane_laws.specs.SlotsInOrder.{RingInOrder};
@@ -46,7 +46,7 @@ ghost use Rattle.lane_laws.specs.OneSession.{AreOneSession};
 ghost use Rattle.lane_laws.specs.TickBegins.{TickBegins};
 ghost use Rattle.lane_laws.specs.Sound.{CountsInOrder};
 ghost use Rattle.lane_laws.specs.TableStands.{AnswersAt, TableAt};
-ghost use Rattle.channel_laws.specs.Utterances.{SaysEach};
+ghost use Rattle.lane_models.specs.Utterances.{SaysEach};
 
 /// Each run of a lane, forged or not, is a run of two ends on a channel, event by event. What its ends offer fits a
 /// program's fields, and the server expects the ring that the client offers.
@@ -148,10 +148,10 @@ pub fn ticks_are_calm_where_all_is_done()
 pub fn ends_of_a_lane_stand()
     ensures client_link { (shape : Shape) (events : List DiskEvent) (s : LaneState)
         → IsShape shape → Run LaneStep (fresh shape) events s
-        → Follows s.client.link (transcript_behind events).client }
+        → Follows s.client.link (transcript_behind events).a }
     ensures server_link { (shape : Shape) (events : List DiskEvent) (s : LaneState)
         → IsShape shape → Run LaneStep (fresh shape) events s
-        → Follows s.server.link (transcript_behind events).server }
+        → Follows s.server.link (transcript_behind events).b }
     ensures counts { (shape : Shape) (events : List DiskEvent) (s : LaneState)
         → IsShape shape → Run LaneStep (fresh shape) events s
         → CountsInOrder (length s.client.pending) s.client.session }
@@ -233,11 +233,11 @@ pub fn open_sessions_rest_on_what_was_heard()
     ensures client { (shape : Shape) (events : List DiskEvent) (s : LaneState)
         → IsShape shape → Run LaneStep (fresh shape) events s
         → is_some s.client.session ≡ true
-        → OpenRests Initiator s.client.handshake (heard (transcript_behind events).client) }
+        → OpenRests Initiator s.client.handshake (heard (transcript_behind events).a) }
     ensures server { (shape : Shape) (events : List DiskEvent) (s : LaneState)
         → IsShape shape → Run LaneStep (fresh shape) events s
         → is_some s.server.session ≡ true
-        → OpenRests Responder s.server.handshake (heard (transcript_behind events).server) }
+        → OpenRests Responder s.server.handshake (heard (transcript_behind events).b) }
 {}
 
 /// Along every run of a lane, forged or not: each message that an end said since it last began is as its handshake has
@@ -246,10 +246,10 @@ pub fn open_sessions_rest_on_what_was_heard()
 pub fn ends_say_what_their_handshakes_hold()
     ensures client { (shape : Shape) (events : List DiskEvent) (s : LaneState)
         → IsShape shape → Run LaneStep (fresh shape) events s
-        → SaysEach Initiator s.client.handshake.phase s.client.handshake.offer s.client.handshake.draft (said (transcript_behind events).client) }
+        → SaysEach Initiator s.client.handshake.phase s.client.handshake.offer s.client.handshake.draft (said (transcript_behind events).a) }
     ensures server { (shape : Shape) (events : List DiskEvent) (s : LaneState)
         → IsShape shape → Run LaneStep (fresh shape) events s
-        → SaysEach Responder s.server.handshake.phase s.server.handshake.offer s.server.handshake.draft (said (transcript_behind events).server) }
+        → SaysEach Responder s.server.handshake.phase s.server.handshake.offer s.server.handshake.draft (said (transcript_behind events).b) }
 {}
 
 /// On a lane that nobody forged, each message that an end that is up has heard since it last began is as the other
@@ -258,11 +258,11 @@ pub fn what_is_heard_is_as_the_other_end_has_it()
     ensures client { (shape : Shape) (events : List DiskEvent) (s : LaneState)
         → IsShape shape → Run LaneStep (fresh shape) events s
         → s.wire.forged ≡ false → IsUp A s.wire.wire
-        → SaysEach Responder s.server.handshake.phase s.server.handshake.offer s.server.handshake.draft (heard (transcript_behind events).client) }
+        → SaysEach Responder s.server.handshake.phase s.server.handshake.offer s.server.handshake.draft (heard (transcript_behind events).a) }
     ensures server { (shape : Shape) (events : List DiskEvent) (s : LaneState)
         → IsShape shape → Run LaneStep (fresh shape) events s
         → s.wire.forged ≡ false → IsUp B s.wire.wire
-        → SaysEach Initiator s.client.handshake.phase s.client.handshake.offer s.client.handshake.draft (heard (transcript_behind events).server) }
+        → SaysEach Initiator s.client.handshake.phase s.client.handshake.offer s.client.handshake.draft (heard (transcript_behind events).b) }
 {}
 
 /// On a lane that nobody forged, whatever was lost, reset, stopped or restarted: where both sessions are open both ends

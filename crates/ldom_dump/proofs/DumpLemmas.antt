@@ -21,7 +21,7 @@ use Rattle.ldom_dump.specs.declared.lines.Ended.{Ended}
 use Rattle.ldom_dump.specs.DumpReport.{Dumps, SourceTells, Written, dump_text, end_line}
 use Rattle.ldom_dump.specs.Going.{DumpsLines, Finishes, GathersUnlessSinkFault, PutsPacket, TellsCarried, TellsMessage}
 use Rattle.ldom_report.specs.Stops.{EndsTold, IsReaders}
-use Rattle.ldom_dump.specs.Reading.{ReadsBytes, DumpStopsAt}
+use Rattle.ldom_dump.specs.Reading.{ReadsBytes, DumpStops}
 
 -- the message that a packet carries was told
 pub tells_carried : (of : Option (List ℕ)) (bytes old new : List ℕ) → of ≡ Some bytes → TellsMessage bytes old new → TellsCarried of old new
@@ -129,7 +129,7 @@ ended_so why lines packets faults = record { why = why; lines = lines; packets =
 
 -- no further line is read
 pub lines_stop : (stop : LinesStop) (start rest now old new : Option (List ℕ)) (held : List ℕ) (ended : Ended) (gathered : List ℕ) (count : ℕ)
-    → LinesSoFar stop start rest old new gathered count ended.packets ended.faults → IsReaders ended.why → DumpStopsAt ended.why rest held now count → (ended.why ≡ the_status.SourceFault → stop ≡ Going)
+    → LinesSoFar stop start rest old new gathered count ended.packets ended.faults → IsReaders ended.why → DumpStops ended.why rest held now count → (ended.why ≡ the_status.SourceFault → stop ≡ Going)
     → ended.lines ≡ counted_lines ended.why count → DumpsLines start now ended old new gathered
 lines_stop stop start rest now old new held ended gathered count so_far readers stops going is = record {
   all = so_far.all;
@@ -137,7 +137,7 @@ lines_stop stop start rest now old new held ended gathered count so_far readers 
   taken = so_far.taken;
   are = so_far.are;
   held = held;
-  stop = subst (λ (n : ℕ). DumpStopsAt ended.why rest held now n) so_far.counts stops;
+  stop = subst (λ (n : ℕ). DumpStops ended.why rest held now n) so_far.counts stops;
   feeds = λ failed. so_far.feeds (going failed);
   lines_are = λ other. is ∙ ap (λ (n : ℕ). counted_lines ended.why n) so_far.counts;
   packets_are = so_far.packets_are;
@@ -154,7 +154,7 @@ lines_cut stop start rest now old mid new held line gathered after count lines p
   taken = so_far.taken;
   are = so_far.are;
   held = held;
-  stop = (line, next);
+  stop = record { reason = tt; left = (line, next) };
   feeds = λ failed. cc failed;
   lines_are = λ other. absurd (other refl);
   packets_are = so_far.packets_are;
@@ -168,7 +168,7 @@ nothing_held (Some bytes) = refl
 
 -- memory was wanted before the first line
 pub lines_unread : (start old : Option (List ℕ)) (gathered : List ℕ) → gathered ≡ [] → DumpsLines start start (ended_so the_status.NoMemory 0 0 0) old old gathered
-lines_unread start old gathered none = lines_stop Going start start start old old [] (ended_so the_status.NoMemory 0 0 0) gathered 0 (so_far_none Going start old gathered 0 refl none) tt (refl, refl, nothing_held start) (λ _. refl) refl
+lines_unread start old gathered none = lines_stop Going start start start old old [] (ended_so the_status.NoMemory 0 0 0) gathered 0 (so_far_none Going start old gathered 0 refl none) tt (record { reason = (refl, refl); left = nothing_held start }) (λ _. refl) refl
 
 -- how a last line was written after what was gathered
 ends : (why status : Status) (old mid new : Option (List ℕ)) (gathered text last whole : List ℕ) → whole ≡ text ++ last → Gathers old mid gathered text

@@ -11,8 +11,8 @@ use Rattle.ldom_report.specs.declared.status.Status.{Status}
 use Rattle.ldom_report.specs.declared.status.Status.TheVariants as the_status
 use Rattle.ldom_dump.specs.Decoded.{Decoded}
 use Rattle.ldom_dump.specs.DumpReport.{Dumps, SourceTells, Written}
-use Rattle.ldom_dump.specs.Reading.{IsNoDigits, DumpStopsAt}
-use Rattle.ldom_dump.specs.Whole.{AreDigits, IsDigits, IsWhole}
+use Rattle.ldom_dump.specs.Reading.{IsNoDigits, DumpStops}
+use Rattle.ldom_dump.specs.Whole.{AreDigits, IsDigits, IsWholeDump}
 
 are_behind : (xs ys : List (List ℕ)) → AreDigits (xs ++ ys) → AreDigits ys
 are_behind [] ys are = are
@@ -59,23 +59,23 @@ none_more (Some rest) bytes texts taken all some few =
     omega (arith, ap (λ (l : List (List ℕ)). length l) taken.0, length-append texts (script_lines rest), lines_some rest some)
 
 -- each other reason to end has its cause
-ended : (why status : Status) (old new rest now : Option (List ℕ)) (held : List ℕ) (all : List Decoded) (bytes : List ℕ) → TakesLines (Some bytes) rest (map (λ decoded. decoded.line) all) → DumpStopsAt why rest held now (length all) → Written why status old new all → IsWhole bytes
+ended : (why status : Status) (old new rest now : Option (List ℕ)) (held : List ℕ) (all : List Decoded) (bytes : List ℕ) → TakesLines (Some bytes) rest (map (λ decoded. decoded.line) all) → DumpStops why rest held now (length all) → Written why status old new all → IsWholeDump bytes
     → status ≢ the_status.SourceFault → status ≢ the_status.SinkFault → (status ≡ the_status.Done) ⊎ (status ≡ the_status.NoMemory)
 ended the_status.Done status old new rest now held all bytes taken stop written whole source sink = elim written [ inl wrote ↦ inl wrote.0 | inr failed ↦ absurd (sink failed.0) ]
 ended the_status.NoMemory status old new rest now held all bytes taken stop written whole source sink = elim written [ inl wrote ↦ inr wrote.0 | inr failed ↦ absurd (sink failed.0) ]
 ended the_status.SourceFault status old new rest now held all bytes taken stop written whole source sink = elim written [ inl wrote ↦ absurd (source wrote.0) | inr failed ↦ absurd (sink failed.0) ]
 ended the_status.SinkFault status old new rest now held all bytes taken stop written whole source sink = absurd (sink written.0)
-ended (the_status.Script at fault) status old new rest now held all bytes taken stop written whole source sink = absurd (no_fault rest (prepend_known held now) bytes _ fault taken stop.2 whole.digits)
-ended (the_status.Limit at Bytes) status old new rest now held all bytes taken stop written whole source sink = absurd (none_longer rest bytes _ taken stop.1.1 whole.digits)
-ended (the_status.Limit at Entries) status old new rest now held all bytes taken stop written whole source sink = absurd stop.1
+ended (the_status.Script at fault) status old new rest now held all bytes taken stop written whole source sink = absurd (no_fault rest (prepend_known held now) bytes _ fault taken stop.reason.2 whole.digits)
+ended (the_status.Limit at Bytes) status old new rest now held all bytes taken stop written whole source sink = absurd (none_longer rest bytes _ taken stop.reason.1.1 whole.digits)
+ended (the_status.Limit at Entries) status old new rest now held all bytes taken stop written whole source sink = absurd stop.reason.1
 ended (the_status.Limit at Lines) status old new rest now held all bytes taken stop written whole source sink =
-    absurd (none_more rest bytes _ taken (length-map all (λ (d : Decoded). d.line) ∙ stop.1.0) stop.1.1 whole.few)
-ended the_status.Usage status old new rest now held all bytes taken stop written whole source sink = absurd stop
-ended the_status.HostFault status old new rest now held all bytes taken stop written whole source sink = absurd stop
-ended the_status.StoreFault status old new rest now held all bytes taken stop written whole source sink = absurd stop
-ended (the_status.ImageSize need have) status old new rest now held all bytes taken stop written whole source sink = absurd stop
+    absurd (none_more rest bytes _ taken (length-map all (λ (d : Decoded). d.line) ∙ stop.reason.1.0) stop.reason.1.1 whole.few)
+ended the_status.Usage status old new rest now held all bytes taken stop written whole source sink = absurd stop.reason
+ended the_status.HostFault status old new rest now held all bytes taken stop written whole source sink = absurd stop.reason
+ended the_status.StoreFault status old new rest now held all bytes taken stop written whole source sink = absurd stop.reason
+ended (the_status.ImageSize need have) status old new rest now held all bytes taken stop written whole source sink = absurd stop.reason
 
-pub completes : (before now : SourceTells) (status : Status) (old new : Option (List ℕ)) (bytes : List ℕ) → Dumps before now status old new → before.left ≡ Some bytes → IsWhole bytes
+pub completes : (before now : SourceTells) (status : Status) (old new : Option (List ℕ)) (bytes : List ℕ) → Dumps before now status old new → before.left ≡ Some bytes → IsWholeDump bytes
     → status ≢ the_status.SourceFault → status ≢ the_status.SinkFault → (status ≡ the_status.Done) ⊎ (status ≡ the_status.NoMemory)
 completes before now status old new bytes dumps is whole source sink =
     ended dumps.why status old new dumps.left now.left dumps.held dumps.all bytes (subst (λ (s : Option (List ℕ)). TakesLines s dumps.left (map (λ (d : Decoded). d.line) dumps.all)) is dumps.taken.taken) dumps.stop dumps.written whole source sink

@@ -14,7 +14,7 @@ use Rattle.ldom_report.specs.Report.{cause_text}
 use Rattle.ldom_report.specs.Status.{status_number}
 use Rattle.ldom_dump.specs.Decoded.{AreOfLines, Decoded, decoded_lines, is_fault, is_packet}
 use Rattle.ldom_dump.specs.Fields.{field_text}
-use Rattle.ldom_dump.specs.Reading.{DumpStopsAt}
+use Rattle.ldom_dump.specs.Reading.{DumpStops}
 
 -- how many lines were taken up, how many of them are packets, and how many aren't
 abbrev pub counts_text : ℕ → ℕ → ℕ → List ℕ
@@ -59,6 +59,6 @@ pub record Dumps (before now : SourceTells) (status : Status) (old new : Option 
   pub why : Status
   pub told : Fails (why ≡ SourceFault) before.faults now.faults
   pub ends : EndsTold why before.ends now.ends
-  pub stop : DumpStopsAt why left held now.left (length all)
+  pub stop : DumpStops why left held now.left (length all)
   pub feeds : why ≡ SourceFault → AllFed before.left left (map (λ decoded. decoded.line) all)
   pub written : Written why status old new all

@@ -19,7 +19,7 @@ use Rattle.ldom_dump.specs.declared.lines.Ended.{Ended}
 use Rattle.ldom_dump.specs.Decoded.{AreOfLines, CarriesMessage, CarriesIn, Decoded, decoded_lines, is_fault, is_ok, is_packet}
 use Rattle.ldom_dump.specs.MessageText.{carried_line, message_line}
 use Rattle.ldom_dump.specs.PacketText.{packet_line}
-use Rattle.ldom_dump.specs.Reading.{DumpStopsAt}
+use Rattle.ldom_dump.specs.Reading.{DumpStops}
 
 -- the line of the message that these bytes spell was put after a text, or that of their fault
 pub record TellsMessage (bytes old new : List ℕ) : Type 0 where
@@ -61,7 +61,7 @@ pub record DumpsLines (start now : Option (List ℕ)) (ended : Ended) (old new :
   pub taken : LinesTaken start left (map (λ decoded. decoded.line) all)
   pub are : AreOfLines all
   pub held : List ℕ
-  pub stop : DumpStopsAt ended.why left held now (length all)
+  pub stop : DumpStops ended.why left held now (length all)
   pub feeds : ended.why ≡ SourceFault → AllFed start left (map (λ decoded. decoded.line) all)
   pub lines_are : ended.why ≢ SinkFault → ended.lines ≡ counted_lines ended.why (length all)
   pub packets_are : ended.packets ≡ count_by is_packet all

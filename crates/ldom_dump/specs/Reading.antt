@@ -1,5 +1,5 @@
 -- Why no further line of a dump is decoded.
-use Rattle.std.specs.Prelude.{◌≡◌, ℕ, ◌+◌, ◌≤◌, List, [], length, Option}
+use Rattle.std.specs.Prelude.{◌≡◌, ℕ, ◌+◌, ◌≤◌, List, [], length, Option, ⊤}
 use Rattle.std.specs.Io.KnownBytes.{IsAtEnd, Keeps, prepend_known}
 use Rattle.domain_script.specs.declared.event.LineFault.{LineFault}
 use Rattle.domain_script.specs.declared.event.LineFault.TheVariants.{Hex}
@@ -29,17 +29,27 @@ pub record IsNoDigits (rest left : Option (List ℕ)) (fault : LineFault) : Type
   pub nothing : (bytes : List ℕ) → SpellsBytes line bytes → ⊥
   pub hex : fault ≡ Hex
 
--- Why no further line is decoded after so many: `rest` is to come after them, and then `held` and what the source has
--- left. Where the source failed, no line is whole in what is held, and no limit is met; where the sink did, one more line was
--- read. Memory is wanted before a byte is taken.
-abbrev pub DumpStopsAt : Status → Option (List ℕ) → List ℕ → Option (List ℕ) → ℕ → Type 0
-DumpStopsAt (status.Script at fault) rest held now count = (at ≡ count + 1) × (at ≤ most_lines) × IsNoDigits rest (prepend_known held now) fault
-DumpStopsAt (status.Limit at kind) rest held now count = (at ≡ count + 1) × IsPast kind rest count × Keeps rest (prepend_known held now)
-DumpStopsAt status.Done rest held now count = IsAtEnd rest × Keeps rest (prepend_known held now)
-DumpStopsAt status.SourceFault rest held now count = DecidesNothing count held × Keeps rest (prepend_known held now)
-DumpStopsAt status.SinkFault rest held now count = (line : List ℕ) × TakesLine rest (prepend_known held now) line
-DumpStopsAt status.NoMemory rest held now count = (count ≡ 0) × (held ≡ []) × Keeps rest (prepend_known held now)
-DumpStopsAt status.StoreFault rest held now count = ⊥
-DumpStopsAt (status.ImageSize need have) rest held now count = ⊥
-DumpStopsAt status.HostFault rest held now count = ⊥
-DumpStopsAt status.Usage rest held now count = ⊥
+-- WHY no further line is decoded after so many, where `rest` is to come after them: it isn't digits, a limit is met, it is at
+-- its end, or the source failed, while no line is whole in what is held. Memory is wanted before a byte is taken.
+abbrev pub HasDumpReason : Status → Option (List ℕ) → Option (List ℕ) → List ℕ → ℕ → Type 0
+HasDumpReason (status.Script at fault) rest left held count = (at ≡ count + 1) × (at ≤ most_lines) × IsNoDigits rest left fault
+HasDumpReason (status.Limit at kind) rest left held count = (at ≡ count + 1) × IsPast kind rest count
+HasDumpReason status.Done rest left held count = IsAtEnd rest
+HasDumpReason status.SourceFault rest left held count = DecidesNothing count held
+HasDumpReason status.SinkFault rest left held count = ⊤
+HasDumpReason status.NoMemory rest left held count = (count ≡ 0) × (held ≡ [])
+HasDumpReason status.StoreFault rest left held count = ⊥
+HasDumpReason (status.ImageSize need have) rest left held count = ⊥
+HasDumpReason status.HostFault rest left held count = ⊥
+HasDumpReason status.Usage rest left held count = ⊥
+
+-- WHAT IS LEFT of it: all, but that a line was read which isn't digits, or whose text the sink didn't take
+abbrev pub DumpLeaves : Status → Option (List ℕ) → Option (List ℕ) → Type 0
+DumpLeaves (status.Script at fault) rest left = (line : List ℕ) × TakesLine rest left line
+DumpLeaves status.SinkFault rest left = (line : List ℕ) × TakesLine rest left line
+DumpLeaves why rest left = Keeps rest left
+
+-- both, where `held` and then what the source has are left
+pub record DumpStops (why : Status) (rest : Option (List ℕ)) (held : List ℕ) (now : Option (List ℕ)) (count : ℕ) : Type 0 where
+  pub reason : HasDumpReason why rest (prepend_known held now) held count
+  pub left : DumpLeaves why rest (prepend_known held now)

@@ -14,6 +14,6 @@ AreDigits [] = ⊤
 AreDigits (line ∷ lines) = IsDigits line × AreDigits lines
 
 -- each line is digits, and there are no more lines than there may be
-pub record IsWhole (bytes : List ℕ) : Type 0 where
+pub record IsWholeDump (bytes : List ℕ) : Type 0 where
   pub digits : AreDigits (script_lines bytes)
   pub few : length (script_lines bytes) ≤ most_lines

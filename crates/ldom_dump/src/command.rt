@@ -2,7 +2,7 @@
 ghost use Rattle.std.specs.Prelude.{◌≡◌, ◌≢◌, ◌≤◌, ◌⊎◌, ℕ, List, Some};
 ghost use Rattle.vio_io.specs.Causes.{Fails, Rose};
 ghost use Rattle.ldom_dump.specs.DumpReport.{Dumps, source_tells};
-ghost use Rattle.ldom_dump.specs.Whole.{IsWhole};
+ghost use Rattle.ldom_dump.specs.Whole.{IsWholeDump};
 
 use crate::end_line::finish;
 use crate::lines::dump_all;
@@ -25,7 +25,7 @@ pub fn dump<S: Source, K: Sink>(alloc: Global, script: &mut S, out: &mut K) -> S
         result (K.written out.old) (K.written out.new) }
 
     // A script of packets alone is dumped to its end, unless something failed.
-    ensures complete { (bytes : List ℕ) → S.left script.old ≡ Some bytes → IsWhole bytes
+    ensures complete { (bytes : List ℕ) → S.left script.old ≡ Some bytes → IsWholeDump bytes
         → ¬ Rose (S.faults script.old) (S.faults script.new) → ¬ Rose (K.faults out.old) (K.faults out.new)
         → (result ≡ Status.Done) ⊎ (result ≡ Status.NoMemory) }
 

@@ -6,7 +6,7 @@ ghost use Rattle.ldom_report.specs.LinesEnd.{counted_lines};
 ghost use Rattle.ldom_dump.specs.Decoded.{SpellsBytes};
 ghost use Rattle.vio_io.specs.Causes.{Fails};
 ghost use Rattle.ldom_report.specs.Stops.{ReaderStandsAt, stop_status};
-ghost use Rattle.ldom_dump.specs.Reading.{ReadsBytes, DumpStopsAt};
+ghost use Rattle.ldom_dump.specs.Reading.{ReadsBytes, DumpStops};
 ghost use Rattle.domain_script.specs.Limits.{most_lines};
 
 use domain_script::decode_lower;
@@ -40,7 +40,7 @@ pub fn read_bytes<S: Source>(lines: &mut Lines, source: &mut S) -> Result<[u8; 6
     ensures next { IfOk result (λ _. (lines.new.number ≡ lines.old.number + 1) × (lines.new.number ≤ most_lines)
         × GoesOn lines.new (S.left source.new)) }
 
-    ensures stop { IfErr result (λ stop. DumpStopsAt (stop_status stop lines.new.number)
+    ensures stop { IfErr result (λ stop. DumpStops (stop_status stop lines.new.number)
         (to_come lines.old (S.left source.old)) lines.new.held (S.left source.new) lines.old.number) }
     ensures lines { IfErr result (λ stop. lines.new.number ≡ counted_lines (stop_status stop lines.new.number)
         lines.old.number) }

@@ -2,7 +2,7 @@
 use Rattle.std.proofs.Common.{◌≡◌, Bool, true, false, List, [], ◌∷◌, ◌++◌, append_assoc, take, refl, sym, ap, subst, ◌∙◌}
 use Rattle.std.proofs.lemmas.List.Elements.{All-append, All-cons, All-nil}
 use Rattle.std.specs.Prelude.{◌||◌, slice_index_or}
-use Rattle.ldom_entries.specs.Beside.{Holds, Lists, rest_of}
+use Rattle.ldom_entries.specs.Beside.{HoldsShare, Lists, rest_of}
 use Rattle.ldom_entries.specs.Decoded.{AreComplete, entries_of, first_entry, kind_of, share}
 use Rattle.ldom_entries.specs.Seen.{BeginsSeen, PassesUnseen, is_seen, may_be_seen}
 use Rattle.ldom_entries.specs.Whole.{AreKeptWhole}
@@ -17,7 +17,7 @@ first_whole [] whole = refl
 first_whole (first ∷ others) whole = ap (λ (b : Bool). b || is_seen first) whole.0
 
 -- what stands beside a header doesn't change whether its entry may be seen
-seen_by_kind : (h : Header) (l : Lists) → Holds (share h) l → may_be_seen (first_entry h l) ≡ may_be_seen (kind_of h)
+seen_by_kind : (h : Header) (l : Lists) → HoldsShare (share h) l → may_be_seen (first_entry h l) ≡ may_be_seen (kind_of h)
 seen_by_kind header.Whole l holds = first_whole (take 1 l.wholes) holds.are_whole
 seen_by_kind h l holds = refl
 
@@ -34,7 +34,7 @@ pub passes_one : (headers others : List Header) (h : Header) (l m : Lists) → h
     → PassesUnseen (entries_of headers l) (entries_of others m)
 passes_one headers others h l m first unseen complete left =
     let own : Entry = first_entry h l in
-    let holds : Holds (share h) l = (subst (λ (hs : List Header). AreComplete hs l) first complete).0 in
+    let holds : HoldsShare (share h) l = (subst (λ (hs : List Header). AreComplete hs l) first complete).0 in
     record {
       passed = own ∷ [];
       are =
@@ -58,7 +58,7 @@ passes_more old middle new before later = record {
 pub begins_seen : (headers others : List Header) (h : Header) (l : Lists) → headers ≡ h ∷ others → may_be_seen (kind_of h) ≡ true → AreComplete headers l
     → BeginsSeen (entries_of headers l)
 begins_seen headers others h l first seen complete =
-    let holds : Holds (share h) l = (subst (λ (hs : List Header). AreComplete hs l) first complete).0 in
+    let holds : HoldsShare (share h) l = (subst (λ (hs : List Header). AreComplete hs l) first complete).0 in
     subst (λ (hs : List Header). BeginsSeen (entries_of hs l)) (sym first) (seen_by_kind h l holds ∙ seen)
 
 pub ruleset passing = (passes_none, passes_one, passes_more, begins_seen)

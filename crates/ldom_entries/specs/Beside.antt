@@ -82,7 +82,7 @@ rest_of s l = record {
 }
 
 -- the lists are long enough for an entry, and what it takes of the entries that are kept whole is of such a kind
-pub record Holds (s : Share) (l : Lists) : Type 0 where
+pub record HoldsShare (s : Share) (l : Lists) : Type 0 where
   pub has_numbers : s.numbers ≤ length l.numbers
   pub has_packets : s.packets ≤ length l.packets
   pub has_descriptors : s.descriptors ≤ length l.descriptors

@@ -7,7 +7,7 @@ use Rattle.vdisk_msg.specs.declared.request.Request.{Request}
 use Rattle.vdisk_msg.specs.declared.request.Request.TheVariants.{Flush}
 use Rattle.vio_tag.specs.declared.cause.Cause.{Cause}
 use Rattle.vio_tag.specs.declared.cause.Cause.TheVariants.{Asked}
-use Rattle.ldom_entries.specs.Beside.{Lists, Share, Holds, nothing, rest_of, share_of}
+use Rattle.ldom_entries.specs.Beside.{Lists, Share, HoldsShare, nothing, rest_of, share_of}
 use Rattle.kept_requests.specs.Bytes.{BytesState, filled}
 use Rattle.ldom_entries.specs.declared.entry.Entry.{Entry}
 use Rattle.ldom_entries.specs.declared.entry.Entry.TheVariants as entry
@@ -165,7 +165,7 @@ entries_of (h ∷ headers) l = first_entry h l ∷ entries_of headers (rest_of (
 -- each finds its share, and nothing is left after the last
 abbrev pub AreComplete : List Header → Lists → Type 0
 AreComplete [] l = l ≡ nothing
-AreComplete (h ∷ headers) l = Holds (share h) l × AreComplete headers (rest_of (share h) l)
+AreComplete (h ∷ headers) l = HoldsShare (share h) l × AreComplete headers (rest_of (share h) l)
 
 -- the kind of a header's entry, which doesn't ask what stands beside it; for an entry that is kept whole, one that may be seen
 abbrev pub kind_of : Header → Entry

@@ -1,5 +1,5 @@
 ghost use Rattle.std.specs.Prelude.{◌≡◌, ◌<◌, ◌≤◌, true, ◌∷◌, length};
-ghost use Rattle.ldom_entries.specs.Beside.{Holds, Lists, made, rest_of, share_of};
+ghost use Rattle.ldom_entries.specs.Beside.{HoldsShare, Lists, made, rest_of, share_of};
 ghost use Rattle.ldom_entries.specs.Decoded.{a_whole, cause_in, descriptor_in, entry_of, first_entry, first_number};
 ghost use Rattle.ldom_entries.specs.Decoded.{frame_in, framed, kind_of, needs, one_where, packet_in, packet_where};
 ghost use Rattle.ldom_entries.specs.Decoded.{read_in, request_in, second_number, share, these, whole_in};
@@ -190,7 +190,7 @@ impl<'a> Beside<'a> {
     /// this isn't inlined: else each kind of entry would be made with the parts of all others.
     #[inline(never)]
     pub(crate) fn read_into(&mut self, header: Header, entry: &mut EntryRef<'a>)
-        requires { Holds (share header) self.old }
+        requires { HoldsShare (share header) self.old }
         ensures told { told entry.new ≡ first_entry header self.old }
         ensures rest { self.new ≡ rest_of (share header) self.old }
     {
@@ -236,7 +236,7 @@ impl<'a> Beside<'a> {
     /// Takes the share of a header from the front of the lists, as `read_into` does, and hands on no entry. Of the
     /// kinds that most steps give none is made.
     pub(crate) fn pass(&mut self, header: Header)
-        requires { Holds (share header) self.old }
+        requires { HoldsShare (share header) self.old }
         ensures { self.new ≡ rest_of (share header) self.old }
     {
         match header {
@@ -263,7 +263,7 @@ impl<'a> Beside<'a> {
 
     /// A guest's request was taken up. Beside it: its id, and the request.
     fn accepted(&mut self, disk: u32) -> EntryRef<'a>
-        requires { Holds (these 1 0 0 0 1 0) self.old }
+        requires { HoldsShare (these 1 0 0 0 1 0) self.old }
         ensures told { told result ≡ first_entry (the_header.Accepted disk) self.old }
         ensures rest { self.new ≡ rest_of (these 1 0 0 0 1 0) self.old }
     {
@@ -276,7 +276,7 @@ impl<'a> Beside<'a> {
 
     /// A frame was handed to a guest. Beside it: its id, and the frame.
     fn queued(&mut self, port: u32) -> EntryRef<'a>
-        requires { Holds (framed 1) self.old }
+        requires { HoldsShare (framed 1) self.old }
         ensures told { told result ≡ first_entry (the_header.Queued port) self.old }
         ensures rest { self.new ≡ rest_of (framed 1) self.old }
     {
@@ -289,7 +289,7 @@ impl<'a> Beside<'a> {
 
     /// A packet was lost. Beside it: the packet.
     fn lost(&mut self, at: EndMark, number: u32) -> EntryRef<'a>
-        requires { Holds (needs 0 1) self.old }
+        requires { HoldsShare (needs 0 1) self.old }
         ensures told { told result ≡ first_entry (the_header.Lost at number) self.old }
         ensures rest { self.new ≡ rest_of (needs 0 1) self.old }
     {
@@ -301,7 +301,7 @@ impl<'a> Beside<'a> {
 
     /// A packet was forged. Beside it: the packet.
     fn injected(&mut self, at: EndMark, number: u32) -> EntryRef<'a>
-        requires { Holds (needs 0 1) self.old }
+        requires { HoldsShare (needs 0 1) self.old }
         ensures told { told result ≡ first_entry (the_header.Injected at number) self.old }
         ensures rest { self.new ≡ rest_of (needs 0 1) self.old }
     {
@@ -313,7 +313,7 @@ impl<'a> Beside<'a> {
 
     /// An end was configured. Beside it: how many frames were lost by that.
     fn joined(&mut self, at: EndMark, number: u32) -> EntryRef<'a>
-        requires { Holds (needs 1 0) self.old }
+        requires { HoldsShare (needs 1 0) self.old }
         ensures told { told result ≡ first_entry (the_header.Joined at number) self.old }
         ensures rest { self.new ≡ rest_of (needs 1 0) self.old }
     {
@@ -325,7 +325,7 @@ impl<'a> Beside<'a> {
 
     /// An end took a packet. Beside it: the packet.
     fn took(&mut self, at: EndMark, opens: bool, number: u32) -> EntryRef<'a>
-        requires { Holds (needs 0 1) self.old }
+        requires { HoldsShare (needs 0 1) self.old }
         ensures told { told result ≡ first_entry (the_header.Took at opens number) self.old }
         ensures rest { self.new ≡ rest_of (needs 0 1) self.old }
     {
@@ -338,7 +338,7 @@ impl<'a> Beside<'a> {
 
     /// An end put a packet. Beside it: the packet.
     fn sent(&mut self, at: EndMark, opens: bool, number: u32) -> EntryRef<'a>
-        requires { Holds (needs 0 1) self.old }
+        requires { HoldsShare (needs 0 1) self.old }
         ensures told { told result ≡ first_entry (the_header.Sent at opens number) self.old }
         ensures rest { self.new ≡ rest_of (needs 0 1) self.old }
     {
@@ -351,7 +351,7 @@ impl<'a> Beside<'a> {
 
     /// The client put a request into its ring. Beside it: its id.
     fn published(&mut self, at: EndMark, number: u32) -> EntryRef<'a>
-        requires { Holds (needs 1 0) self.old }
+        requires { HoldsShare (needs 1 0) self.old }
         ensures told { told result ≡ first_entry (the_header.Published at number) self.old }
         ensures rest { self.new ≡ rest_of (needs 1 0) self.old }
     {
@@ -363,7 +363,7 @@ impl<'a> Beside<'a> {
 
     /// A request was completed. Beside it: its id, its status and, where `read` says so, the bytes.
     fn done(&mut self, operation: u8, read: bool, disk: u32) -> EntryRef<'a>
-        requires { Holds (these 2 0 0 (one_where read) 0 0) self.old }
+        requires { HoldsShare (these 2 0 0 (one_where read) 0 0) self.old }
         ensures told { told result ≡ first_entry (the_header.Done operation read disk) self.old }
         ensures rest { self.new ≡ rest_of (these 2 0 0 (one_where read) 0 0) self.old }
     {
@@ -388,7 +388,7 @@ impl<'a> Beside<'a> {
 
     /// The server fetched the descriptor of a slot. Beside it: the slot, and the descriptor.
     fn desc(&mut self, at: EndMark, number: u32) -> EntryRef<'a>
-        requires { Holds (these 1 0 1 0 0 0) self.old }
+        requires { HoldsShare (these 1 0 1 0 0 0) self.old }
         ensures told { told result ≡ first_entry (the_header.Desc at number) self.old }
         ensures rest { self.new ≡ rest_of (these 1 0 1 0 0 0) self.old }
     {
@@ -401,7 +401,7 @@ impl<'a> Beside<'a> {
 
     /// The server copied a unit, or why it couldn't. Beside it: the unit.
     fn moved(&mut self, end: EndName, fault: Option<CopyFault>) -> EntryRef<'a>
-        requires { Holds (needs 1 0) self.old }
+        requires { HoldsShare (needs 1 0) self.old }
         ensures told { told result ≡ the_entry.Moved end (first_number (share_of (needs 1 0) self.old)) fault }
         ensures rest { self.new ≡ rest_of (needs 1 0) self.old }
     {
@@ -414,7 +414,7 @@ impl<'a> Beside<'a> {
 
     /// The server called its store. Beside it: the first block, and how many.
     fn stored(&mut self, end: EndName, operation: u8, failed: bool) -> EntryRef<'a>
-        requires { Holds (needs 2 0) self.old }
+        requires { HoldsShare (needs 2 0) self.old }
         ensures told { told result ≡ the_entry.Stored end operation (first_number (share_of (needs 2 0) self.old))
             (second_number (share_of (needs 2 0) self.old)) failed }
         ensures rest { self.new ≡ rest_of (needs 2 0) self.old }
@@ -431,7 +431,7 @@ impl<'a> Beside<'a> {
 
     /// The server gave the descriptor of a slot its status. Beside it: the slot, and the status.
     fn finished(&mut self, at: EndMark, number: u32) -> EntryRef<'a>
-        requires { Holds (needs 2 0) self.old }
+        requires { HoldsShare (needs 2 0) self.old }
         ensures told { told result ≡ first_entry (the_header.Finished at number) self.old }
         ensures rest { self.new ≡ rest_of (needs 2 0) self.old }
     {
@@ -445,7 +445,7 @@ impl<'a> Beside<'a> {
 
     /// A guest took a frame. Beside it: the frame.
     fn frame_taken(&mut self, at: EndMark, number: u32) -> EntryRef<'a>
-        requires { Holds (framed 0) self.old }
+        requires { HoldsShare (framed 0) self.old }
         ensures told { told result ≡ first_entry (the_header.Frame at number) self.old }
         ensures rest { self.new ≡ rest_of (framed 0) self.old }
     {
@@ -457,7 +457,7 @@ impl<'a> Beside<'a> {
 
     /// The switch took a frame. Beside it: the ports that have it, those that were full, and the frame.
     fn switched(&mut self, at: EndMark, number: u32) -> EntryRef<'a>
-        requires { Holds (framed 2) self.old }
+        requires { HoldsShare (framed 2) self.old }
         ensures told { told result ≡ first_entry (the_header.Switched at number) self.old }
         ensures rest { self.new ≡ rest_of (framed 2) self.old }
     {
@@ -472,7 +472,7 @@ impl<'a> Beside<'a> {
 
     /// An end was reset. Beside it: the cause, the packet where it has one, and how many frames were lost by that.
     fn reset(&mut self, at: EndMark, packet: bool, number: u32) -> EntryRef<'a>
-        requires { Holds (these 1 (one_where packet) 0 0 0 1) self.old }
+        requires { HoldsShare (these 1 (one_where packet) 0 0 0 1) self.old }
         ensures told { told result ≡ first_entry (the_header.Reset at packet number) self.old }
         ensures rest { self.new ≡ rest_of (these 1 (one_where packet) 0 0 0 1) self.old }
     {

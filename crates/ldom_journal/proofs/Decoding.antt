@@ -5,9 +5,9 @@ use Rattle.std.proofs.lemmas.List.{take-append-le, drop-append-le, length-append
 use Rattle.vdisk_msg.specs.declared.request.Request.{Request}
 use Rattle.vio_tag.specs.declared.cause.Cause.{Cause}
 use Rattle.kept_requests.specs.Bytes.{BytesState}
-use Rattle.ldom_entries.specs.Beside.{Holds, Lists, Share, join, made, nothing, rest_of, share_of}
+use Rattle.ldom_entries.specs.Beside.{HoldsShare, Lists, Share, join, made, nothing, rest_of, share_of}
 use Rattle.ldom_entries.specs.Decoded.{AreComplete, end_at, entries_of, entry_of, share}
-use Rattle.ldom_journal.specs.KeptState.{IsKept}
+use Rattle.ldom_journal.specs.KeptState.{ArePartsKept}
 use Rattle.ldom_journal.specs.PartsState.{PartsState, PutsParts, with_cause}
 use Rattle.ldom_entries.specs.Whole.{AreKeptWhole}
 use Rattle.ldom_entries.specs.declared.entry.Entry.{Entry}
@@ -29,7 +29,7 @@ lists_same a b n p d r q c f w =
     ∙ ap (λ (x : List Entry). made b.numbers b.packets b.descriptors b.reads b.requests b.causes b.frames x) w
 
 -- lists that follow others leave an entry's share, and follow what is left
-share_join : (s : Share) (l m : Lists) → Holds s l → share_of s (join l m) ≡ share_of s l
+share_join : (s : Share) (l m : Lists) → HoldsShare s l → share_of s (join l m) ≡ share_of s l
 share_join s l m h =
     lists_same (share_of s (join l m)) (share_of s l)
     (take-append-le s.numbers l.numbers m.numbers h.has_numbers)
@@ -41,7 +41,7 @@ share_join s l m h =
     (take-append-le s.frames l.frames m.frames h.has_frames)
     (take-append-le s.wholes l.wholes m.wholes h.has_wholes)
 
-rest_join : (s : Share) (l m : Lists) → Holds s l → rest_of s (join l m) ≡ join (rest_of s l) m
+rest_join : (s : Share) (l m : Lists) → HoldsShare s l → rest_of s (join l m) ≡ join (rest_of s l) m
 rest_join s l m h =
     lists_same (rest_of s (join l m)) (join (rest_of s l) m)
     (drop-append-le s.numbers l.numbers m.numbers h.has_numbers)
@@ -57,7 +57,7 @@ longer : {A : Type 0} (n : ℕ) (xs ys : List A) → n ≤ length xs → n ≤ l
 longer n xs ys le =
     let long : length (xs ++ ys) ≡ length xs + length ys = length-append xs ys in omega (arith, le, long)
 
-holds_join : (s : Share) (l m : Lists) → Holds s l → Holds s (join l m)
+holds_join : (s : Share) (l m : Lists) → HoldsShare s l → HoldsShare s (join l m)
 holds_join s l m h = record {
   has_numbers = longer s.numbers l.numbers m.numbers h.has_numbers;
   has_packets = longer s.packets l.packets m.packets h.has_packets;
@@ -107,7 +107,7 @@ rest_all l =
     (drop-length l.frames)
     (drop-length l.wholes)
 
-holds_all : (l : Lists) → AreKeptWhole l.wholes → Holds (all_share l) l
+holds_all : (l : Lists) → AreKeptWhole l.wholes → HoldsShare (all_share l) l
 holds_all l kept = record {
   has_numbers = omega arith;
   has_packets = omega arith;
@@ -127,7 +127,7 @@ one_entry h m is =
 
 one_complete : (h : Header) (m : Lists) → share h ≡ all_share m → AreKeptWhole m.wholes → AreComplete (h ∷ []) m
 one_complete h m is kept =
-    subst (λ (s : Share). Holds s m × (rest_of s m ≡ nothing)) (sym is) (holds_all m kept, rest_all m)
+    subst (λ (s : Share). HoldsShare s m × (rest_of s m ≡ nothing)) (sym is) (holds_all m kept, rest_all m)
 
 -- A FURTHER HEADER, with its share beside it, is a further entry
 entries_join : (headers : List Header) (l m : Lists) (h : Header) → AreComplete headers l → share h ≡ all_share m → entries_of (headers ++ h ∷ []) (join l m) ≡ entries_of headers l ++ entry_of h m ∷ []
@@ -158,9 +158,9 @@ complete_more headers later s t m h complete more puts is =
     (subst (λ (x : Lists). AreComplete (headers ++ h ∷ []) x) (sym puts.lists) (complete_join headers s.lists m h complete is puts.wholes))
 
 -- and there is room for one less
-pub kept_more : (headers later : List Header) (s t : PartsState) (m : Lists) (h : Header) (capacity grown room : ℕ) → IsKept headers s capacity room → PutsParts s m t
+pub kept_more : (headers later : List Header) (s t : PartsState) (m : Lists) (h : Header) (capacity grown room : ℕ) → ArePartsKept headers s capacity room → PutsParts s m t
     → later ≡ headers ++ h ∷ [] → share h ≡ all_share m → grown ≡ capacity
-    → IsKept later t grown (room - 1)
+    → ArePartsKept later t grown (room - 1)
 kept_more headers later s t m h capacity grown room kept puts more is same =
     let long : length later ≡ length headers + 1 = ap length more ∙ length-append headers (h ∷ []) in
     record {

@@ -20,7 +20,7 @@ pub(crate) struct KeptEntries {
 
 impl Model for KeptEntries {
     ghost use Rattle.std.specs.Prelude.{vec_capacity};
-    ghost use Rattle.ldom_journal.specs.KeptState.{IsKept};
+    ghost use Rattle.ldom_journal.specs.KeptState.{ArePartsKept};
     ghost use Rattle.ldom_entries.specs.Decoded.{entries_of};
     ghost use Rattle.ldom_entries.specs.JournalState.{JournalState};
 
@@ -28,7 +28,7 @@ impl Model for KeptEntries {
 
     ghost view = { λ j. record { entries = entries_of j.headers.items j.parts.lists; room = j.room } };
 
-    ghost invariant = { λ j. IsKept j.headers.items j.parts (vec_capacity j.headers) j.room };
+    ghost invariant = { λ j. ArePartsKept j.headers.items j.parts (vec_capacity j.headers) j.room };
 }
 
 /// Room is made for so many entries at once, so that most calls of `reserve` look at numbers alone.

@@ -6,12 +6,12 @@ use Rattle.domain_script.specs.NamesState.{NamesState}
 use Rattle.domain_script.specs.declared.event.DiskDecl.{DiskDecl}
 use Rattle.domain_script.specs.declared.event.PortDecl.{PortDecl}
 use Rattle.ldom_world.specs.world_parts.domain_laws.Domain.{DomainState, Lanes, lanes_in}
-use Rattle.ldom_world.specs.world_parts.port_model.PortState.{PortState, fresh_port}
+use Rattle.ldom_world.specs.world_parts.lane_models.PortState.{PortState, fresh_port}
 use Rattle.script_laws.specs.Replayed.{attach_status, start_of}
 use Rattle.vio_io.specs.declared.host.AttachFault.{AttachFault}
 use Rattle.vio_io.specs.declared.host.AttachFault.TheVariants.{Failed, Memory}
 use Rattle.ldom_report.specs.Stops.{AtMostOnce, EndsTold}
-use Rattle.ldom_world.specs.world_parts.disk_model.LaneState.{LaneState, fresh}
+use Rattle.ldom_world.specs.world_parts.lane_models.LaneState.{LaneState, fresh}
 use Rattle.ldom_world.specs.world_parts.world_laws.World.{WorldState}
 use Rattle.ldom_world.specs.world_parts.Declared.{nets_of, shapes_of}
 use Rattle.ldom_replay.specs.NamesLanes.{HasLanes}

@@ -2,7 +2,7 @@
 ghost use Rattle.std.specs.Prelude.{◌≡◌, ◌≢◌, ℕ, ◌*◌, ◌≤◌, ◌↔◌, List, [], ◌∷◌, true, length, map, Option, None, IfErr};
 ghost use Rattle.std.specs.Prelude.{IfOk, IfSome, IsNone, IsSome, IsTrue, OnOk};
 ghost use Rattle.vio_io.specs.Given.{Gave};
-ghost use Rattle.ldom_world.specs.world_parts.port_model.PortState.{fresh_port};
+ghost use Rattle.ldom_world.specs.world_parts.lane_models.PortState.{fresh_port};
 ghost use Rattle.domain_script.specs.Declarations.{AreDeclared};
 ghost use Rattle.domain_script.specs.NamesState.{declared_by};
 ghost use Rattle.script_reader.specs.declared.lines.LinesStop.TheVariants.{Ended, Going};
@@ -13,11 +13,11 @@ ghost use Rattle.ldom_report.specs.Stops.{EndsTold, ReaderStandsAt, stop_lines, 
 ghost use Rattle.vio_io.specs.Causes.{Fails};
 ghost use Rattle.script_laws.specs.Going.{RunsAll, RunsLines, run_at};
 ghost use Rattle.script_laws.specs.Attached.{AreOpening};
-ghost use Rattle.script_laws.specs.Opening.{Opened, Opens, OpensAndStops};
+ghost use Rattle.script_laws.specs.Opening.{OpensOrStops, Opens, OpensAndStops};
 ghost use Rattle.script_laws.specs.Replayed.{Replayed, attach_status, ended_status, start_of};
 ghost use Rattle.script_laws.specs.Sized.{SizeIs};
 ghost use Rattle.ldom_world.specs.Steps.{Counted};
-ghost use Rattle.ldom_world.specs.world_parts.disk_model.LaneState.{fresh};
+ghost use Rattle.ldom_world.specs.world_parts.lane_models.LaneState.{fresh};
 ghost use Rattle.disk_law.specs.ListState.{as_image};
 ghost use Rattle.ldom_world.specs.world_parts.Declared.{bytes_needed, nets_of, shapes_of};
 ghost use Rattle.domain_script.specs.ScriptEvents.{no_names};
@@ -196,12 +196,12 @@ fn attach<H: Host, S: Source>(
     requires declared { IfSome first (IsDeclared reader.names) }
     requires journal { reader.journal.entries ≡ [] }
     ensures replayed { (start : Option (List ℕ))
-        → Opened start reader.lines (S.left source.old) first reader.names
+        → OpensOrStops start reader.lines (S.left source.old) first reader.names
         → Replayed (as_image H.Disk.Store) start (S.left source.new)
         (H.gives host.old name.now) result.status result.lines result.names result.journal.entries result.image
         result.lanes }
     ensures sized { (start : Option (List ℕ))
-        → Opened start reader.lines (S.left source.old) first reader.names
+        → OpensOrStops start reader.lines (S.left source.old) first reader.names
         → SizeIs H.Disk.size result.status (bytes_needed result.names.disks)
         (H.gives host.old name.now (bytes_needed result.names.disks)) result.image }
     ensures source { Fails (result.status ≡ Status.SourceFault) (S.faults source.old) (S.faults source.new) }
@@ -249,12 +249,12 @@ fn run_over<D: Store, S: Source>(
     requires few_lanes { length lanes.first ≤ 8 }
     requires none_kept { blocks.kept ≡ [] }
     ensures replayed { (start : Option (List ℕ)) (gives : ℕ → Option (List ℕ))
-        → Opened start reader.lines (S.left source.old) first reader.names
+        → OpensOrStops start reader.lines (S.left source.old) first reader.names
         → as_image D.Store image ≡ (start_of reader.names gives).first.image
         → Replayed (as_image D.Store) start (S.left source.new) gives result.status
         result.lines result.names result.journal.entries result.image result.lanes }
     ensures sized { (start : Option (List ℕ)) (gives : ℕ → Option (List ℕ))
-        → Opened start reader.lines (S.left source.old) first reader.names
+        → OpensOrStops start reader.lines (S.left source.old) first reader.names
         → as_image D.Store image ≡ (start_of reader.names gives).first.image
         → SizeIs D.size result.status (bytes_needed result.names.disks)
         (gives (bytes_needed result.names.disks)) result.image }
@@ -293,12 +293,12 @@ fn run_world<S: Source, D: Store>(
     requires journal { reader.journal.entries ≡ [] }
     requires agrees { Counted [] world }
     ensures replayed { (start : Option (List ℕ)) (gives : ℕ → Option (List ℕ))
-        → Opened start reader.lines (S.left source.old) first reader.names
+        → OpensOrStops start reader.lines (S.left source.old) first reader.names
         → world ≡ start_of reader.names gives
         → Replayed (as_image D.Store) start (S.left source.new) gives result.status
         result.lines result.names result.journal.entries result.image result.lanes }
     ensures sized { (start : Option (List ℕ)) (gives : ℕ → Option (List ℕ))
-        → Opened start reader.lines (S.left source.old) first reader.names
+        → OpensOrStops start reader.lines (S.left source.old) first reader.names
         → world ≡ start_of reader.names gives
         → IfSome (gives (bytes_needed reader.names.disks))
         (λ bytes. bytes_needed reader.names.disks ≤ length bytes)
@@ -342,7 +342,7 @@ fn run_first<S: Source, D: Store>(
     requires journal { reader.old.journal.entries ≡ [] }
     requires agrees { Counted [] world.old }
     ensures runs { (start : Option (List ℕ))
-        → Opened start reader.old.lines (S.left source.old) first reader.old.names
+        → OpensOrStops start reader.old.lines (S.left source.old) first reader.old.names
         → RunsAll start (S.left source.new) reader.old.names world.old (stop_status result reader.new.lines.number)
         (run_at reader.new.names reader.new.journal.entries world.new (stop_lines result reader.new.lines.number)) }
     ensures most { reader.new.lines.number ≤ most_lines }

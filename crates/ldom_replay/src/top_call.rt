@@ -13,7 +13,7 @@ ghost use Rattle.ldom_report.specs.HasWords.{HasWords};
 ghost use Rattle.ldom_report.specs.Report.{report, usage_line};
 ghost use Rattle.ldom_report.specs.Stops.{EndsTold};
 ghost use Rattle.ldom_dump.specs.DumpReport.{Dumps, source_tells};
-ghost use Rattle.ldom_dump.specs.Whole.{IsWhole};
+ghost use Rattle.ldom_dump.specs.Whole.{IsWholeDump};
 ghost use Rattle.script_laws.specs.Counts.{FaultsTold, NoneFailed, counts};
 ghost use Rattle.script_laws.specs.Clean.{EndsClean, IsCleanScript, NeverFails, StandsStill};
 ghost use Rattle.script_laws.specs.Failures.{FailuresCounted, SucceedOrFail};
@@ -150,7 +150,7 @@ pub fn replay<H: Host, S: Source, K: Sink>(
 
     // A script of packets alone is dumped to its end, where no count rose and memory suffices.
     ensures dumps_whole { AsksDump (map string_bytes words.now)
-        → (bytes : List ℕ) → S.left script.old ≡ Some bytes → IsWhole bytes
+        → (bytes : List ℕ) → S.left script.old ≡ Some bytes → IsWholeDump bytes
         → StandsStill (S.faults script.old) (S.faults script.new) → StandsStill (K.faults out.old) (K.faults out.new)
         → (result.status ≡ Status.Done) ⊎ (result.status ≡ Status.NoMemory) }
 
@@ -204,7 +204,7 @@ fn report_dump<D: Store, S: Source, K: Sink>(
     ensures dumps { Dumps (source_tells (S.left script.old) (S.faults script.old) (S.ends script.old))
         (source_tells (S.left script.new) (S.faults script.new) (S.ends script.new))
         result.status (K.written out.old) (K.written out.new) }
-    ensures whole { (bytes : List ℕ) → S.left script.old ≡ Some bytes → IsWhole bytes
+    ensures whole { (bytes : List ℕ) → S.left script.old ≡ Some bytes → IsWholeDump bytes
         → ¬ Rose (S.faults script.old) (S.faults script.new) → ¬ Rose (K.faults out.old) (K.faults out.new)
         → (result.status ≡ Status.Done) ⊎ (result.status ≡ Status.NoMemory) }
     ensures ran { result.ran ≡ result.status }

@@ -6,7 +6,7 @@ use Rattle.script_reader.specs.declared.lines.LinesStop.{LinesStop}
 use Rattle.script_reader.specs.declared.lines.LinesStop.TheVariants.{Going, Ended, TooLong, TooMany}
 use Rattle.vio_io.specs.Causes.{next_count}
 use Rattle.vio_io.specs.Ends.{SaysEnd}
-use Rattle.script_reader.specs.LinesState.{AdvancesFrom, EndsNow, GoesFrom, KeepsEnds, LineEnds, LinesState, Reads, ends_after}
+use Rattle.script_reader.specs.LinesState.{AdvancesFrom, EndsNow, GoesFrom, KeepsEnds, LineEnds, LinesState, ReaderAnswers, ends_after}
 use Rattle.ldom_report.specs.Stops.{ReaderStandsAt, StopsReading, stop_of}
 use Rattle.ldom_report.specs.declared.stop.Stop.TheVariants.{End}
 
@@ -18,18 +18,18 @@ goes_behind TooLong rest left line ends = absurd ends
 goes_behind TooMany rest left line ends = absurd ends
 
 -- a fault of the reader is why no line is taken up
-pub stops_at : (fault : LinesFault) (rest left : Option (List ℕ)) (before after : LinesState) → Reads rest left before (Err fault) after
+pub stops_at : (fault : LinesFault) (rest left : Option (List ℕ)) (before after : LinesState) → ReaderAnswers rest left before (Err fault) after
     → StopsReading (stop_of fault) rest left after.held before.number
 stops_at Source rest left before after reads = (reads.1, reads.0.told)
 stops_at Long rest left before after reads = ((reads.1, reads.2), reads.0.told)
 stops_at Many rest left before after reads = ((reads.1, reads.2), reads.0.told)
 
 -- and so is the end
-pub stops_at_end : (rest left : Option (List ℕ)) (before after : LinesState) → Reads rest left before (Ok false) after → StopsReading End rest left after.held before.number
+pub stops_at_end : (rest left : Option (List ℕ)) (before after : LinesState) → ReaderAnswers rest left before (Ok false) after → StopsReading End rest left after.held before.number
 stops_at_end rest left before after reads = (reads.1, reads.0.told)
 
 -- neither counts a line
-pub same_number : (fault : LinesFault) (rest left : Option (List ℕ)) (before after : LinesState) → Reads rest left before (Err fault) after → after.number ≡ before.number
+pub same_number : (fault : LinesFault) (rest left : Option (List ℕ)) (before after : LinesState) → ReaderAnswers rest left before (Err fault) after → after.number ≡ before.number
 same_number Source rest left before after reads = reads.0.count
 same_number Long rest left before after reads = reads.0.count
 same_number Many rest left before after reads = reads.0.count
@@ -64,7 +64,7 @@ keeps_ends TooMany new before now stays says base is =
     let same : new ≡ TooMany = stays (λ e. cc e) in subst (λ (s : LinesStop). now ≡ ends_after s base) (sym same) (says.else_not (λ ends. cc (sym same ∙ ends.1)) ∙ is)
 
 -- a reader that gave a fault didn't end
-pub stands_at : (fault : LinesFault) (rest left : Option (List ℕ)) (before after : LinesState) → Reads rest left before (Err fault) after → ReaderStandsAt (stop_of fault) after.stop
+pub stands_at : (fault : LinesFault) (rest left : Option (List ℕ)) (before after : LinesState) → ReaderAnswers rest left before (Err fault) after → ReaderStandsAt (stop_of fault) after.stop
 stands_at Source rest left before after reads = λ ended. cc (reads.0.stop, ended)
 stands_at Long rest left before after reads = λ ended. cc (reads.0.stop, ended)
 stands_at Many rest left before after reads = λ ended. cc (reads.0.stop, ended)

@@ -3,10 +3,10 @@
 use Rattle.std.specs.Prelude.{ℕ, List}
 use Rattle.ldc_queue.specs.declared.end.End.{End}
 use Rattle.ldc_queue.specs.declared.end.End.TheVariants.{A, B}
-use Rattle.channel_laws.specs.WireEvent.{WireEvent}
-use Rattle.channel_laws.specs.WireEvent as wire
-use Rattle.disk_model.specs.DiskEvent.{DiskEvent, Asks, Works}
-use Rattle.disk_model.specs.DiskEvent as disk
+use Rattle.lane_models.specs.WireEvent.{WireEvent}
+use Rattle.lane_models.specs.WireEvent as wire
+use Rattle.lane_models.specs.DiskEvent.{DiskEvent, Asks, Works}
+use Rattle.lane_models.specs.DiskEvent as disk
 use Rattle.domain_script.specs.declared.event.EndName.{EndName}
 use Rattle.domain_script.specs.declared.event.Side.{Side}
 use Rattle.domain_script.specs.declared.event.Side.TheVariants.{Client, Server}

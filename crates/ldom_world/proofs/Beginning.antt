@@ -1,10 +1,10 @@
 -- Fresh lanes: nothing was asked of a disk, and no frame was given to a port.
 use Rattle.std.proofs.Common.{◌≡◌, List, [], ◌∷◌, map, refl, ap, sym, subst, ◌∙◌, arith}
 use Rattle.recorded_lanes.specs.world_parts.domain_laws.Domain.{DomainState}
-use Rattle.recorded_lanes.specs.world_parts.port_model.NetLaneState.{NetShape}
-use Rattle.recorded_lanes.specs.world_parts.port_model.PortState.{PortState, fresh_port}
+use Rattle.recorded_lanes.specs.world_parts.lane_models.NetLaneState.{NetShape}
+use Rattle.recorded_lanes.specs.world_parts.lane_models.PortState.{PortState, fresh_port}
 use Rattle.recorded_lanes.specs.world_parts.world_laws.Issued.{issued_on}
-use Rattle.recorded_lanes.specs.world_parts.disk_model.LaneState.{Shape, fresh}
+use Rattle.recorded_lanes.specs.world_parts.lane_models.LaneState.{Shape, fresh}
 use Rattle.recorded_lanes.specs.switched_ports.Given.{GivenBelow}
 use Rattle.recorded_lanes.proofs.switched_ports.Fresh.{fresh_below}
 use Rattle.recorded_lanes.specs.Steps.{Counted}

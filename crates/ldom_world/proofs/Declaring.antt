@@ -1,7 +1,7 @@
 -- The lanes of declared disks, one after another, and the world that they make.
 use Rattle.std.proofs.Common.{◌≡◌, ℕ, zero, suc, ◌+◌, ◌*◌, ◌≤◌, Some, None, List, [], ◌∷◌, ◌++◌, length, map, take, slice_get, refl, sym, ap, subst, ◌∙◌, arith}
 use Rattle.std.proofs.lemmas.List.{length-append, take_all}
-use Rattle.recorded_lanes.specs.world_parts.disk_model.LaneState.{IsShape, LaneState, Shape, fresh}
+use Rattle.recorded_lanes.specs.world_parts.lane_models.LaneState.{IsShape, LaneState, Shape, fresh}
 use Rattle.domain_script.specs.Declarations.{IsDisk}
 use Rattle.domain_script.specs.declared.event.DiskDecl.{DiskDecl}
 use Rattle.recorded_lanes.specs.world_parts.world_laws.Rounds.{Each}

@@ -3,7 +3,7 @@ use Rattle.std.proofs.Common.{◌≡◌, ℕ, ◌+◌, ◌<◌, ◌≤◌, Some,
 use Rattle.std.specs.List.{AllByRecursion}
 use Rattle.std.proofs.lemmas.List.{take_all}
 use Rattle.std.proofs.lemmas.Option.{slice_get-map}
-use Rattle.recorded_lanes.specs.world_parts.port_model.NetLaneState.{IsNetShape, NetShape}
+use Rattle.recorded_lanes.specs.world_parts.lane_models.NetLaneState.{IsNetShape, NetShape}
 use Rattle.domain_script.specs.Declarations.{AddressesDiffer, IsPort, addresses}
 use Rattle.domain_script.specs.declared.event.PortDecl.{PortDecl}
 use Rattle.lane_kinds.proofs.Places.{map_both}

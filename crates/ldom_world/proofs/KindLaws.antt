@@ -2,13 +2,13 @@
 use Rattle.std.proofs.Common.{◌≡◌, ℕ, Bool, true, false, Some, List, [], ◌∷◌, slice_get, refl, sym, subst}
 use Rattle.runs.specs.Run.{Run}
 use Rattle.recorded_lanes.proofs.world_parts.domain_laws.LoopKinds.{disk_begins, disk_gets, disk_runs, disk_turn, port_begins, port_gets, port_runs, port_turn}
-use Rattle.recorded_lanes.specs.world_parts.disk_model.DiskEvent.{CalmTick, Calms}
-use Rattle.recorded_lanes.specs.world_parts.disk_model.LaneState.{LaneState}
+use Rattle.recorded_lanes.specs.world_parts.lane_models.DiskEvent.{CalmTick, Calms}
+use Rattle.recorded_lanes.specs.world_parts.lane_models.LaneState.{LaneState}
 use Rattle.recorded_lanes.specs.world_parts.domain_laws.Domain.{DomainState, DomainStep}
 use Rattle.recorded_lanes.specs.world_parts.domain_laws.Lines.{AnswersCall, AnswersOn, AnswersPortCall, Calls, OneEntry, OnePortEntry, Ticks}
 use Rattle.recorded_lanes.specs.world_parts.port_laws.NetEndState.{unseen}
-use Rattle.recorded_lanes.specs.world_parts.port_model.NetEvent.{CalmTick as CalmPortTick, Ticked}
-use Rattle.recorded_lanes.specs.world_parts.port_model.PortState.{PortState}
+use Rattle.recorded_lanes.specs.world_parts.lane_models.NetEvent.{CalmTick as CalmPortTick, Ticked}
+use Rattle.recorded_lanes.specs.world_parts.lane_models.PortState.{PortState}
 use Rattle.recorded_lanes.specs.world_parts.world_laws.DiskKind.{tick}
 use Rattle.recorded_lanes.specs.world_parts.world_laws.Settle.{OfLane, OfPort, SettleEntry}
 use Rattle.recorded_lanes.specs.world_parts.WorldEvents.{calm_event, if_so, is_lane, left_over, of_net, told_of}

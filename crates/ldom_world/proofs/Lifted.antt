@@ -1,14 +1,14 @@
 -- A world whose disks, or whose ports, made one event: what it did there, it did to the world, and the others stay.
 use Rattle.std.proofs.Common.{◌≡◌, ℕ, ◌+◌, ◌≤◌, ◌<◌, Bool, List, [], ◌∷◌, length, Result, Ok, Err, refl, sym, ap, subst, ◌∙◌, arith, length-append}
 use Rattle.std.specs.Prelude.{IfOk, OnErr, OnOk}
-use Rattle.recorded_lanes.specs.world_parts.disk_model.DiskEvent.{DiskEvent}
+use Rattle.recorded_lanes.specs.world_parts.lane_models.DiskEvent.{DiskEvent}
 use Rattle.recorded_lanes.specs.world_parts.switch_laws.Events.{SwitchEvent}
 use Rattle.recorded_lanes.specs.world_parts.world_laws.Settle.{OfLane, OfPort, SettleEntry}
 use Rattle.recorded_lanes.specs.world_parts.world_laws.World.{WorldState, WorldStep}
 use Rattle.recorded_lanes.specs.world_parts.world_laws.Issued.{issued_on}
 use Rattle.recorded_lanes.specs.world_parts.domain_laws.Domain.{DomainState, DomainStep, PortsStep, lanes_in}
 use Rattle.recorded_lanes.specs.world_parts.domain_laws.Lines.{BeginsPart, Line, Nothing, PartOf}
-use Rattle.recorded_lanes.specs.world_parts.port_model.PortState.{PortState}
+use Rattle.recorded_lanes.specs.world_parts.lane_models.PortState.{PortState}
 use Rattle.ldom_entries.specs.declared.entry.Entry.{Entry}
 use Rattle.recorded_lanes.specs.ldom_report.Report.{accepted_count}
 use Rattle.recorded_lanes.proofs.switched_ports.Entries.{below_later}

@@ -2,10 +2,10 @@
 use Rattle.std.proofs.Common.{◌≡◌, ℕ, ◌+◌, ◌<◌, ◌≤◌, Bool, true, false, Option, Some, List, [], ◌∷◌, ◌++◌, length, map, take, slice_get, slice_set, refl, sym, ap, ◌∙◌, subst, arith, append-nil, length-append}
 use Rattle.std.specs.Prelude.{◌&&◌, ◌||◌, cond, if◌then◌else◌, not, IsSomeAnd}
 use Rattle.runs.specs.Run.{Run}
-use Rattle.recorded_lanes.specs.world_parts.disk_model.LaneState.{LaneState}
+use Rattle.recorded_lanes.specs.world_parts.lane_models.LaneState.{LaneState}
 use Rattle.recorded_lanes.specs.world_parts.domain_laws.Domain.{DomainState, DomainStep}
 use Rattle.recorded_lanes.specs.world_parts.domain_laws.Lines.{Calls, Line, LaneName, Settles, Ticks}
-use Rattle.recorded_lanes.specs.world_parts.port_model.PortState.{PortState}
+use Rattle.recorded_lanes.specs.world_parts.lane_models.PortState.{PortState}
 use Rattle.domain_script.specs.LaneKinds.{lane_at}
 use Rattle.domain_script.specs.declared.event.Lane.{Lane}
 use Rattle.domain_script.specs.declared.fields.LaneKind.{LaneKind}

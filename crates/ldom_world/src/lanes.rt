@@ -1,9 +1,9 @@
 ghost use Rattle.std.specs.Prelude.{◌≡◌, ◌≤◌, ◌<◌, IfOk, length, map, Some, slice_get};
 ghost use Rattle.std.specs.List.{AllByRecursion};
-ghost use Rattle.recorded_lanes.specs.world_parts.disk_model.LaneState.{fresh};
-ghost use Rattle.recorded_lanes.specs.world_parts.disk_model.Reached.{IsReached};
-ghost use Rattle.recorded_lanes.specs.world_parts.port_model.NetLaneState.{IsNetShape};
-ghost use Rattle.recorded_lanes.specs.world_parts.port_model.PortState.{fresh_port};
+ghost use Rattle.recorded_lanes.specs.world_parts.lane_models.LaneState.{fresh};
+ghost use Rattle.recorded_lanes.specs.world_parts.lane_models.Reached.{IsReached};
+ghost use Rattle.recorded_lanes.specs.world_parts.lane_models.NetLaneState.{IsNetShape};
+ghost use Rattle.recorded_lanes.specs.world_parts.lane_models.PortState.{fresh_port};
 ghost use Rattle.domain_script.specs.Declarations.{AreDisks, ArePorts, IsDisk, IsPort};
 ghost use Rattle.lane_kinds.specs.Lanes.{EachOf};
 ghost use Rattle.recorded_lanes.specs.world_parts.switch_laws.Forwards.{views};

@@ -19,13 +19,19 @@ ghost use Rattle.recorded_lanes.specs.world_parts.Parts.{Fits, FitsSoFar};
 
 use crate::kinds::ports;
 use crate::world::World;
-use domain_script::{Lane, LaneKind, Side};
+use domain_script::{Lane, LaneKind, MOST_DISKS, Side};
 use recorded_lanes::{Entry, Journal, LaneCall, Who};
 use vio_bytes::NoMemory;
 use vio_io::Store;
 
-/// The most lanes of each kind.
-const MOST_LANES: usize = 8;
+/// The most lanes of each kind: disks and ports have one bound.
+const MOST_LANES: usize = MOST_DISKS;
+
+/// So many rounds a settle may make where nothing is pending.
+const IDLE_ROUNDS: u64 = 4096;
+
+/// And so many more for each request and each frame that is pending.
+const ROUNDS_EACH: u64 = 64;
 
 /// A mark for each lane, of both kinds.
 #[derive(Drop)]
@@ -309,6 +315,6 @@ impl<D: Store> World<D> {
     {
         // That there are at most eight ports is known by this call alone.
         let _ports = ports::count(self);
-        4096 + 64 * (self.disks.pending() + self.ports.pending())
+        IDLE_ROUNDS + ROUNDS_EACH * (self.disks.pending() + self.ports.pending())
     }
 }

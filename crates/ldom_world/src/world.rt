@@ -1,6 +1,6 @@
 ghost use Rattle.std.specs.Prelude.{◌≡◌, ◌≤◌, ◌<◌, ◌↔◌, [], IfErr, IfOk, IsTrue, length, map};
-ghost use Rattle.recorded_lanes.specs.world_parts.disk_model.LaneState.{fresh};
-ghost use Rattle.recorded_lanes.specs.world_parts.port_model.PortState.{fresh_port};
+ghost use Rattle.recorded_lanes.specs.world_parts.lane_models.LaneState.{fresh};
+ghost use Rattle.recorded_lanes.specs.world_parts.lane_models.PortState.{fresh_port};
 ghost use Rattle.domain_script.specs.Declarations.{AreDisks, ArePorts};
 ghost use Rattle.vio_io.specs.Causes.{last_count};
 ghost use Rattle.recorded_lanes.specs.world_parts.world_laws.Rounds.{Each};

@@ -6,7 +6,7 @@ use Rattle.std.proofs.lemmas.List.FromFn.{length-map-range_with_len, map-range_w
 use Rattle.std.specs.List.{position_or_len, range_with_len}
 use Rattle.std.specs.Prelude.{is_none}
 use Rattle.cookie_copy.specs.Identity.{own_entry}
-use Rattle.channel_laws.specs.OwnMemory.{own_table}
+use Rattle.lane_models.specs.OwnMemory.{own_table}
 use Rattle.map_table.specs.Table.{first_free}
 use Rattle.map_table.specs.declared.table.Entry.{Entry}
 use Rattle.memory_grant.specs.Granting.{granted_front}

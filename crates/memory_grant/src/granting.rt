@@ -3,7 +3,7 @@
 ghost use Rattle.std.specs.Prelude.{◌≡◌, ◌≤◌, IfOk, Some, set};
 ghost use Rattle.cookie_copy.specs.Identity.{IsIdentity, own_entry};
 ghost use Rattle.map_table.specs.Table.{first_free};
-ghost use Rattle.channel_laws.specs.OwnMemory.{own_table};
+ghost use Rattle.lane_models.specs.OwnMemory.{own_table};
 
 use map_table::{MapTable, Rights};
 use std::alloc::Global;

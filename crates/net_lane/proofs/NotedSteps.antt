@@ -8,11 +8,11 @@ use Rattle.ldc_queue.specs.declared.end.End.TheVariants.{A, B}
 use Rattle.ldc_queue.specs.Wire.{state_of}
 use Rattle.vnet_port.specs.Seeing.{seen}
 use Rattle.vnet_port.specs.Memories.{reach_over}
-use Rattle.port_model.specs.NetEndState.{NetEndState, joined_net_end}
-use Rattle.port_model.specs.NetEndStep.{NetEndStep, NetLeft}
-use Rattle.port_model.specs.NetEvent.{Steps as StepsOf}
-use Rattle.port_model.specs.NetLaneState.{NetLaneState, with_left}
-use Rattle.port_model.specs.NetLaneStep.{NetLaneStep, net_wire}
+use Rattle.lane_models.specs.NetEndState.{NetEndState, joined_net_end}
+use Rattle.lane_models.specs.NetEndStep.{NetEndStep, NetLeft}
+use Rattle.lane_models.specs.NetEvent.{Steps as StepsOf}
+use Rattle.lane_models.specs.NetLaneState.{NetLaneState, with_left}
+use Rattle.lane_models.specs.NetLaneStep.{NetLaneStep, net_wire}
 use Rattle.vnet_port.specs.Calls.{end_at, end_of, role_of}
 use Rattle.vnet_port.specs.declared.net_out.NetOut.{NetOut}
 use Rattle.vnet_port.specs.declared.net_out.NetOut.TheVariants as out

@@ -1,10 +1,10 @@
 -- A lane that some events lead to, and one event more.
 use Rattle.std.proofs.Common.{refl, [], ◌∷◌, ◌++◌}
 use Rattle.runs.specs.Run.{run_push}
-use Rattle.port_model.specs.NetEvent.{NetEvent}
-use Rattle.port_model.specs.NetLaneState.{IsNetShape, NetLaneState, NetShape, fresh_net}
-use Rattle.port_model.specs.NetLaneStep.{NetLaneStep}
-use Rattle.port_model.specs.NetReached.{NetReached}
+use Rattle.lane_models.specs.NetEvent.{NetEvent}
+use Rattle.lane_models.specs.NetLaneState.{IsNetShape, NetLaneState, NetShape, fresh_net}
+use Rattle.lane_models.specs.NetLaneStep.{NetLaneStep}
+use Rattle.lane_models.specs.NetReached.{NetReached}
 
 pub reached_fresh : (shape : NetShape) → IsNetShape shape → NetReached (fresh_net shape)
 reached_fresh shape sound = record { shape = shape; sound = sound; events = []; run = refl }

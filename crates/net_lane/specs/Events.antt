@@ -7,9 +7,9 @@ use Rattle.ldc_queue.specs.declared.end.PutFault.{PutFault}
 use Rattle.ldc_queue.specs.declared.end.PutFault.TheVariants as put
 use Rattle.vnet_port.specs.WireEvent.{InjectedFull, NotInjected, NothingLost, PokeRefused}
 use Rattle.vnet_port.specs.WireLog.{lossy_behind}
-use Rattle.port_model.specs.NetEndState.{joined_net_end}
-use Rattle.port_model.specs.NetLaneState.{NetLaneState, net_end, role_at, with_net_end}
-use Rattle.port_model.specs.NetEvent.{CalmTick, Declines, Injects, Loses, NetEvent, Pokes, Ticked}
+use Rattle.lane_models.specs.NetEndState.{joined_net_end}
+use Rattle.lane_models.specs.NetLaneState.{NetLaneState, net_end, role_at, with_net_end}
+use Rattle.lane_models.specs.NetEvent.{CalmTick, Declines, Injects, Loses, NetEvent, Pokes, Ticked}
 
 abbrev pub lost_event : End → Option (List ℕ) → NetEvent
 lost_event e (Some packet) = Loses e packet

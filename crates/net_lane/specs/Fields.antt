@@ -3,7 +3,7 @@ use Rattle.std.specs.Prelude.{◌≡◌, length}
 use Rattle.cookie_copy.specs.Faults.{PagesWithin}
 use Rattle.ldc_link.specs.declared.phase.Role.TheVariants.{Initiator, Responder}
 use Rattle.vnet_port.specs.Memories.{HoldsRing}
-use Rattle.port_model.specs.NetLaneState.{NetLaneState, NetShape}
+use Rattle.lane_models.specs.NetLaneState.{NetLaneState, NetShape}
 use Rattle.vnet_port.specs.Calls.{role_of}
 use Rattle.net_lane.specs.declared.port_ends.PortEnds.TheInside.{Inside}
 

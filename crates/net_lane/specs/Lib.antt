@@ -1,7 +1,7 @@
 pub mod Fields
 pub mod Noted
 pub mod Events
-pub use Rattle.port_model.specs.NetLaneState
+pub use Rattle.lane_models.specs.NetLaneState
 pub use Rattle.vnet_port.specs.Calls
 pub use Rattle.vnet_port.specs.Stepping
 pub use Rattle.vnet_port.specs.declared.answers

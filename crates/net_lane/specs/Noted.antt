@@ -2,7 +2,7 @@
 use Rattle.std.specs.Prelude.{Bool}
 use Rattle.ldc_queue.specs.declared.end.ChannelState.{ChannelState}
 use Rattle.vnet_port.specs.WireLog.{lossy_behind}
-use Rattle.port_model.specs.NetLaneState.{NetLaneState}
+use Rattle.lane_models.specs.NetLaneState.{NetLaneState}
 use Rattle.vnet_port.specs.declared.net_out.NetOut.{NetOut}
 use Rattle.vnet_port.specs.declared.net_out.NetOut.TheVariants as out
 

@@ -1,9 +1,9 @@
 ghost use Rattle.std.specs.Prelude.{◌≡◌, ◌^◌, ◌-◌, ◌<◌, IfOk};
 ghost use Rattle.ldc_queue.specs.Wire.{peer_of};
-ghost use Rattle.port_model.specs.NetEvent.{Asked, Gives, Joins, Steps};
-ghost use Rattle.port_model.specs.NetLaneState.{fresh_net, IsNetShape, net_end};
-ghost use Rattle.port_model.specs.NetLaneStep.{is_finished, NetLaneStep};
-ghost use Rattle.port_model.specs.NetReached.{NetReached};
+ghost use Rattle.lane_models.specs.NetEvent.{Asked, Gives, Joins, Steps};
+ghost use Rattle.lane_models.specs.NetLaneState.{fresh_net, IsNetShape, net_end};
+ghost use Rattle.lane_models.specs.NetLaneStep.{is_finished, NetLaneStep};
+ghost use Rattle.lane_models.specs.NetReached.{NetReached};
 ghost use Rattle.vnet_port.specs.Calls.{given, joining};
 ghost use Rattle.vnet_port.specs.Stepping.{net_answer, TellsLength};
 ghost use Rattle.net_lane.specs.Events.{injected_event, lost_event, next_behind, poked_event, ticked_event, SameIds};
@@ -24,8 +24,8 @@ pub struct NetLane {
 }
 
 impl Model for NetLane {
-    ghost use Rattle.port_model.specs.NetLaneState.{NetLaneState};
-    ghost use Rattle.port_model.specs.NetReached.{NetReached};
+    ghost use Rattle.lane_models.specs.NetLaneState.{NetLaneState};
+    ghost use Rattle.lane_models.specs.NetReached.{NetReached};
 
     ghost Value = { NetLaneState };
 

@@ -4,10 +4,10 @@ ghost use Rattle.std.specs.Prelude.{◌≡◌, ◌^◌, ◌-◌, ◌<◌, ◌≤
 ghost use Rattle.ldc_queue.specs.declared.end.End.TheVariants.{A, B};
 ghost use Rattle.ldc_queue.specs.Wire.{peer_of};
 ghost use Rattle.vnet_msg.specs.Frames.{memory_pages};
-ghost use Rattle.port_model.specs.NetEndState.{unseen};
-ghost use Rattle.port_model.specs.NetEvent.{Asked, Gives, Joins, Steps};
-ghost use Rattle.port_model.specs.NetLaneState.{fresh_net, IsNetShape, net_end};
-ghost use Rattle.port_model.specs.NetLaneStep.{is_finished, is_nothing, NetLaneStep};
+ghost use Rattle.lane_models.specs.NetEndState.{unseen};
+ghost use Rattle.lane_models.specs.NetEvent.{Asked, Gives, Joins, Steps};
+ghost use Rattle.lane_models.specs.NetLaneState.{fresh_net, IsNetShape, net_end};
+ghost use Rattle.lane_models.specs.NetLaneStep.{is_finished, is_nothing, NetLaneStep};
 ghost use Rattle.vnet_port.specs.Calls.{given, joining};
 ghost use Rattle.vnet_port.specs.Stepping.{net_answer, TellsLength};
 ghost use Rattle.net_lane.specs.Events.{begun_anew, injected_event, lost_event, next_behind, poked_event, PutsWithin, ticked_event, SameIds};
@@ -43,7 +43,7 @@ pub struct PortEnds {
 }
 
 impl Model for PortEnds {
-    ghost use Rattle.port_model.specs.NetLaneState.{NetLaneState};
+    ghost use Rattle.lane_models.specs.NetLaneState.{NetLaneState};
     ghost use Rattle.net_lane.specs.Fields.{FitsShape, state_of};
 
     ghost Value = { NetLaneState };

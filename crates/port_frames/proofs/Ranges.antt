@@ -5,7 +5,7 @@ use Rattle.std.proofs.lemmas.Bool.Decides.{nat_tests}
 use Rattle.dring.specs.Slots.{free_state}
 use Rattle.vio_bytes.specs.Place.{put_at}
 use Rattle.vio_tag.specs.declared.cause.Cause.TheVariants as the_cause
-use Rattle.port_model.specs.NetEndTaking.{first_undone, freed, slot_state}
+use Rattle.lane_models.specs.NetEndTaking.{first_undone, freed, slot_state}
 
 -- the slot of a number, where number 0 has the first
 pub slot_at : (slot number slots : ℕ) → slot ≡ (number - 0) % slots → slot ≡ number % slots

@@ -16,8 +16,8 @@ use Rattle.vio_tag.specs.declared.cause.Cause.TheVariants as the_cause
 use Rattle.vnet_msg.specs.declared.desc.NetDesc.{NetDesc}
 use Rattle.vnet_msg.specs.Descriptor.{net_desc_of}
 use Rattle.vnet_msg.specs.Frames.{frame_in, header, holds_frame, moved_size}
-use Rattle.port_model.specs.Fetching.{IsFrame, NotReady, Refuses, copied, copy_refused, data_cookies, described, fetched, frame_fault, mark_fault, marked, read, slot_read, slots_cookies}
-use Rattle.port_model.specs.NetEndState.{NetEndState, peer_ring}
+use Rattle.lane_models.specs.Fetching.{IsFrame, NotReady, Refuses, copied, copy_refused, data_cookies, described, fetched, frame_fault, mark_fault, marked, read, slot_read, slots_cookies}
+use Rattle.lane_models.specs.NetEndState.{NetEndState, peer_ring}
 use Rattle.port_frames.specs.Fetches.{found_of}
 
 not_ready : (n : ℕ) → n ≢ ready_state → (n == ready_state) ≡ false

@@ -2,7 +2,7 @@
 use Rattle.std.specs.Prelude.{◌≡◌, ℕ, List, Result, Ok, Err}
 use Rattle.dring.specs.declared.peer.RingFault.{RingFault}
 use Rattle.dring.specs.declared.peer.RingFault.TheVariants as ring
-use Rattle.port_model.specs.Fetching.{Fetched, IsFrame, NotReady, Refuses, copy_refused}
+use Rattle.lane_models.specs.Fetching.{Fetched, IsFrame, NotReady, Refuses, copy_refused}
 use Rattle.port_frames.specs.declared.fetching.SlotFault.{SlotFault}
 use Rattle.port_frames.specs.declared.fetching.SlotFault.TheVariants as fault
 

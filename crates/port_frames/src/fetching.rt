@@ -5,8 +5,8 @@ ghost use Rattle.cookie_copy.specs.Faults.{PagesWithin};
 ghost use Rattle.cookie_copy.specs.Reach.{copy_number};
 ghost use Rattle.dring.specs.Reaching.{IsSlotOf};
 ghost use Rattle.vnet_msg.specs.Frames.{header};
-ghost use Rattle.port_model.specs.Fetching.{copy_refused, fetched};
-ghost use Rattle.port_model.specs.NetEndState.{NetEndState, peer_ring};
+ghost use Rattle.lane_models.specs.Fetching.{copy_refused, fetched};
+ghost use Rattle.lane_models.specs.NetEndState.{NetEndState, peer_ring};
 ghost use Rattle.port_frames.specs.Fetches.{FrameOf, found_fault, found_of};
 ghost use Rattle.port_frames.specs.Memories.{reach_over};
 

@@ -3,7 +3,7 @@
 ghost use Rattle.std.specs.Prelude.{◌≡◌, ◌+◌, ◌*◌, ◌^◌, ◌<◌, ◌≤◌, [], ◌∷◌, length};
 ghost use Rattle.dring.specs.Slots.{free_state};
 ghost use Rattle.vio_bytes.specs.Place.{put_at};
-ghost use Rattle.port_model.specs.NetEndTaking.{first_undone, freed, slot_state};
+ghost use Rattle.lane_models.specs.NetEndTaking.{first_undone, freed, slot_state};
 ghost use Rattle.port_frames.specs.Memories.{HoldsRing};
 
 use dom_memory::Memory;

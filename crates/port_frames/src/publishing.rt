@@ -3,7 +3,7 @@
 ghost use Rattle.std.specs.Prelude.{◌≡◌, ◌+◌, ◌-◌, ◌*◌, ◌/◌, ◌<◌, ◌≤◌, length};
 ghost use Rattle.vio_bytes.specs.Place.{put_at};
 ghost use Rattle.vnet_msg.specs.Frames.{buffer_place, frame_buffer, frame_desc, moved_size};
-ghost use Rattle.port_model.specs.NetEndStep.{published_memory};
+ghost use Rattle.lane_models.specs.NetEndStep.{published_memory};
 ghost use Rattle.port_frames.specs.Memories.{HoldsRing};
 
 use crate::own_slots::ring_of;

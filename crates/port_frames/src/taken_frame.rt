@@ -4,7 +4,7 @@ ghost use Rattle.std.specs.Prelude.{◌≡◌, ◌≤◌, [], length, take, true
 ghost use Rattle.cookie_copy.specs.Faults.{PagesWithin, both_up, first_copy_fault};
 ghost use Rattle.cookie_copy.specs.declared.fault.Access.TheVariants.{Read};
 ghost use Rattle.cookie_copy.specs.Moved.{moved_in};
-ghost use Rattle.port_model.specs.Fetching.{data_cookies, frame_fault};
+ghost use Rattle.lane_models.specs.Fetching.{data_cookies, frame_fault};
 ghost use Rattle.vnet_msg.specs.Frames.{frame_in, holds_frame, moved_size};
 ghost use Rattle.port_frames.specs.Memories.{reach_over};
 

@@ -6,21 +6,21 @@ use Rattle.ldc_link.specs.LinkState.{is_up}
 use Rattle.ldc_queue.specs.declared.end.End.{End}
 use Rattle.ldc_queue.specs.declared.end.End.TheVariants.{A, B}
 use Rattle.ldc_queue.specs.Transcript.{Utterance}
-use Rattle.channel_laws.proofs.CoreLaws.{stands_a, stands_b}
-use Rattle.channel_laws.specs.LaneCore.{CoreEvent, CoreStep}
-use Rattle.channel_laws.specs.Standing.{EndStands}
-use Rattle.port_model.proofs.Moving.{before_keeps}
-use Rattle.port_model.proofs.Refuting.{true_false}
+use Rattle.lane_models.proofs.CoreLaws.{stands_a, stands_b}
+use Rattle.lane_models.specs.LaneCore.{CoreEvent, CoreStep}
+use Rattle.lane_models.specs.Standing.{EndStands}
+use Rattle.lane_models.proofs.Moving.{before_keeps}
+use Rattle.lane_models.proofs.Refuting.{true_false}
 use Rattle.runs.specs.Run.{Run}
-use Rattle.port_model.proofs.SomeStep.{always_step}
-use Rattle.port_model.specs.NetEndState.{NetEndState, NetSession}
-use Rattle.port_model.specs.NetEndStep.{Idle, NetAnswer, NetEndStep, NetLeft}
-use Rattle.port_model.specs.NetEvent.{Steps}
-use Rattle.port_model.specs.NetLaneState.{IsNetShape, NetLaneState, NetShape, memory_of, net_end, reach_of, role_at, seen_at, with_left}
-use Rattle.port_model.specs.NetLaneStep.{NetLaneStep, net_wire}
-use Rattle.port_model.specs.NetReached.{NetReached}
-use Rattle.port_model.specs.PortState.{OfQueue, OnLane, PortEvent, PortState, PortStep, before, fresh_port}
-use Rattle.port_model.specs.StepStands.{CanStep, IsPacket}
+use Rattle.lane_models.proofs.SomeStep.{always_step}
+use Rattle.lane_models.specs.NetEndState.{NetEndState, NetSession}
+use Rattle.lane_models.specs.NetEndStep.{Idle, NetAnswer, NetEndStep, NetLeft}
+use Rattle.lane_models.specs.NetEvent.{Steps}
+use Rattle.lane_models.specs.NetLaneState.{IsNetShape, NetLaneState, NetShape, memory_of, net_end, reach_of, role_at, seen_at, with_left}
+use Rattle.lane_models.specs.NetLaneStep.{NetLaneStep, net_wire}
+use Rattle.lane_models.specs.NetReached.{NetReached}
+use Rattle.lane_models.specs.PortState.{OfQueue, OnLane, PortEvent, PortState, PortStep, before, fresh_port}
+use Rattle.lane_models.specs.StepStands.{CanStep, IsPacket}
 use Rattle.port_laws.specs.NetCore.{core_events, fresh_net_core, lane_core, net_core_at}
 use Rattle.port_laws.specs.PortCore.{port_events}
 use Rattle.port_laws.proofs.CoreLaws.{sizes_fit}

@@ -7,18 +7,18 @@ use Rattle.ldc_link.specs.declared.phase.Role.TheVariants.{Initiator, Responder}
 use Rattle.ldc_queue.specs.declared.end.End.TheVariants.{A, B}
 use Rattle.runs.specs.Lawful.{log_append, log_of}
 use Rattle.runs.specs.Run.{Run, run_push}
-use Rattle.channel_laws.specs.WireLog.{WireLog}
-use Rattle.port_model.proofs.Refuting.{none_some, true_false}
-use Rattle.port_model.specs.EndLog.{SessionLog, held}
-use Rattle.port_model.specs.FrameLaws.{InSession, IsFinished, TickAt, ToldAll}
-use Rattle.port_model.specs.NetEndState.{joined_net_end, unseen}
-use Rattle.port_model.specs.NetEndStep.{Blocked, Idle, NetAnswer}
-use Rattle.port_model.specs.NetEvent.{CalmTick, NetEvent, Steps, Ticked}
-use Rattle.port_model.specs.NetLaneState.{IsNetShape, NetShape, with_net_end}
-use Rattle.port_model.specs.NetLaneStep.{is_finished, net_wire}
-use Rattle.port_model.specs.PortLog.{PortLog, after, no_events}
-use Rattle.port_model.specs.PortMay.{PortMay}
-use Rattle.port_model.specs.PortState.{OnLane, PortEvent, PortState, PortStep, before, fresh_port, moves_first, takes_more}
+use Rattle.lane_models.specs.WireLog.{WireLog}
+use Rattle.lane_models.proofs.Refuting.{none_some, true_false}
+use Rattle.lane_models.specs.EndLog.{SessionLog, held}
+use Rattle.lane_models.specs.FrameLaws.{InSession, IsFinished, TickAt, ToldAll}
+use Rattle.lane_models.specs.NetEndState.{joined_net_end, unseen}
+use Rattle.lane_models.specs.NetEndStep.{Blocked, Idle, NetAnswer}
+use Rattle.lane_models.specs.NetEvent.{CalmTick, NetEvent, Steps, Ticked}
+use Rattle.lane_models.specs.NetLaneState.{IsNetShape, NetShape, with_net_end}
+use Rattle.lane_models.specs.NetLaneStep.{is_finished, net_wire}
+use Rattle.lane_models.specs.PortLog.{PortLog, after, no_events}
+use Rattle.lane_models.specs.PortMay.{PortMay}
+use Rattle.lane_models.specs.PortState.{OnLane, PortEvent, PortState, PortStep, before, fresh_port, moves_first, takes_more}
 use Rattle.port_laws.specs.RemainingSteps.{IsCalm}
 use Rattle.port_laws.specs.NoneLeft.{AllSeen, NoneLeftAt}
 use Rattle.port_laws.specs.NoneUntold.{NoneUntoldAt}

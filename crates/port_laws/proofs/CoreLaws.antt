@@ -21,28 +21,28 @@ use Rattle.vio_handshake.specs.declared.session.Offer.{Offer}
 use Rattle.vio_handshake.specs.Offers.{FitsRing, Match}
 use Rattle.vio_tag.proofs.AttributeBytes.{net_attr_reads_back}
 use Rattle.vio_tag.specs.declared.cause.Cause.{Cause}
-use Rattle.channel_laws.specs.HandshakeOrder.{HandshakeOrder}
-use Rattle.channel_laws.specs.Sayings.{heard, said}
-use Rattle.channel_laws.specs.TranscriptLog.{TranscriptLog, transcript_of}
-use Rattle.channel_laws.specs.WireAt.{IsOwnReset, IsUp}
-use Rattle.channel_laws.specs.WireLog.{WireLog}
-use Rattle.channel_laws.proofs.ConversingRuns.{heard_messages}
-use Rattle.channel_laws.proofs.LossesTold.{loss_kept, loss_told}
-use Rattle.channel_laws.proofs.Sessions.{open_sessions_one, open_sessions_up}
-use Rattle.channel_laws.proofs.UnforgedResets.{unforged_reset}
-use Rattle.channel_laws.specs.LaneCore.{CoreEvent, CoreFits, CoreStep, LaneCore, OfferFits, end_of, role_of, transcript_behind}
-use Rattle.channel_laws.specs.LossStands.{LossStands}
-use Rattle.channel_laws.specs.OneSession.{AreOneSession}
-use Rattle.channel_laws.specs.Resetting.{LiesInSession}
-use Rattle.port_model.proofs.OwnResets.{net_resets_own}
-use Rattle.port_model.specs.NetEndRule.{port_rule}
-use Rattle.port_model.specs.NetEndStep.{Reset}
-use Rattle.port_model.specs.NetEvent.{NetEvent, Steps}
-use Rattle.port_model.specs.NetLaneState.{IsNetShape, NetLaneState, NetShape, memory_of, net_end, reach_of, role_at, seen_at}
-use Rattle.port_model.specs.NetLaneStep.{NetLaneStep}
-use Rattle.port_model.specs.Offers.{class_of, port_offer, ring_cookie}
-use Rattle.port_model.specs.PortLog.{after, no_events}
-use Rattle.port_model.specs.PortState.{OnLane, PortEvent, PortState, PortStep, before, fresh_port}
+use Rattle.lane_models.specs.HandshakeOrder.{HandshakeOrder}
+use Rattle.lane_models.specs.Sayings.{heard, said}
+use Rattle.lane_models.specs.TranscriptLog.{TranscriptLog, transcript_of}
+use Rattle.lane_models.specs.WireAt.{IsOwnReset, IsUp}
+use Rattle.lane_models.specs.WireLog.{WireLog}
+use Rattle.lane_models.proofs.ConversingRuns.{heard_messages}
+use Rattle.lane_models.proofs.LossesTold.{loss_kept, loss_told}
+use Rattle.lane_models.proofs.Sessions.{open_sessions_one, open_sessions_up}
+use Rattle.lane_models.proofs.UnforgedResets.{unforged_reset}
+use Rattle.lane_models.specs.LaneCore.{CoreEvent, CoreFits, CoreStep, LaneCore, OfferFits, end_of, role_of, transcript_behind}
+use Rattle.lane_models.specs.LossStands.{LossStands}
+use Rattle.lane_models.specs.OneSession.{AreOneSession}
+use Rattle.lane_models.specs.Resetting.{LiesInSession}
+use Rattle.lane_models.proofs.OwnResets.{net_resets_own}
+use Rattle.lane_models.specs.NetEndRule.{port_rule}
+use Rattle.lane_models.specs.NetEndStep.{Reset}
+use Rattle.lane_models.specs.NetEvent.{NetEvent, Steps}
+use Rattle.lane_models.specs.NetLaneState.{IsNetShape, NetLaneState, NetShape, memory_of, net_end, reach_of, role_at, seen_at}
+use Rattle.lane_models.specs.NetLaneStep.{NetLaneStep}
+use Rattle.lane_models.specs.Offers.{class_of, port_offer, ring_cookie}
+use Rattle.lane_models.specs.PortLog.{after, no_events}
+use Rattle.lane_models.specs.PortState.{OnLane, PortEvent, PortState, PortStep, before, fresh_port}
 use Rattle.port_laws.specs.NetCore.{fresh_net_core, lane_core}
 use Rattle.port_laws.specs.PortCore.{port_core, port_events}
 use Rattle.port_laws.proofs.Fitting.{BothFit}

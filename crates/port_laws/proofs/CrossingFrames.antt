@@ -16,30 +16,30 @@ use Rattle.runs.specs.Lawful.{log_of}
 use Rattle.runs.specs.Run.{Run}
 use Rattle.vio_handshake.specs.declared.handshake.Handshake.{Handshake}
 use Rattle.vio_tag.specs.declared.message.Message.{Message}
-use Rattle.channel_laws.proofs.EndStanding.{held_stands}
-use Rattle.channel_laws.specs.EndPuts.{handshake_behind}
-use Rattle.channel_laws.specs.Seeing.{Seen}
-use Rattle.channel_laws.specs.WireAt.{IsUp}
-use Rattle.channel_laws.specs.WireLog.{WireLog}
-use Rattle.channel_laws.specs.Standing.{EndStands}
+use Rattle.lane_models.proofs.EndStanding.{held_stands}
+use Rattle.lane_models.specs.EndPuts.{handshake_behind}
+use Rattle.lane_models.specs.Seeing.{Seen}
+use Rattle.lane_models.specs.WireAt.{IsUp}
+use Rattle.lane_models.specs.WireLog.{WireLog}
+use Rattle.lane_models.specs.Standing.{EndStands}
 use Rattle.cookie_copy.specs.Faults.{is_up}
 use Rattle.cookie_copy.specs.Reach.{Reach}
-use Rattle.port_model.proofs.Refuting.{none_some, of_some}
-use Rattle.port_model.proofs.Ruling.{says_of}
-use Rattle.port_model.specs.EndLog.{EndLog}
-use Rattle.port_model.specs.Fetching.{Fetched, fetched}
-use Rattle.port_model.specs.FramesStand.{CountsStand, FramesStand}
-use Rattle.port_model.specs.NetEndPutting.{announcement, answer, answers, cleared_by_put, groups_answer, holding, holding_own, net_holds, net_kind, net_opens, net_put, opened_by_put}
-use Rattle.port_model.specs.Groups.{membership}
-use Rattle.port_model.specs.NetEndRule.{Announces, Fetches, NetRule, Publishes, Puts, Replies, Says, Tells, port_rule}
-use Rattle.port_model.specs.NetEndState.{Activity, NetEndState, NetSession, joined_net_end, unseen, unseen_in}
-use Rattle.port_model.specs.NetEndStep.{Blocked, Frame, Idle, NetAnswer, NetEndStep, NetLeft, NetPublishes, NetSends, Published, Sent, Took}
-use Rattle.port_model.specs.NetEndTaking.{GoesOn, NetTake, NetTakes, Resets}
-use Rattle.port_model.specs.NetEvent.{CalmTick, Steps, Ticked}
-use Rattle.port_model.specs.NetLaneState.{IsNetShape, NetLaneState, NetShape, reach_of, seen_at}
-use Rattle.port_model.specs.NetLaneStep.{EndSteps}
-use Rattle.port_model.specs.PortLog.{PortLog, after, no_events}
-use Rattle.port_model.specs.PortState.{OnLane, PortEvent, PortState, PortStep, before, fresh_port, moves_first}
+use Rattle.lane_models.proofs.Refuting.{none_some, of_some}
+use Rattle.lane_models.proofs.Ruling.{says_of}
+use Rattle.lane_models.specs.EndLog.{EndLog}
+use Rattle.lane_models.specs.Fetching.{Fetched, fetched}
+use Rattle.lane_models.specs.FramesStand.{CountsStand, FramesStand}
+use Rattle.lane_models.specs.NetEndPutting.{announcement, answer, answers, cleared_by_put, groups_answer, holding, holding_own, net_holds, net_kind, net_opens, net_put, opened_by_put}
+use Rattle.lane_models.specs.Groups.{membership}
+use Rattle.lane_models.specs.NetEndRule.{Announces, Fetches, NetRule, Publishes, Puts, Replies, Says, Tells, port_rule}
+use Rattle.lane_models.specs.NetEndState.{Activity, NetEndState, NetSession, joined_net_end, unseen, unseen_in}
+use Rattle.lane_models.specs.NetEndStep.{Blocked, Frame, Idle, NetAnswer, NetEndStep, NetLeft, NetPublishes, NetSends, Published, Sent, Took}
+use Rattle.lane_models.specs.NetEndTaking.{GoesOn, NetTake, NetTakes, Resets}
+use Rattle.lane_models.specs.NetEvent.{CalmTick, Steps, Ticked}
+use Rattle.lane_models.specs.NetLaneState.{IsNetShape, NetLaneState, NetShape, reach_of, seen_at}
+use Rattle.lane_models.specs.NetLaneStep.{EndSteps}
+use Rattle.lane_models.specs.PortLog.{PortLog, after, no_events}
+use Rattle.lane_models.specs.PortState.{OnLane, PortEvent, PortState, PortStep, before, fresh_port, moves_first}
 use Rattle.port_laws.specs.Crossing.{crossing, fresh_frames, ready_in, untaken}
 use Rattle.port_laws.specs.NetCore.{net_core}
 use Rattle.port_laws.specs.Remaining.{ready_slots}
@@ -178,7 +178,7 @@ guest_crossing shape u l answer t ready room step = by_answer answer step
         → IsUp A u.lane.wire.wire
     up_at given left made stays = acts_up Initiator g (seen_at A u.lane) u.lane.guest_memory (reach_of A u.lane) given left made u.lane.wire.wire.end_a refl stays
 
-    acting : IsUp A u.lane.wire.wire → Acting Initiator shape.slots [] g l.guest l.transcript.client
+    acting : IsUp A u.lane.wire.wire → Acting Initiator shape.slots [] g l.guest l.transcript.a
     acting up = end_acts shape A u l ready (ap is_up up)
 
     by_answer : (given : NetAnswer) → EndSteps A u.lane given t → lane_crossing t ≤ lane_crossing u.lane
@@ -191,12 +191,12 @@ guest_crossing shape u l answer t ready room step = by_answer answer step
         let most = acts.slots_fit.most in
         let place = room.guest in
         goes_kept u.lane t made.left.own made.left.end up (ap (λ (w : WireLog). w.wire.end_a) now.wire) now.end now.own
-        (takes_kept u.lane.guest_memory packet g l.transcript.client (GoesOn made.left.end opens made.left.own) acts.ends acts.stands (omega (arith, slots_is, some)) (omega (arith, slots_is, most, place)) made.step.1)
+        (takes_kept u.lane.guest_memory packet g l.transcript.a (GoesOn made.left.end opens made.left.own) acts.ends acts.stands (omega (arith, slots_is, some)) (omega (arith, slots_is, most, place)) made.step.1)
     by_answer (Sent packet opens) made =
         let now = step_now A u.lane t (Sent packet opens) made in
         let up = up_at (Sent packet opens) made.left made.step refl in
         goes_kept u.lane t made.left.own made.left.end up (ap (λ (w : WireLog). w.wire.end_a) now.wire) now.end now.own
-        (sends_kept shape.slots [] g l.guest l.transcript.client (seen_at A u.lane) u.lane.guest_memory (reach_of A u.lane) packet opens made.left (acting up) made.step)
+        (sends_kept shape.slots [] g l.guest l.transcript.a (seen_at A u.lane) u.lane.guest_memory (reach_of A u.lane) packet opens made.left (acting up) made.step)
     by_answer Blocked made =
         grind (arith, step_now A u.lane t Blocked made, up_at Blocked made.left made.step refl, goes_kept, held_kept)
     by_answer Idle made = grind (arith, step_now A u.lane t Idle made, up_at, goes_kept)

@@ -3,10 +3,10 @@ use Rattle.std.proofs.Common.{◌≡◌, ℕ, ◌+◌, ◌≤◌, Bool, true, fa
 use Rattle.std.specs.Prelude.{is_none}
 use Rattle.std.proofs.lemmas.List.{drop-append-le, drop-drop}
 use Rattle.ldc_link.specs.declared.phase.Role.{Role}
-use Rattle.port_model.proofs.Refuting.{false_true}
-use Rattle.port_model.specs.EndLog.{EndLog, SessionLog, said_in, said_kind}
-use Rattle.port_model.specs.NetEndState.{NetEndState, NetSession}
-use Rattle.port_model.specs.Spoken.{Spoken}
+use Rattle.lane_models.proofs.Refuting.{false_true}
+use Rattle.lane_models.specs.EndLog.{EndLog, SessionLog, said_in, said_kind}
+use Rattle.lane_models.specs.NetEndState.{NetEndState, NetSession}
+use Rattle.lane_models.specs.Spoken.{Spoken}
 use Rattle.port_laws.specs.Counted.{AnswersRightly, Counts, EndCounts, GuestCounts, GuestGroups, NoneTold, PeerCounts, RingCounts, SessionCounts, left_of, unsaid}
 
 -- AN OPEN SESSION, of the end and of its log

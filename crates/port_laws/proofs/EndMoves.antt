@@ -19,26 +19,26 @@ use Rattle.vio_tag.specs.declared.message.MsgBody.{MsgBody}
 use Rattle.vio_tag.specs.declared.message.MsgBody.TheVariants.{Mcast}
 use Rattle.vio_tag.specs.Decoding.{Decodes}
 use Rattle.vio_tag.specs.Spelling.{SpellsBody, addresses_at, canonical}
-use Rattle.channel_laws.specs.EndPuts.{handshake_behind, kind_in, put_kind}
-use Rattle.channel_laws.specs.Seeing.{Seen}
+use Rattle.lane_models.specs.EndPuts.{handshake_behind, kind_in, put_kind}
+use Rattle.lane_models.specs.Seeing.{Seen}
 use Rattle.cookie_copy.specs.Reach.{Reach}
-use Rattle.channel_laws.specs.EndCore.{Begins, EndMove, Fails, Hears, Says as SaysPacket, Stays, Waits, holds}
-use Rattle.channel_laws.specs.EndStep.{EndBegins, EndFails, EndHears, EndSays, EndStays, EndStep, EndWaits, HearsWhole, Holding, Holds, HoldsOn, HoldsOwed, HoldsOwn, IsOfSession, LinkFails, MayTake, WholeFails, opened_by, risen_at}
-use Rattle.port_model.specs.Fetching.{Fetched, NotReady, fetched}
-use Rattle.port_model.specs.Groups.{membership}
-use Rattle.port_model.specs.NetEndPutting.{announcement, answer, answers, groups_answer, holding, holding_own, net_holds, net_kind, net_opens, net_put, opened_by_put}
-use Rattle.port_model.specs.NetEndRule.{Announces, Fetches, NetRule, Publishes, Puts, Replies, Says, Takes, Tells, port_rule}
-use Rattle.port_model.specs.NetEndState.{Activity, GroupsReply, NetEndState, NetSession, joined_net_end}
-use Rattle.port_model.specs.NetEndStep.{Blocked, Frame, Idle, Joined, NetAnswer, NetEndStep, NetFails, NetLeft, NetSends, Published, Reset, Sent, Took, taken}
-use Rattle.port_model.specs.NetEndTaking as take
-use Rattle.port_model.specs.Offers.{port_offer}
-use Rattle.port_model.specs.RuleFacts.{IsFree, IsFreeIn}
-use Rattle.port_model.proofs.Ruling.{says_of}
+use Rattle.lane_models.specs.EndCore.{Begins, EndMove, Fails, Hears, Says as SaysPacket, Stays, Waits, holds}
+use Rattle.lane_models.specs.EndStep.{EndBegins, EndFails, EndHears, EndSays, EndStays, EndStep, EndWaits, HearsWhole, Holding, Holds, HoldsOn, HoldsOwed, HoldsOwn, IsOfSession, LinkFails, MayTake, WholeFails, opened_by, risen_at}
+use Rattle.lane_models.specs.Fetching.{Fetched, NotReady, fetched}
+use Rattle.lane_models.specs.Groups.{membership}
+use Rattle.lane_models.specs.NetEndPutting.{announcement, answer, answers, groups_answer, holding, holding_own, net_holds, net_kind, net_opens, net_put, opened_by_put}
+use Rattle.lane_models.specs.NetEndRule.{Announces, Fetches, NetRule, Publishes, Puts, Replies, Says, Takes, Tells, port_rule}
+use Rattle.lane_models.specs.NetEndState.{Activity, GroupsReply, NetEndState, NetSession, joined_net_end}
+use Rattle.lane_models.specs.NetEndStep.{Blocked, Frame, Idle, Joined, NetAnswer, NetEndStep, NetFails, NetLeft, NetSends, Published, Reset, Sent, Took, taken}
+use Rattle.lane_models.specs.NetEndTaking as take
+use Rattle.lane_models.specs.Offers.{port_offer}
+use Rattle.lane_models.specs.RuleFacts.{IsEndFree, IsFreeIn}
+use Rattle.lane_models.proofs.Ruling.{says_of}
 use Rattle.port_laws.specs.NetCore.{more_in, more_of, net_core, one_if}
 use Rattle.port_laws.specs.NetFits.{AddressesAreShort, GroupsFit, NetFits, ReplyFits, SessionFits, SomeFits}
 use Rattle.port_laws.proofs.ShortMessages.{announcement_short, answer_short, membership_short, read_long, read_short, reply_short}
 use Rattle.port_laws.proofs.Taking.{BodyFits, TakeGoes, message_goes}
-use Rattle.port_model.proofs.Refuting.{false_true, none_some, of_some, true_false}
+use Rattle.lane_models.proofs.Refuting.{false_true, none_some, of_some, true_false}
 
 -- HOW MANY MORE messages
 pub one_most : (b : Bool) → one_if b ≤ 1
@@ -192,7 +192,7 @@ both_true a b is = grind (arith, false_true)
 phase_held : (ph : LinkPhase) (k : LinkState) → k.phase ≡ ph → is_established ph ≡ true → owes k ≡ false → not (is_empty k.to_send) ≡ true → ⊥
 phase_held ph k is up quiet held = grind (arith, some_left, false_true)
 
-may_take : (role : Role) (s : NetEndState) (at : Seen) → IsFree s at → MayTake (net_core role s)
+may_take : (role : Role) (s : NetEndState) (at : Seen) → IsEndFree s at → MayTake (net_core role s)
 may_take role s at free = record { owed = free.owed; quiet = λ closed. free.quiet }
 
 fits_of : (bytes : List ℕ) (b : MsgBody) → SpellsBody bytes b → BodyFits b
@@ -247,7 +247,7 @@ link_goes role s memory packet link tk given takes hears = grind (arith, risen_s
 pub packet_goes : (role : Role) (s : NetEndState) (memory packet : List ℕ) (tk : take.NetTake) → NetFits role s → take.NetTakes role s memory packet tk → LinkGoes role s packet tk
 packet_goes role s memory packet tk fits takes = link_goes role s memory packet takes.link tk fits takes.takes takes.hears
 
-hears_core : (role : Role) (s : NetEndState) (at : Seen) (packet : List ℕ) (t : NetEndState) (opens : Bool) → IsFree s at → PacketGoes role s packet t opens
+hears_core : (role : Role) (s : NetEndState) (at : Seen) (packet : List ℕ) (t : NetEndState) (opens : Bool) → IsEndFree s at → PacketGoes role s packet t opens
     → EndHears role (net_core role s) packet opens (net_core role t)
 hears_core role s at packet t opens free goes = grind (arith, may_take, both_true, phase_held, more_most)
 
@@ -258,7 +258,7 @@ begins_core role s = record { link = refl; handshake = refl; offer = refl; close
 slot_fails : (role : Role) (s : NetEndState) (p : NetSession) (packet : Option (List ℕ)) (cause : Cause) → packet ≡ None → s.session ≡ Some p → EndFails role (net_core role s) cause packet
 slot_fails role s p packet cause is session = subst (EndFails role (net_core role s) cause) (sym is) (ap (λ (x : Option NetSession). is_some x) session)
 
-packet_fails : (role : Role) (s : NetEndState) (at : Seen) (memory bytes : List ℕ) (packet : Option (List ℕ)) (cause : Cause) → NetFits role s → IsFree s at → packet ≡ Some bytes
+packet_fails : (role : Role) (s : NetEndState) (at : Seen) (memory bytes : List ℕ) (packet : Option (List ℕ)) (cause : Cause) → NetFits role s → IsEndFree s at → packet ≡ Some bytes
     → take.NetTakes role s memory bytes (take.Resets cause) → EndFails role (net_core role s) cause packet
 packet_fails role s at memory bytes packet cause fits free is takes =
     let goes = packet_goes role s memory bytes (take.Resets cause) fits takes in

@@ -2,12 +2,12 @@
 use Rattle.std.proofs.Common.{List, [], ◌∷◌, ◌++◌}
 use Rattle.runs.specs.Lawful.{log_of}
 use Rattle.runs.specs.Run.{Run, run_push}
-use Rattle.channel_laws.specs.ResetSays.{WireResetAt}
-use Rattle.channel_laws.specs.WireAt.{WireGapAt}
-use Rattle.port_model.specs.NetLaneState.{IsNetShape, NetShape}
-use Rattle.port_model.specs.PortLog.{after, no_events}
-use Rattle.port_model.specs.PortMay.{IsLawfulPort, PortMay}
-use Rattle.port_model.specs.PortState.{PortEvent, PortState, PortStep, fresh_port}
+use Rattle.lane_models.specs.ResetSays.{WireResetAt}
+use Rattle.lane_models.specs.WireAt.{WireGapAt}
+use Rattle.lane_models.specs.NetLaneState.{IsNetShape, NetShape}
+use Rattle.lane_models.specs.PortLog.{after, no_events}
+use Rattle.lane_models.specs.PortMay.{IsLawfulPort, PortMay}
+use Rattle.lane_models.specs.PortState.{PortEvent, PortState, PortStep, fresh_port}
 use Rattle.port_laws.proofs.GroupsAgree.{port_joins}
 use Rattle.port_laws.proofs.NoRefusal.{port_unforged_wire}
 use Rattle.port_laws.proofs.PortResets.{port_resets_so}

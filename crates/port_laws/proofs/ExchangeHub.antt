@@ -14,27 +14,27 @@ use Rattle.vio_handshake.specs.Rules.{HandshakeTake}
 use Rattle.vio_tag.specs.declared.message.Message.{Message}
 use Rattle.vio_tag.specs.declared.message.TagFault.{TagFault}
 use Rattle.vio_tag.specs.Spelling.{envelope_at}
-use Rattle.channel_laws.specs.Messages.{ended_by}
-use Rattle.channel_laws.specs.Sayings.{half_heard, heard, said}
-use Rattle.channel_laws.specs.Seeing.{Seen}
-use Rattle.channel_laws.specs.WireAt.{IsUp}
-use Rattle.channel_laws.specs.WireLog.{WireLog}
-use Rattle.channel_laws.proofs.LinkCases.{link_heard}
-use Rattle.channel_laws.specs.Sides.{sides_of, swapped}
-use Rattle.channel_laws.specs.Standing.{EndStands}
-use Rattle.port_model.proofs.Refuting.{none_some, true_false}
-use Rattle.port_model.proofs.Ruling.{says_of}
-use Rattle.port_model.specs.NetEndPutting.{holding, net_holds}
-use Rattle.port_model.specs.NetEndRule.{Announces, Fetches, NetRule, Publishes, Puts, Replies, Says, Takes, Tells, port_rule}
-use Rattle.port_model.specs.NetEndState.{NetEndState, NetSession}
-use Rattle.port_model.specs.NetEndStep.{Blocked, Frame, Idle, Joined, NetAnswer, NetEndStep, NetLeft, Published, Reset, Sent, Took, published, taken}
-use Rattle.port_model.specs.NetEndTaking.{GoesOn, HearsLink, HearsWhole, NetTakes, Resets, by_handshake, reads, risen}
-use Rattle.port_model.specs.NetEvent.{Steps}
-use Rattle.port_model.specs.NetLaneState.{NetShape, reach_of, seen_at}
-use Rattle.port_model.specs.PortLog.{PortLog, after}
-use Rattle.port_model.specs.PortState.{OnLane, PortState}
-use Rattle.port_model.specs.RuleFacts.{IfOpen, MayListen}
-use Rattle.port_model.specs.Spoken.{addresses_of}
+use Rattle.lane_models.specs.Messages.{ended_by}
+use Rattle.lane_models.specs.Sayings.{half_heard, heard, said}
+use Rattle.lane_models.specs.Seeing.{Seen}
+use Rattle.lane_models.specs.WireAt.{IsUp}
+use Rattle.lane_models.specs.WireLog.{WireLog}
+use Rattle.lane_models.proofs.LinkCases.{link_heard}
+use Rattle.lane_models.specs.Sides.{sides_of, swapped}
+use Rattle.lane_models.specs.Standing.{EndStands}
+use Rattle.lane_models.proofs.Refuting.{none_some, true_false}
+use Rattle.lane_models.proofs.Ruling.{says_of}
+use Rattle.lane_models.specs.NetEndPutting.{holding, net_holds}
+use Rattle.lane_models.specs.NetEndRule.{Announces, Fetches, NetRule, Publishes, Puts, Replies, Says, Takes, Tells, port_rule}
+use Rattle.lane_models.specs.NetEndState.{NetEndState, NetSession}
+use Rattle.lane_models.specs.NetEndStep.{Blocked, Frame, Idle, Joined, NetAnswer, NetEndStep, NetLeft, Published, Reset, Sent, Took, published, taken}
+use Rattle.lane_models.specs.NetEndTaking.{GoesOn, HearsLink, HearsWhole, NetTakes, Resets, by_handshake, reads, risen}
+use Rattle.lane_models.specs.NetEvent.{Steps}
+use Rattle.lane_models.specs.NetLaneState.{NetShape, reach_of, seen_at}
+use Rattle.lane_models.specs.PortLog.{PortLog, after}
+use Rattle.lane_models.specs.PortState.{OnLane, PortState}
+use Rattle.lane_models.specs.RuleFacts.{IfOpen, MayListen}
+use Rattle.lane_models.specs.Spoken.{addresses_of}
 use Rattle.port_laws.specs.Counted.{unsaid}
 use Rattle.port_laws.specs.NetCore.{is_begun, lane_core, net_core, net_core_at}
 use Rattle.port_laws.proofs.EndCounting.{empty_unsaid}
@@ -57,69 +57,69 @@ use Rattle.port_laws.proofs.WayActs.{ClosedFits}
 use Rattle.port_laws.proofs.WayMoves.{EachLow, low_rest}
 use Rattle.port_laws.proofs.WayPlain.{closed_plain}
 use Rattle.port_laws.proofs.WayRuns.{guest_open_up, hub_goes, hub_plain, peer_was_up}
-use Rattle.channel_laws.proofs.Apart.{some_same}
+use Rattle.lane_models.proofs.Apart.{some_same}
 
 named_in : (m : List ℕ) → is_groups m ≡ true → envelope_at m ≡ 0x0101
 named_in m is = eqb-true (envelope_at m) 0x0101 is
 
 -- IN SESSION
 module _ (shape : NetShape) (u t : PortState) (l : PortLog) (left : NetLeft) (p q : NetSession) (session : u.lane.hub.session ≡ Some q) (fresh : Fresh [] u.lane.guest.groups)
-    (was : Between u.lane.guest u.lane.hub l.transcript.client l.transcript.server p) where
+    (was : Between u.lane.guest u.lane.hub l.transcript.a l.transcript.b p) where
   abbrev sid : ℕ
   sid = u.lane.guest.handshake.draft.sid
 
   abbrev Now : List Utterance → Type 0
-  Now turns = Between u.lane.guest left.end l.transcript.client turns p
+  Now turns = Between u.lane.guest left.end l.transcript.a turns p
 
   quiet_now : (now_is : NetSession) → left.end.session ≡ Some now_is → left.end.groups ≡ u.lane.hub.groups → left.end.handshake ≡ u.lane.hub.handshake → left.end.link.to_send ≡ u.lane.hub.link.to_send
-      → now_is.reply ≡ q.reply → Now l.transcript.server
+      → now_is.reply ≡ q.reply → Now l.transcript.b
   quiet_now now_is is groups handshake sends reply = grind (arith, same_outbox, same_exchange)
 
-  forms_now : (held : NetEndState) → Acting Responder shape.slots u.queue u.lane.hub l.hub l.transcript.server → MayForm Responder sid u.lane.hub q
+  forms_now : (held : NetEndState) → Acting Responder shape.slots u.queue u.lane.hub l.hub l.transcript.b → MayForm Responder sid u.lane.hub q
       → net_holds (port_rule Responder u.lane.hub (seen_at B u.lane)) u.lane.hub (reach_of B u.lane) ≡ Some held
-      → HubForms held u.lane.hub sid u.lane.guest.groups p (outbox u.lane.guest l.transcript.client l.transcript.server) l.transcript.client l.transcript.server
+      → HubForms held u.lane.hub sid u.lane.guest.groups p (outbox u.lane.guest l.transcript.a l.transcript.b) l.transcript.a l.transcript.b
   forms_now held acting may holds =
-      hub_forms u.lane.hub held q sid u.lane.guest.groups p (outbox u.lane.guest l.transcript.client l.transcript.server) l.transcript.client l.transcript.server session
+      hub_forms u.lane.hub held q sid u.lane.guest.groups p (outbox u.lane.guest l.transcript.a l.transcript.b) l.transcript.a l.transcript.b session
       (formed_by Responder sid u.lane.hub (seen_at B u.lane) (reach_of B u.lane) (port_rule Responder u.lane.hub (seen_at B u.lane)) held q may refl holds) was
 
-  took_now : (packet : List ℕ) (opens : Bool) → Acting Responder shape.slots u.queue u.lane.hub l.hub l.transcript.server → PortTwoEnds shape (lane_core u.lane) l → IsUp A u.lane.wire.wire → IsUp B u.lane.wire.wire
-      → q.reply ≡ None → IsFront (heard (Heard packet ∷ l.transcript.server)) (said l.transcript.client) → NetTakes Responder u.lane.hub u.lane.hub_memory packet (GoesOn left.end opens left.own)
-      → Now (Heard packet ∷ l.transcript.server)
+  took_now : (packet : List ℕ) (opens : Bool) → Acting Responder shape.slots u.queue u.lane.hub l.hub l.transcript.b → PortTwoEnds shape (lane_core u.lane) l → IsUp A u.lane.wire.wire → IsUp B u.lane.wire.wire
+      → q.reply ≡ None → IsFront (heard (Heard packet ∷ l.transcript.b)) (said l.transcript.a) → NetTakes Responder u.lane.hub u.lane.hub_memory packet (GoesOn left.end opens left.own)
+      → Now (Heard packet ∷ l.transcript.b)
   took_now packet opens acting two_ends up other_up listens front takes =
-      by_hears (hears_in Responder u.lane.hub l.transcript.server u.lane.hub_memory packet (GoesOn left.end opens left.own) acting.ends (session_up Responder u.lane.hub l.transcript.server q acting.ends session) takes)
+      by_hears (hears_in Responder u.lane.hub l.transcript.b u.lane.hub_memory packet (GoesOn left.end opens left.own) acting.ends (session_up Responder u.lane.hub l.transcript.b q acting.ends session) takes)
     where
       opened : is_some u.lane.hub.session ≡ true
       opened = ap is_some session
 
-      by_hears : Hears Responder u.lane.hub u.lane.hub_memory l.transcript.server packet (GoesOn left.end opens left.own) → Now (Heard packet ∷ l.transcript.server)
+      by_hears : Hears Responder u.lane.hub u.lane.hub_memory l.transcript.b packet (GoesOn left.end opens left.own) → Now (Heard packet ∷ l.transcript.b)
       by_hears (inl none) = grind (arith, none.is)
       by_hears (inr (inr refused)) = let never : GoesOn left.end opens left.own ≡ Resets refused.cause = refused.is in absurd (cc never)
       by_hears (inr (inl one)) = by_notes noted.1
         where
-          grown : IsFront (heard l.transcript.server ++ one.bytes ∷ []) (said l.transcript.client)
-          grown = subst (λ (xs : List (List ℕ)). IsFront xs (said l.transcript.client)) one.messages front
+          grown : IsFront (heard l.transcript.b ++ one.bytes ∷ []) (said l.transcript.a)
+          grown = subst (λ (xs : List (List ℕ)). IsFront xs (said l.transcript.a)) one.messages front
 
           asks : List (List ℕ)
-          asks = outbox u.lane.guest l.transcript.client (Heard packet ∷ l.transcript.server)
+          asks = outbox u.lane.guest l.transcript.a (Heard packet ∷ l.transcript.b)
 
-          first : outbox u.lane.guest l.transcript.client l.transcript.server ≡ one.bytes ∷ asks
-          first = outbox_heard u.lane.guest l.transcript.client l.transcript.server packet one.bytes one.messages grown
+          first : outbox u.lane.guest l.transcript.a l.transcript.b ≡ one.bytes ∷ asks
+          first = outbox_heard u.lane.guest l.transcript.a l.transcript.b packet one.bytes one.messages grown
 
-          before : ExchangeIn sid u.lane.guest.groups p (one.bytes ∷ asks) (outbox u.lane.hub l.transcript.server l.transcript.client) u.lane.hub.session u.lane.hub.groups
-          before = subst (λ (xs : List (List ℕ)). ExchangeIn sid u.lane.guest.groups p xs (outbox u.lane.hub l.transcript.server l.transcript.client) u.lane.hub.session u.lane.hub.groups) first was
+          before : ExchangeIn sid u.lane.guest.groups p (one.bytes ∷ asks) (outbox u.lane.hub l.transcript.b l.transcript.a) u.lane.hub.session u.lane.hub.groups
+          before = subst (λ (xs : List (List ℕ)). ExchangeIn sid u.lane.guest.groups p xs (outbox u.lane.hub l.transcript.b l.transcript.a) u.lane.hub.session u.lane.hub.groups) first was
 
           own : OwnRead one.bytes (two_ends.two_ends B).meets.handshakes.sid
           own = next_read (asks_of shape) (answers_of shape) Responder Initiator (swapped (sides_of (lane_core u.lane) l.transcript)) one.bytes sid (two_ends.two_ends B) other_up opened up grown before.asks_fit.0
 
           in_it : InSession Responder (record u.lane.hub { link = one.link }) q u.lane.hub_memory own.message (GoesOn left.end opens left.own)
           in_it =
-              in_own_session Responder u.lane.hub q u.lane.hub_memory packet l.transcript.server (GoesOn left.end opens left.own) (two_ends.two_ends B).meets.handshakes.sid one session
+              in_own_session Responder u.lane.hub q u.lane.hub_memory packet l.transcript.b (GoesOn left.end opens left.own) (two_ends.two_ends B).meets.handshakes.sid one session
               (mine_agreed (asks_of shape) (answers_of shape) Responder (swapped (sides_of (lane_core u.lane) l.transcript)) (two_ends.two_ends B) other_up opened).knows own
 
           does : Does Responder (record u.lane.hub { link = one.link }) q u.lane.hub_memory own.message.subtype own.message.body left.end opens left.own
           does =
               subst (TakeDoes Responder (record u.lane.hub { link = one.link }) q u.lane.hub_memory own.message.subtype own.message.body) (sym in_it.hears)
-              (message_does Responder (record u.lane.hub { link = one.link }) q u.lane.hub_memory own.message (session_open Responder u.lane.hub l.transcript.server q acting.ends session))
+              (message_does Responder (record u.lane.hub { link = one.link }) q u.lane.hub_memory own.message (session_open Responder u.lane.hub l.transcript.b q acting.ends session))
 
           noted : (now : NetSession) × (HubNotes (record u.lane.hub { link = one.link }) left.end q now one.bytes ⊎ HubLearns (record u.lane.hub { link = one.link }) left.end now one.bytes)
           noted =
@@ -127,23 +127,23 @@ module _ (shape : NetShape) (u t : PortState) (l : PortLog) (left : NetLeft) (p 
               (λ named. learnt u.lane.guest.groups u.lane.hub.groups one.bytes fresh before.front (before.tells.0 named)) in_it.is does.does
 
           with_out : (known : List (List ℕ)) → left.end.groups ≡ known → left.end.handshake ≡ u.lane.hub.handshake → left.end.link.to_send ≡ u.lane.hub.link.to_send
-              → ExchangeIn sid u.lane.guest.groups p asks (outbox u.lane.hub l.transcript.server l.transcript.client) left.end.session known → Now (Heard packet ∷ l.transcript.server)
+              → ExchangeIn sid u.lane.guest.groups p asks (outbox u.lane.hub l.transcript.b l.transcript.a) left.end.session known → Now (Heard packet ∷ l.transcript.b)
           with_out known groups handshake sends exchange = grind (arith, same_outbox)
 
           by_notes : HubNotes (record u.lane.hub { link = one.link }) left.end q noted.0 one.bytes ⊎ HubLearns (record u.lane.hub { link = one.link }) left.end noted.0 one.bytes
-              → Now (Heard packet ∷ l.transcript.server)
+              → Now (Heard packet ∷ l.transcript.b)
           by_notes (inl notes) =
               with_out u.lane.hub.groups notes.groups notes.handshake (notes.sends ∙ one.sends)
-              (hub_hears sid u.lane.guest.groups p asks (outbox u.lane.hub l.transcript.server l.transcript.client) u.lane.hub.session left.end.session u.lane.hub.groups one.bytes notes.range
+              (hub_hears sid u.lane.guest.groups p asks (outbox u.lane.hub l.transcript.b l.transcript.a) u.lane.hub.session left.end.session u.lane.hub.groups one.bytes notes.range
               (ap reply_in notes.session ∙ notes.reply ∙ sym (ap reply_in session)) before)
           by_notes (inr learns) =
               with_out (addresses_of one.bytes) learns.groups learns.handshake (learns.sends ∙ one.sends)
-              (hub_learns sid u.lane.guest.groups p asks (outbox u.lane.hub l.transcript.server l.transcript.client) u.lane.hub.session left.end.session u.lane.hub.groups one.bytes learns.answer
+              (hub_learns sid u.lane.guest.groups p asks (outbox u.lane.hub l.transcript.b l.transcript.a) u.lane.hub.session left.end.session u.lane.hub.groups one.bytes learns.answer
               (before.tells.0 (named_in one.bytes learns.named)) learns.named (ap reply_in session ∙ listens) (ap reply_in learns.session ∙ learns.reply) learns.agrees before)
 
 hub_in : (shape : NetShape) (u t : PortState) (l : PortLog) (answer : NetAnswer) (left : NetLeft) (p q : NetSession) → Acts shape B u t l answer left → Goes answer → u.lane.hub.session ≡ Some q
-    → u.lane.guest.session ≡ Some p → Fresh [] u.lane.guest.groups → IsUp A u.lane.wire.wire → IsUp B u.lane.wire.wire → IsFront (heard (utterances_now answer l.transcript.server)) (said l.transcript.client)
-    → Between u.lane.guest u.lane.hub l.transcript.client l.transcript.server p → Between u.lane.guest left.end l.transcript.client (utterances_now answer l.transcript.server) p
+    → u.lane.guest.session ≡ Some p → Fresh [] u.lane.guest.groups → IsUp A u.lane.wire.wire → IsUp B u.lane.wire.wire → IsFront (heard (utterances_now answer l.transcript.b)) (said l.transcript.a)
+    → Between u.lane.guest u.lane.hub l.transcript.a l.transcript.b p → Between u.lane.guest left.end l.transcript.a (utterances_now answer l.transcript.b) p
 hub_in shape u t l (Published id) left p q acts goes session guest fresh up other front was =
     let step = acts.step in
     let says = says_of Responder u.lane.hub (seen_at B u.lane) (Publishes step.session step.frame) step.rule in
@@ -161,7 +161,7 @@ hub_in shape u t l Blocked left p q acts goes session guest fresh up other front
     let agreed = hub_agreed shape u.lane l acts.finds.two_ends up (ap is_some guest) other (ap is_some session) in
     let small = (guest_sid shape u.lane l acts.finds.two_ends up (ap is_some guest)).small in
     let forms = forms_now shape u t l left p q session fresh was left.end acting
-    (record { session = session; agreed = agreed; small = small; empty = λ quiet. free_empty Responder u.lane.hub l.transcript.server acting.ends quiet }) acts.step.0 in
+    (record { session = session; agreed = agreed; small = small; empty = λ quiet. free_empty Responder u.lane.hub l.transcript.b acting.ends quiet }) acts.step.0 in
     rw forms.groups_are forms.exchange
 hub_in shape u t l (Sent packet opens) left p q acts goes session guest fresh up other front was =
     let step = acts.step in
@@ -169,11 +169,11 @@ hub_in shape u t l (Sent packet opens) left p q acts goes session guest fresh up
     let agreed = hub_agreed shape u.lane l acts.finds.two_ends up (ap is_some guest) other (ap is_some session) in
     let small = (guest_sid shape u.lane l acts.finds.two_ends up (ap is_some guest)).small in
     let forms = forms_now shape u t l left p q session fresh was step.held acting
-    (record { session = session; agreed = agreed; small = small; empty = λ quiet. free_empty Responder u.lane.hub l.transcript.server acting.ends quiet }) step.holds in
-    let puts : PutsIt step.held left.end l.transcript.server packet =
-    sends_own Responder shape.slots u.queue u.lane.hub l.hub l.transcript.server (seen_at B u.lane) u.lane.hub_memory (reach_of B u.lane) packet opens left forms.q acting step agreed.owed forms.session_is in
-    rw (puts.groups ∙ forms.groups_are, puts.session) (rw (outbox_put step.held left.end l.transcript.server
-    l.transcript.client packet puts (acts.finds.two_ends.front_a up)) forms.exchange)
+    (record { session = session; agreed = agreed; small = small; empty = λ quiet. free_empty Responder u.lane.hub l.transcript.b acting.ends quiet }) step.holds in
+    let puts : PutsIt step.held left.end l.transcript.b packet =
+    sends_own Responder shape.slots u.queue u.lane.hub l.hub l.transcript.b (seen_at B u.lane) u.lane.hub_memory (reach_of B u.lane) packet opens left forms.q acting step agreed.owed forms.session_is in
+    rw (puts.groups ∙ forms.groups_are, puts.session) (rw (outbox_put step.held left.end l.transcript.b
+    l.transcript.a packet puts (acts.finds.two_ends.front_a up)) forms.exchange)
 hub_in shape u t l (Took packet opens) left p q acts goes session guest fresh up other front was =
     let says = says_of Responder u.lane.hub (seen_at B u.lane) (Takes packet) acts.step.0 in
     let listens : MayListen q = subst (λ (x : Option NetSession). IfOpen x MayListen) session says.2 in
@@ -254,17 +254,17 @@ shut_same sid groups p asks answers now session after_session known low low_now 
 
 abbrev HeardAs : PortState → PortLog → NetSession → List (List ℕ) → Option NetSession → List (List ℕ) → Type 0
 HeardAs u l p now after_session messages =
-    ExchangeIn u.lane.guest.handshake.draft.sid u.lane.guest.groups p (unheard (said l.transcript.client) messages ++ listed (unsaid u.lane.guest)) now after_session u.lane.hub.groups
+    ExchangeIn u.lane.guest.handshake.draft.sid u.lane.guest.groups p (unheard (said l.transcript.a) messages ++ listed (unsaid u.lane.guest)) now after_session u.lane.hub.groups
 
 asks_now : (shape : NetShape) (u : PortState) (l : PortLog) (answer : NetAnswer) (p : NetSession) (now : List (List ℕ)) (after_session : Option NetSession) → Goes answer → reply_in after_session ≡ None
-    → ClosedFits l.transcript.server l.transcript.client answer
-    → ExchangeIn u.lane.guest.handshake.draft.sid u.lane.guest.groups p (outbox u.lane.guest l.transcript.client l.transcript.server) now after_session u.lane.hub.groups
-    → ExchangeIn u.lane.guest.handshake.draft.sid u.lane.guest.groups p (outbox u.lane.guest l.transcript.client (utterances_now answer l.transcript.server)) now after_session u.lane.hub.groups
+    → ClosedFits l.transcript.b l.transcript.a answer
+    → ExchangeIn u.lane.guest.handshake.draft.sid u.lane.guest.groups p (outbox u.lane.guest l.transcript.a l.transcript.b) now after_session u.lane.hub.groups
+    → ExchangeIn u.lane.guest.handshake.draft.sid u.lane.guest.groups p (outbox u.lane.guest l.transcript.a (utterances_now answer l.transcript.b)) now after_session u.lane.hub.groups
 asks_now shape u l (Joined lost) p now after_session goes none fits exchange = absurd goes
 asks_now shape u l (Reset cause packet lost) p now after_session goes none fits exchange = absurd goes
-asks_now shape u l (Took packet opens) p now after_session goes none fits exchange = by_ended (ended_by (half_heard l.transcript.server) packet) (heard_grown l.transcript.server packet)
+asks_now shape u l (Took packet opens) p now after_session goes none fits exchange = by_ended (ended_by (half_heard l.transcript.b) packet) (heard_grown l.transcript.b packet)
   where
-    by_ended : (o : Option (List ℕ)) → Grown o (heard l.transcript.server) (heard (Heard packet ∷ l.transcript.server)) → HeardAs u l p now after_session (heard (Heard packet ∷ l.transcript.server))
+    by_ended : (o : Option (List ℕ)) → Grown o (heard l.transcript.b) (heard (Heard packet ∷ l.transcript.b)) → HeardAs u l p now after_session (heard (Heard packet ∷ l.transcript.b))
     by_ended o is = grind (arith, low_rest, outbox_heard, hub_hears, not_low)
 asks_now shape u l _ p now after_session goes none fits exchange = exchange
 
@@ -294,28 +294,28 @@ hub_exchange shape u t l answer left acts fresh exchange p up other some = as_no
     up_before : IsUp B u.lane.wire.wire
     up_before = acts_up_at shape B u t l answer left acts goes
 
-    turns : then_.transcript.server ≡ utterances_now answer l.transcript.server
+    turns : then_.transcript.b ≡ utterances_now answer l.transcript.b
     turns = (turns_at B l.transcript answer).mine
 
-    same : then_.transcript.client ≡ l.transcript.client
+    same : then_.transcript.a ≡ l.transcript.a
     same = (turns_at B l.transcript answer).theirs
 
-    front : IsFront (heard (utterances_now answer l.transcript.server)) (said l.transcript.client)
-    front = subst (λ (xs : List Utterance). IsFront (heard xs) (said l.transcript.client)) turns (subst (λ (xs : List Utterance). IsFront (heard then_.transcript.server) (said xs)) same (acts.two_ends.front other))
+    front : IsFront (heard (utterances_now answer l.transcript.b)) (said l.transcript.a)
+    front = subst (λ (xs : List Utterance). IsFront (heard xs) (said l.transcript.a)) turns (subst (λ (xs : List Utterance). IsFront (heard then_.transcript.b) (said xs)) same (acts.two_ends.front other))
 
-    as_now : Between u.lane.guest left.end l.transcript.client (utterances_now answer l.transcript.server) p → Between t.lane.guest t.lane.hub then_.transcript.client then_.transcript.server p
+    as_now : Between u.lane.guest left.end l.transcript.a (utterances_now answer l.transcript.b) p → Between t.lane.guest t.lane.hub then_.transcript.a then_.transcript.b p
     as_now one = rw (turns, same, acts.now.peer_end, acts.now.end) one
 
-    was : Between u.lane.guest u.lane.hub l.transcript.client l.transcript.server p
+    was : Between u.lane.guest u.lane.hub l.transcript.a l.transcript.b p
     was = exchange p guest_before up_before guest_some
 
-    stands_now : EndStands Responder (net_core Responder t.lane.hub) then_.transcript.server
-    stands_now = subst (λ (x : ChannelState). EndStands Responder (net_core_at Responder (is_begun x) t.lane.hub) then_.transcript.server) other (acts.two_ends.two_ends B).mine
+    stands_now : EndStands Responder (net_core Responder t.lane.hub) then_.transcript.b
+    stands_now = subst (λ (x : ChannelState). EndStands Responder (net_core_at Responder (is_begun x) t.lane.hub) then_.transcript.b) other (acts.two_ends.two_ends B).mine
 
     shut_now : left.end.session ≡ None → unsaid left.end ≡ None
     shut_now none =
         subst (λ (x : NetEndState). unsaid x ≡ None) acts.now.end
-        (shut_unsaid Responder t.lane.hub then_.transcript.server stands_now (ap (λ (x : NetEndState). x.session) acts.now.end ∙ none))
+        (shut_unsaid Responder t.lane.hub then_.transcript.b stands_now (ap (λ (x : NetEndState). x.session) acts.now.end ∙ none))
 
     -- nothing of a session is held
     none_left : u.lane.hub.session ≡ None → (given : NetAnswer) → answer ≡ given → ShutStays given left.end → unsaid left.end ≡ None
@@ -323,22 +323,22 @@ hub_exchange shape u t l answer left acts fresh exchange p up other some = as_no
         let step = subst (λ (given : NetAnswer). Acts shape B u t l given left) is acts in
         let says = says_of Responder u.lane.hub (seen_at B u.lane) (Takes packet) step.step.0 in
         let took = shut_took u.lane.hub left.end u.lane.hub_memory packet left.own opens none step.step.1 in
-        empty_unsaid left.end (took.sends ∙ free_empty Responder u.lane.hub l.transcript.server (acting_at shape B u l acts.finds up_before).ends says.0.quiet)
+        empty_unsaid left.end (took.sends ∙ free_empty Responder u.lane.hub l.transcript.b (acting_at shape B u l acts.finds up_before).ends says.0.quiet)
     none_left none _ is stays = shut_now stays
 
-    by_session : (session : Option NetSession) → u.lane.hub.session ≡ session → Between u.lane.guest left.end l.transcript.client (utterances_now answer l.transcript.server) p
+    by_session : (session : Option NetSession) → u.lane.hub.session ≡ session → Between u.lane.guest left.end l.transcript.a (utterances_now answer l.transcript.b) p
     by_session (Some q) is = hub_in shape u t l answer left p q acts goes is guest_some fresh guest_before up_before front was
     by_session None is =
         let before = open_both Responder shape.slots u.queue u.lane.hub l.hub acts.finds.ready.hub in
         let none : l.hub.session ≡ None = before.none is in
         let fits = hub_plain shape u t l answer left acts goes other none in
         let plain = closed_plain (asks_of shape) (answers_of shape) Responder (swapped (sides_of (lane_core u.lane) l.transcript)) (acts.finds.two_ends.two_ends B) up_before (before.shut none) in
-        let low = low_outbox u.lane.hub l.transcript.server l.transcript.client plain.said_plain.low
-        (shut_unsaid Responder u.lane.hub l.transcript.server (acting_at shape B u l acts.finds up_before).ends is) in
+        let low = low_outbox u.lane.hub l.transcript.b l.transcript.a plain.said_plain.low
+        (shut_unsaid Responder u.lane.hub l.transcript.b (acting_at shape B u l acts.finds up_before).ends is) in
         let here = shut_after u.lane.hub (seen_at B u.lane) u.lane.hub_memory (reach_of B u.lane) answer left is goes acts.step in
-        let low_now = low_outbox left.end (utterances_now answer l.transcript.server) l.transcript.client fits.said_plain.low (none_left is answer refl here.stays) in
-        subst (λ (xs : List (List ℕ)). ExchangeIn u.lane.guest.handshake.draft.sid u.lane.guest.groups p (outbox u.lane.guest l.transcript.client (utterances_now answer l.transcript.server))
-        (outbox left.end (utterances_now answer l.transcript.server) l.transcript.client) left.end.session xs) (sym here.left.groups)
-        (asks_now shape u l answer p (outbox left.end (utterances_now answer l.transcript.server) l.transcript.client) left.end.session goes here.left.reply fits
-        (shut_same u.lane.guest.handshake.draft.sid u.lane.guest.groups p (outbox u.lane.guest l.transcript.client l.transcript.server) (outbox u.lane.hub l.transcript.server l.transcript.client)
-        (outbox left.end (utterances_now answer l.transcript.server) l.transcript.client) u.lane.hub.session left.end.session u.lane.hub.groups low low_now (ap reply_in is) here.left.reply was))
+        let low_now = low_outbox left.end (utterances_now answer l.transcript.b) l.transcript.a fits.said_plain.low (none_left is answer refl here.stays) in
+        subst (λ (xs : List (List ℕ)). ExchangeIn u.lane.guest.handshake.draft.sid u.lane.guest.groups p (outbox u.lane.guest l.transcript.a (utterances_now answer l.transcript.b))
+        (outbox left.end (utterances_now answer l.transcript.b) l.transcript.a) left.end.session xs) (sym here.left.groups)
+        (asks_now shape u l answer p (outbox left.end (utterances_now answer l.transcript.b) l.transcript.a) left.end.session goes here.left.reply fits
+        (shut_same u.lane.guest.handshake.draft.sid u.lane.guest.groups p (outbox u.lane.guest l.transcript.a l.transcript.b) (outbox u.lane.hub l.transcript.b l.transcript.a)
+        (outbox left.end (utterances_now answer l.transcript.b) l.transcript.a) u.lane.hub.session left.end.session u.lane.hub.groups low low_now (ap reply_in is) here.left.reply was))

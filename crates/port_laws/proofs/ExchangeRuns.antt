@@ -6,16 +6,16 @@ use Rattle.ldc_queue.specs.declared.end.End.TheVariants.{A, B}
 use Rattle.ldc_queue.specs.Transcript.{Utterance}
 use Rattle.runs.specs.Lawful.{log_of, run_lawful}
 use Rattle.runs.specs.Run.{Run}
-use Rattle.channel_laws.specs.WireLog.{WireLog}
-use Rattle.port_model.proofs.Moving.{before_keeps}
-use Rattle.port_model.proofs.Refuting.{none_some, true_false}
-use Rattle.port_model.specs.NetEndState.{NetEndState, NetSession}
-use Rattle.port_model.specs.NetEndStep.{Already, Given, GroupsFull, Joining, Member, NetGives, NetJoins, untold}
-use Rattle.port_model.specs.NetEvent.{Asked, Gives, Injects, Joins, Loses, NetEvent, Pokes, Steps, Ticked, on_wire}
-use Rattle.port_model.specs.NetLaneState.{IsNetShape, NetLaneState, NetShape}
-use Rattle.port_model.specs.NetLaneStep.{NetLaneStep, moved_on}
-use Rattle.port_model.specs.PortLog.{PortLog, after, no_events}
-use Rattle.port_model.specs.PortState.{OfQueue, OnLane, PortEvent, PortState, PortStep, Receives, before, fresh_port}
+use Rattle.lane_models.specs.WireLog.{WireLog}
+use Rattle.lane_models.proofs.Moving.{before_keeps}
+use Rattle.lane_models.proofs.Refuting.{none_some, true_false}
+use Rattle.lane_models.specs.NetEndState.{NetEndState, NetSession}
+use Rattle.lane_models.specs.NetEndStep.{Already, Given, GroupsFull, Joining, Member, NetGives, NetJoins, untold}
+use Rattle.lane_models.specs.NetEvent.{Asked, Gives, Injects, Joins, Loses, NetEvent, Pokes, Steps, Ticked, on_wire}
+use Rattle.lane_models.specs.NetLaneState.{IsNetShape, NetLaneState, NetShape}
+use Rattle.lane_models.specs.NetLaneStep.{NetLaneStep, moved_on}
+use Rattle.lane_models.specs.PortLog.{PortLog, after, no_events}
+use Rattle.lane_models.specs.PortState.{OfQueue, OnLane, PortEvent, PortState, PortStep, Receives, before, fresh_port}
 use Rattle.port_laws.specs.NetCore.{lane_core}
 use Rattle.port_laws.proofs.GroupsLearnt.{Fresh, fresh_more}
 use Rattle.port_laws.proofs.PortCounts.{PortCounts, before_queue}
@@ -64,11 +64,11 @@ lane_exchange shape u t l (Asked B lost) of_queue finds step clean counts two_en
 lane_exchange shape u t l (Ticked queued lost) of_queue finds step clean counts two_ends fresh exchange = λ p up other some. none_some p (sym (ap (λ (x : NetLaneState). x.guest.session) step.1.1) ∙ some)
 lane_exchange shape u t l (Gives A given) of_queue finds step clean counts two_ends fresh exchange =
     subst (λ (x : NetLaneState). ExchangeStands x (after l (OnLane (Gives A given)))) (sym step.1)
-    (λ p up other some. given_exchange u.lane.guest given t.lane.guest u.lane.hub l.transcript.client l.transcript.server p step.0 (λ is. exchange p up other is) some)
+    (λ p up other some. given_exchange u.lane.guest given t.lane.guest u.lane.hub l.transcript.a l.transcript.b p step.0 (λ is. exchange p up other is) some)
 lane_exchange shape u t l (Gives B given) of_queue finds step clean counts two_ends fresh exchange = absurd of_queue
 lane_exchange shape u t l (Joins joining) of_queue finds step clean counts two_ends fresh exchange =
     subst (λ (x : NetLaneState). ExchangeStands x (after l (OnLane (Joins joining)))) (sym step.1)
-    (λ p up other some. joined_exchange u.lane.guest joining t.lane.guest u.lane.hub l.transcript.client l.transcript.server p step.0 (λ q is. exchange q up other is) some)
+    (λ p up other some. joined_exchange u.lane.guest joining t.lane.guest u.lane.hub l.transcript.a l.transcript.b p step.0 (λ q is. exchange q up other is) some)
 lane_exchange shape u t l (Injects e packet) of_queue finds step clean counts two_ends fresh exchange = true_false clean
 lane_exchange shape u t l (Pokes e at bytes) of_queue finds step clean counts two_ends fresh exchange = true_false clean
 lane_exchange shape u t l (Loses A packet) of_queue finds step clean counts two_ends fresh exchange =

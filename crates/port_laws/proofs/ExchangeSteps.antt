@@ -9,12 +9,12 @@ use Rattle.ldc_queue.specs.Transcript.{Heard, Said, Utterance}
 use Rattle.vio_tag.proofs.Canonical.{canonical_spells, length_canonical}
 use Rattle.vio_tag.specs.declared.message.MsgBody.TheVariants.{Mcast}
 use Rattle.vio_tag.specs.Spelling.{SpellsMessage, canonical}
-use Rattle.channel_laws.specs.Sayings.{heard, said}
-use Rattle.port_model.proofs.Refuting.{none_some}
-use Rattle.port_model.specs.Groups.{membership, seven}
-use Rattle.port_model.specs.NetEndPutting.{groups_answer}
-use Rattle.port_model.specs.NetEndState.{GroupsReply, NetEndState, NetSession}
-use Rattle.port_model.specs.Spoken.{addresses_of}
+use Rattle.lane_models.specs.Sayings.{heard, said}
+use Rattle.lane_models.proofs.Refuting.{none_some}
+use Rattle.lane_models.specs.Groups.{membership, seven}
+use Rattle.lane_models.specs.NetEndPutting.{groups_answer}
+use Rattle.lane_models.specs.NetEndState.{GroupsReply, NetEndState, NetSession}
+use Rattle.lane_models.specs.Spoken.{addresses_of}
 use Rattle.port_laws.specs.Counted.{AreGroups, unsaid}
 use Rattle.port_laws.proofs.FormsOwn.{Formed, Kept, PutsIt, Ranged, Replied, Told}
 use Rattle.port_laws.proofs.OwnBytes.{membership_reads, seven_six}

@@ -13,24 +13,24 @@ use Rattle.vio_handshake.specs.Messages.{ack}
 use Rattle.vio_tag.proofs.Canonical.{length_canonical}
 use Rattle.vio_tag.specs.declared.message.MsgBody.TheVariants.{Rdx}
 use Rattle.vio_tag.specs.Spelling.{envelope_at, subtype_at}
-use Rattle.channel_laws.specs.Sayings.{half_said, heard, said}
-use Rattle.channel_laws.specs.WireAt.{IsUp}
-use Rattle.channel_laws.proofs.EndStanding.{open_up}
-use Rattle.channel_laws.proofs.HandshakePlaces.{AtPlace, EachOwn, deal, open_place}
-use Rattle.channel_laws.proofs.HandshakesPlaced.{envelope_reads, own_code}
-use Rattle.channel_laws.proofs.PartsSaid.{PartsSaid}
-use Rattle.channel_laws.proofs.PartsWaiting.{LongSaid, Unheard, room_of, unheard}
-use Rattle.channel_laws.proofs.Script.{bytes_at, last_or, said_at}
-use Rattle.channel_laws.specs.LinkPlaces.{BothUp, LinkPlace, live_phase}
-use Rattle.channel_laws.specs.LinkPlaces as link
-use Rattle.channel_laws.specs.Sides.{Sides, sides_of}
-use Rattle.port_model.proofs.Refuting.{none_some, true_false}
-use Rattle.port_model.specs.EndLog.{SessionLog}
-use Rattle.port_model.specs.NetEndState.{NetSession}
-use Rattle.port_model.specs.NetLaneState.{NetShape}
-use Rattle.port_model.specs.PortLog.{PortLog}
-use Rattle.port_model.specs.PortState.{PortState}
-use Rattle.port_model.specs.Spoken.{RangeAck, RangeInfo, Spoken, spoken}
+use Rattle.lane_models.specs.Sayings.{half_said, heard, said}
+use Rattle.lane_models.specs.WireAt.{IsUp}
+use Rattle.lane_models.proofs.EndStanding.{open_up}
+use Rattle.lane_models.proofs.HandshakePlaces.{AtPlace, EachOwn, deal, open_place}
+use Rattle.lane_models.proofs.HandshakesPlaced.{envelope_reads, own_code}
+use Rattle.lane_models.proofs.PartsSaid.{PartsSaid}
+use Rattle.lane_models.proofs.PartsWaiting.{LongSaid, Unheard, room_of, unheard}
+use Rattle.lane_models.proofs.Script.{bytes_at, last_or, said_at}
+use Rattle.lane_models.specs.LinkPlaces.{BothUp, LinkPlace, live_phase}
+use Rattle.lane_models.specs.LinkPlaces as link
+use Rattle.lane_models.specs.Sides.{Sides, sides_of}
+use Rattle.lane_models.proofs.Refuting.{none_some, true_false}
+use Rattle.lane_models.specs.EndLog.{SessionLog}
+use Rattle.lane_models.specs.NetEndState.{NetSession}
+use Rattle.lane_models.specs.NetLaneState.{NetShape}
+use Rattle.lane_models.specs.PortLog.{PortLog}
+use Rattle.lane_models.specs.PortState.{PortState}
+use Rattle.lane_models.specs.Spoken.{RangeAck, RangeInfo, Spoken, spoken}
 use Rattle.port_laws.specs.Counted.{unsaid}
 use Rattle.port_laws.specs.NetCore.{lane_core}
 use Rattle.port_laws.specs.WaysStand.{Way, Ways, WaysStand, ack_first, acks_in, info_first, infos_in, or_new}
@@ -144,7 +144,7 @@ longer : (xs ys : List (List ℕ)) → IsFront xs ys → length xs ≤ length ys
 longer xs ys front = omega (arith, ap length front.1, length-append xs front.0)
 
 module _ (shape : NetShape) (u : PortState) (l : PortLog) (p : NetSession) (finds : Finds shape u l) (ways : WaysStand u.lane l) (exchange : ExchangeStands u.lane l) (up : IsUp A u.lane.wire.wire)
-    (other_up : IsUp B u.lane.wire.wire) (session : u.lane.guest.session ≡ Some p) (whole : u.lane.wire.lossy ≡ false) (parts : PartsSaid l.transcript.client) (long : LongSaid l.transcript.client) where
+    (other_up : IsUp B u.lane.wire.wire) (session : u.lane.guest.session ≡ Some p) (whole : u.lane.wire.lossy ≡ false) (parts : PartsSaid l.transcript.a) (long : LongSaid l.transcript.a) where
   abbrev sides : Sides
   sides = sides_of (lane_core u.lane) l.transcript
 
@@ -160,8 +160,8 @@ module _ (shape : NetShape) (u : PortState) (l : PortLog) (p : NetSession) (find
   guest_in : l.guest.session ≢ None
   guest_in = λ none. true_false (sym opened ∙ (open_both Initiator shape.slots [] u.lane.guest l.guest finds.ready.guest).shut none)
 
-  hub_said : 6 ≤ length (said l.transcript.server)
-  hub_said = omega (arith, (open_turns shape (lane_core u.lane) l A finds.two_ends up opened).heard_long, longer (heard l.transcript.client) (said l.transcript.server) (finds.two_ends.front_a up))
+  hub_said : 6 ≤ length (said l.transcript.b)
+  hub_said = omega (arith, (open_turns shape (lane_core u.lane) l A finds.two_ends up opened).heard_long, longer (heard l.transcript.a) (said l.transcript.b) (finds.two_ends.front_a up))
 
   hub_link : is_up u.lane.hub.link ≡ true
   hub_link = by_link (is_up u.lane.hub.link) refl
@@ -178,31 +178,31 @@ module _ (shape : NetShape) (u : PortState) (l : PortLog) (p : NetSession) (find
   left : Unheard sides
   left = unheard sides two_ends.meets.converse two_ends.meets.links place whole up other_up parts long
 
-  at : AtPlace true d Initiator u.lane.guest.handshake l.transcript.client
-  at = mine_at (asks_of shape) (answers_of shape) Initiator sides two_ends up (open_up Initiator sides.mine.core l.transcript.client two_ends.mine opened)
+  at : AtPlace true d Initiator u.lane.guest.handshake l.transcript.a
+  at = mine_at (asks_of shape) (answers_of shape) Initiator sides two_ends up (open_up Initiator sides.mine.core l.transcript.a two_ends.mine opened)
 
   last : at.place ≡ AllSaid
-  last = open_place true d Initiator sides.mine.core l.transcript.client two_ends.mine at opened
+  last = open_place true d Initiator sides.mine.core l.transcript.a two_ends.mine at opened
 
-  says : heard l.transcript.server ++ left.messages ≡ first_five d ++ bytes_at d PeerReadyAnswered ∷ at.mine
+  says : heard l.transcript.b ++ left.messages ≡ first_five d ++ bytes_at d PeerReadyAnswered ∷ at.mine
   says = sym left.says ∙ at.said_is ∙ ap (λ (n : Place). said_at true d Initiator n ++ at.mine) last ∙ six_are d at.mine
 
-  five : 5 ≤ length (heard l.transcript.server)
+  five : 5 ≤ length (heard l.transcript.b)
   five =
       let there = theirs_at (asks_of shape) (answers_of shape) Initiator sides two_ends other_up hub_link in
-      five_heard d there.place (said l.transcript.server) there.mine (heard l.transcript.server) there.theirs there.said_is there.heard_is (λ far. (there.only far).0) hub_said
+      five_heard d there.place (said l.transcript.b) there.mine (heard l.transcript.b) there.theirs there.said_is there.heard_is (λ far. (there.only far).0) hub_said
 
-  suffix : (x : List (List ℕ)) × (heard l.transcript.server ≡ first_five d ++ x) × (bytes_at d PeerReadyAnswered ∷ at.mine ≡ x ++ left.messages)
-  suffix = suffix_of (heard l.transcript.server) (first_five d) left.messages (bytes_at d PeerReadyAnswered ∷ at.mine) says (omega (arith, five))
+  suffix : (x : List (List ℕ)) × (heard l.transcript.b ≡ first_five d ++ x) × (bytes_at d PeerReadyAnswered ∷ at.mine ≡ x ++ left.messages)
+  suffix = suffix_of (heard l.transcript.b) (first_five d) left.messages (bytes_at d PeerReadyAnswered ∷ at.mine) says (omega (arith, five))
 
   -- what it says fits
-  between : Between u.lane.guest u.lane.hub l.transcript.client l.transcript.server p
+  between : Between u.lane.guest u.lane.hub l.transcript.a l.transcript.b p
   between = exchange p up other_up session
 
-  undrawn_is : undrawn (said l.transcript.client) (heard l.transcript.server) ≡ left.messages
-  undrawn_is = ap (drop (length (heard l.transcript.server))) left.says ∙ drop_front (heard l.transcript.server) left.messages
+  undrawn_is : undrawn (said l.transcript.a) (heard l.transcript.b) ≡ left.messages
+  undrawn_is = ap (drop (length (heard l.transcript.b))) left.says ∙ drop_front (heard l.transcript.b) left.messages
 
-  asks : outbox u.lane.guest l.transcript.client l.transcript.server ≡ left.messages ++ listed (unsaid u.lane.guest)
+  asks : outbox u.lane.guest l.transcript.a l.transcript.b ≡ left.messages ++ listed (unsaid u.lane.guest)
   asks = ap (λ (xs : List (List ℕ)). xs ++ listed (unsaid u.lane.guest)) undrawn_is
 
   fits : EachFits Initiator u.lane.guest.handshake.draft.sid left.messages
@@ -211,11 +211,11 @@ module _ (shape : NetShape) (u : PortState) (l : PortLog) (p : NetSession) (find
   groups_few : count_groups left.messages ≤ 1
   groups_few = grind (arith, between, asks, count-append, left, one_most)
 
-  way : Ways l.shape.slots (said l.transcript.client) (heard l.transcript.client) (said l.transcript.server) (heard l.transcript.server) (or_new l.guest.session) (or_new l.hub.session)
+  way : Ways l.shape.slots (said l.transcript.a) (heard l.transcript.a) (said l.transcript.b) (heard l.transcript.b) (or_new l.guest.session) (or_new l.hub.session)
   way = ways up other_up guest_in
 
   going : way.going ≡ left.messages
-  going = append_cancel_left (heard l.transcript.server) way.going left.messages (sym way.goes ∙ left.says)
+  going = append_cancel_left (heard l.transcript.b) way.going left.messages (sym way.goes ∙ left.says)
 
   info_few : length (infos_in left.messages) ≤ 1
   info_few = omega (arith, infos_few l.shape.slots (or_new l.guest.session) (or_new l.hub.session) (infos_in way.going) (acks_in way.coming) way.mine, ap (λ (xs : List (List ℕ)). length (infos_in xs)) going)
@@ -224,7 +224,7 @@ module _ (shape : NetShape) (u : PortState) (l : PortLog) (p : NetSession) (find
   ack_few = omega (arith, acks_few l.shape.slots (or_new l.hub.session) (or_new l.guest.session) (infos_in way.coming) (acks_in way.going) way.theirs, ap (λ (xs : List (List ℕ)). length (acks_in xs)) going)
 
   -- a switch's end that didn't hear the sixth message isn't in session, and said no INFO
-  ack_none : length (heard l.transcript.server) ≡ 5 → length (acks_in left.messages) ≤ 0
+  ack_none : length (heard l.transcript.b) ≡ 5 → length (acks_in left.messages) ≤ 0
   ack_none short = by_log l.hub.session refl
     where
       by_log : (log : Option SessionLog) → l.hub.session ≡ log → length (acks_in left.messages) ≤ 0
@@ -235,22 +235,22 @@ module _ (shape : NetShape) (u : PortState) (l : PortLog) (p : NetSession) (find
           absurd (omega (arith, short, (open_turns shape (lane_core u.lane) l B finds.two_ends other_up there).heard_long))
 
   -- no part of a message was said
-  acting : Acting Initiator shape.slots [] u.lane.guest l.guest l.transcript.client
+  acting : Acting Initiator shape.slots [] u.lane.guest l.guest l.transcript.a
   acting = acting_at shape A u l finds up
 
-  no_half : half_said l.transcript.client ≡ []
+  no_half : half_said l.transcript.a ≡ []
   no_half = by_left u.lane.guest.link.to_send refl
     where
       owed : is_none u.lane.guest.handshake.owed ≡ true
       owed = ap is_none (guest_sid shape u.lane l finds.two_ends up opened).agreed.owed
 
-      by_left : (bytes : List ℕ) → u.lane.guest.link.to_send ≡ bytes → half_said l.transcript.client ≡ []
+      by_left : (bytes : List ℕ) → u.lane.guest.link.to_send ≡ bytes → half_said l.transcript.a ≡ []
       by_left bytes is = grind (arith, owed, acting, own_half, own_left)
 
   pub guest_few : length u.lane.wire.wire.to_b ≤ 5
   guest_few = by_suffix suffix.0 suffix.1 suffix.2
     where
-      by_suffix : (x : List (List ℕ)) → heard l.transcript.server ≡ first_five d ++ x → bytes_at d PeerReadyAnswered ∷ at.mine ≡ x ++ left.messages → length u.lane.wire.wire.to_b ≤ 5
+      by_suffix : (x : List (List ℕ)) → heard l.transcript.b ≡ first_five d ++ x → bytes_at d PeerReadyAnswered ∷ at.mine ≡ x ++ left.messages → length u.lane.wire.wire.to_b ≤ 5
       by_suffix [] took rest =
           let all : EachFits Initiator u.lane.guest.handshake.draft.sid (bytes_at d PeerReadyAnswered ∷ at.mine) = subst (EachFits Initiator u.lane.guest.handshake.draft.sid) (sym rest) fits in
           omega (

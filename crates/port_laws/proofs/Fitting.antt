@@ -3,21 +3,21 @@ use Rattle.std.proofs.Common.{◌≡◌, ℕ, ◌≤◌, true, false, Option, So
 use Rattle.std.specs.Prelude.{◌+◌}
 use Rattle.ldc_link.specs.declared.phase.Role.{Role}
 use Rattle.ldc_link.specs.declared.phase.Role.TheVariants.{Initiator, Responder}
-use Rattle.channel_laws.specs.Seeing.{Seen}
+use Rattle.lane_models.specs.Seeing.{Seen}
 use Rattle.cookie_copy.specs.Reach.{Reach}
-use Rattle.port_model.specs.Fetching.{Fetched, fetched}
-use Rattle.port_model.specs.NetEndPutting.{answers, net_holds, net_put}
-use Rattle.port_model.specs.NetEndRule.{Announces, Fetches, NetRule, Publishes, Puts, Replies, Says, Tells, port_rule}
-use Rattle.port_model.specs.NetEndState.{Activity, NetEndState, NetSession, joined_net_end}
-use Rattle.port_model.specs.NetEndStep.{Blocked, Frame, Idle, NetAnswer, NetEndStep, NetLeft, Published, Sent, Took, untold}
-use Rattle.port_model.specs.NetEndTaking.{GoesOn}
-use Rattle.port_model.specs.NetEvent.{NetEvent}
-use Rattle.port_model.specs.NetLaneState.{NetLaneState}
-use Rattle.port_model.specs.NetLaneStep.{NetLaneStep}
-use Rattle.port_model.proofs.Ruling.{says_of}
+use Rattle.lane_models.specs.Fetching.{Fetched, fetched}
+use Rattle.lane_models.specs.NetEndPutting.{answers, net_holds, net_put}
+use Rattle.lane_models.specs.NetEndRule.{Announces, Fetches, NetRule, Publishes, Puts, Replies, Says, Tells, port_rule}
+use Rattle.lane_models.specs.NetEndState.{Activity, NetEndState, NetSession, joined_net_end}
+use Rattle.lane_models.specs.NetEndStep.{Blocked, Frame, Idle, NetAnswer, NetEndStep, NetLeft, Published, Sent, Took, untold}
+use Rattle.lane_models.specs.NetEndTaking.{GoesOn}
+use Rattle.lane_models.specs.NetEvent.{NetEvent}
+use Rattle.lane_models.specs.NetLaneState.{NetLaneState}
+use Rattle.lane_models.specs.NetLaneStep.{NetLaneStep}
+use Rattle.lane_models.proofs.Ruling.{says_of}
 use Rattle.port_laws.specs.NetFits.{AddressesAreShort, NetFits, SessionFits}
 use Rattle.port_laws.proofs.EndMoves.{packet_goes}
-use Rattle.port_model.proofs.Refuting.{none_some, of_some}
+use Rattle.lane_models.proofs.Refuting.{none_some, of_some}
 
 -- the end with another session whose answer to groups is the same
 session_fits : (role : Role) (s t : NetEndState) (p q : NetSession) → NetFits role s → s.session ≡ Some p → t.groups ≡ s.groups → t.session ≡ Some q → q.reply ≡ p.reply → NetFits role t

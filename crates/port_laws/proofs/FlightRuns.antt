@@ -7,24 +7,24 @@ use Rattle.ldc_queue.specs.declared.end.End.{End}
 use Rattle.ldc_queue.specs.declared.end.End.TheVariants.{A, B}
 use Rattle.runs.specs.Lawful.{run_lawful}
 use Rattle.runs.specs.Run.{Run}
-use Rattle.channel_laws.specs.TranscriptLog.{transcript_of}
-use Rattle.channel_laws.proofs.Lifting.{stand_run}
-use Rattle.channel_laws.proofs.PacketsTaken.{unforged_took}
-use Rattle.channel_laws.specs.EndCore.{EndCore}
-use Rattle.channel_laws.specs.LaneCore.{LaneCore, end_of, transcript_behind}
-use Rattle.channel_laws.specs.PacketsLeft.{packets_left}
-use Rattle.port_model.proofs.Ruling.{says_of}
-use Rattle.port_model.specs.NetEndPutting.{opened_by_put}
-use Rattle.port_model.specs.NetEndRule.{Takes}
-use Rattle.port_model.specs.NetEndState.{NetEndState, NetSession}
-use Rattle.port_model.specs.NetEndStep.{NetLeft, Sent, Took}
-use Rattle.port_model.specs.NetEndTaking.{GoesOn, NetTake, Resets}
-use Rattle.port_model.specs.NetEvent.{NetEvent, Steps}
-use Rattle.port_model.specs.NetLaneState.{IsNetShape, NetLaneState, NetShape, net_end, role_at, seen_at, with_left}
-use Rattle.port_model.specs.NetLaneStep.{EndSteps, net_wire}
-use Rattle.port_model.specs.Offers.{port_offer}
-use Rattle.port_model.specs.PortLog.{PortLog, after, no_events}
-use Rattle.port_model.specs.PortState.{OnLane, PortEvent, PortState, PortStep, before, fresh_port}
+use Rattle.lane_models.specs.TranscriptLog.{transcript_of}
+use Rattle.lane_models.proofs.Lifting.{stand_run}
+use Rattle.lane_models.proofs.PacketsTaken.{unforged_took}
+use Rattle.lane_models.specs.EndCore.{EndCore}
+use Rattle.lane_models.specs.LaneCore.{LaneCore, end_of, transcript_behind}
+use Rattle.lane_models.specs.PacketsLeft.{packets_left}
+use Rattle.lane_models.proofs.Ruling.{says_of}
+use Rattle.lane_models.specs.NetEndPutting.{opened_by_put}
+use Rattle.lane_models.specs.NetEndRule.{Takes}
+use Rattle.lane_models.specs.NetEndState.{NetEndState, NetSession}
+use Rattle.lane_models.specs.NetEndStep.{NetLeft, Sent, Took}
+use Rattle.lane_models.specs.NetEndTaking.{GoesOn, NetTake, Resets}
+use Rattle.lane_models.specs.NetEvent.{NetEvent, Steps}
+use Rattle.lane_models.specs.NetLaneState.{IsNetShape, NetLaneState, NetShape, net_end, role_at, seen_at, with_left}
+use Rattle.lane_models.specs.NetLaneStep.{EndSteps, net_wire}
+use Rattle.lane_models.specs.Offers.{port_offer}
+use Rattle.lane_models.specs.PortLog.{PortLog, after, no_events}
+use Rattle.lane_models.specs.PortState.{OnLane, PortEvent, PortState, PortStep, before, fresh_port}
 use Rattle.port_laws.specs.NetCore.{lane_core, more_of, one_if}
 use Rattle.port_laws.specs.PortCore.{port_core, port_event, port_events}
 use Rattle.port_laws.proofs.CoreLaws.{offers_match, sizes_fit}

@@ -10,18 +10,18 @@ use Rattle.ldc_queue.specs.declared.end.End.TheVariants.{A, B}
 use Rattle.ldc_queue.specs.Transcript.{Utterance}
 use Rattle.ldc_queue.specs.Wire.{peer_behind, queue_behind, upset}
 use Rattle.vio_tag.specs.declared.cause.Cause.{Cause}
-use Rattle.channel_laws.specs.TranscriptLog.{TranscriptLog}
-use Rattle.channel_laws.specs.WireEvent.{Blocked, Giver, Injected, Joined, Lost, Poked, Reset, Sent, Took, giver}
-use Rattle.channel_laws.specs.WireLog.{WireLog, lossy_behind, wire_moved}
-use Rattle.channel_laws.proofs.EndStanding.{held_stands}
-use Rattle.channel_laws.proofs.Lifting.{EndsAll, begins_anew, resets_anew}
-use Rattle.channel_laws.proofs.PacketsLeft.{anew_packets, answering_shut, says_left, says_packets, stays_packets, waits_left}
-use Rattle.channel_laws.specs.EndCore.{EndCore}
-use Rattle.channel_laws.specs.EndStep.{EndAnew, EndSays, EndStays, EndStep, EndWaits, Holding, Holds, HoldsOn}
-use Rattle.channel_laws.specs.LaneCore.{Closes, CoreEvent, CoreStep, LaneCore, OnChannel, reset_move, wire_after}
-use Rattle.channel_laws.specs.PacketsLeft.{own_in, packets_left}
-use Rattle.channel_laws.specs.Standing.{EndStands, HandshakeStands}
-use Rattle.port_model.proofs.Refuting.{true_false}
+use Rattle.lane_models.specs.TranscriptLog.{TranscriptLog}
+use Rattle.lane_models.specs.WireEvent.{Blocked, Giver, Injected, Joined, Lost, Poked, Reset, Sent, Took, giver}
+use Rattle.lane_models.specs.WireLog.{WireLog, lossy_behind, wire_moved}
+use Rattle.lane_models.proofs.EndStanding.{held_stands}
+use Rattle.lane_models.proofs.Lifting.{EndsAll, begins_anew, resets_anew}
+use Rattle.lane_models.proofs.PacketsLeft.{anew_packets, answering_shut, says_left, says_packets, stays_packets, waits_left}
+use Rattle.lane_models.specs.EndCore.{EndCore}
+use Rattle.lane_models.specs.EndStep.{EndAnew, EndSays, EndStays, EndStep, EndWaits, Holding, Holds, HoldsOn}
+use Rattle.lane_models.specs.LaneCore.{Closes, CoreEvent, CoreStep, LaneCore, OnChannel, reset_move, wire_after}
+use Rattle.lane_models.specs.PacketsLeft.{own_in, packets_left}
+use Rattle.lane_models.specs.Standing.{EndStands, HandshakeStands}
+use Rattle.lane_models.proofs.Refuting.{true_false}
 use Rattle.port_laws.specs.NetCore.{one_if}
 use Rattle.port_laws.proofs.RemainingEnds.{kind_shut}
 
@@ -177,11 +177,11 @@ pub record Known (s : LaneCore) : Type 0 where
 event_few : (s t : LaneCore) (event : CoreEvent) → Known s → CoreStep s event t → Spends s event t → (wire_after s.wire event).forged ≡ false → FewFly s.wire s.a s.b → FewFly (wire_after s.wire event) t.a t.b
 event_few s t (OnChannel (Joined A lost)) known step spends clean few =
     a_begins s.wire s.a t.a t.b
-    (anew_spent Initiator s.a t.a known.ends.a.handshake known.a_rings step.a.more (begins_anew Initiator s.a t.a known.transcript.client known.ends.a step.a))
+    (anew_spent Initiator s.a t.a known.ends.a.handshake known.a_rings step.a.more (begins_anew Initiator s.a t.a known.transcript.a known.ends.a step.a))
     (b_rests s.wire s.a s.b t.b step.b few)
 event_few s t (OnChannel (Joined B lost)) known step spends clean few =
     b_begins s.wire t.a s.b t.b
-    (anew_spent Responder s.b t.b known.ends.b.handshake known.b_rings step.b.more (begins_anew Responder s.b t.b known.transcript.server known.ends.b step.b))
+    (anew_spent Responder s.b t.b known.ends.b.handshake known.b_rings step.b.more (begins_anew Responder s.b t.b known.transcript.b known.ends.b step.b))
     (a_rests s.wire s.a t.a s.b step.a few)
 event_few s t (OnChannel (Reset A cause packet lost)) known step spends clean few =
     let none = resets_none (giver cause) Initiator s.a t.a cause packet step.a in
@@ -189,7 +189,7 @@ event_few s t (OnChannel (Reset A cause packet lost)) known step spends clean fe
 event_few s t (OnChannel (Reset B cause packet lost)) known step spends clean few =
     let none = resets_none (giver cause) Responder s.b t.b cause packet step.b in
     b_begins s.wire t.a s.b t.b
-    (anew_spent Responder s.b t.b known.ends.b.handshake known.b_rings none (resets_anew (giver cause) Responder s.b t.b known.transcript.server cause packet known.ends.b step.b))
+    (anew_spent Responder s.b t.b known.ends.b.handshake known.b_rings none (resets_anew (giver cause) Responder s.b t.b known.transcript.b cause packet known.ends.b step.b))
     (a_rests s.wire s.a t.a s.b step.a few)
 event_few s t (OnChannel (Took A packet opens)) known step spends clean few =
     a_acts s.wire (length (drop 1 s.wire.wire.to_a) + length s.wire.wire.to_b) s.a t.a t.b step.stands.0 (omega (arith, spends, first_gone packet s.wire.wire.to_a step.stands.1))
@@ -198,17 +198,17 @@ event_few s t (OnChannel (Took B packet opens)) known step spends clean few =
     b_acts s.wire (length s.wire.wire.to_a + length (drop 1 s.wire.wire.to_b)) t.a s.b t.b step.stands.0 (omega (arith, spends, first_gone packet s.wire.wire.to_b step.stands.1))
     (a_rests s.wire s.a t.a s.b step.a few)
 event_few s t (OnChannel (Sent A packet opens)) known step spends clean few =
-    let says = says_spent Initiator s.a t.a known.transcript.client packet opens known.ends.a step.a (λ role. spends) in
+    let says = says_spent Initiator s.a t.a known.transcript.a packet opens known.ends.a step.a (λ role. spends) in
     a_acts s.wire (length s.wire.wire.to_a + length (s.wire.wire.to_b ++ packet ∷ [])) s.a t.a t.b step.stands.0 (omega (arith, says, length-append s.wire.wire.to_b (packet ∷ [])))
     (b_rests s.wire s.a s.b t.b step.b few)
 event_few s t (OnChannel (Sent B packet opens)) known step spends clean few =
-    let says = says_spent Responder s.b t.b known.transcript.server packet opens known.ends.b step.b (λ role. absurd (cc role)) in
+    let says = says_spent Responder s.b t.b known.transcript.b packet opens known.ends.b step.b (λ role. absurd (cc role)) in
     grind (arith, b_acts, length-append, a_rests)
 event_few s t (OnChannel (Blocked A)) known step spends clean few =
-    a_acts s.wire (length s.wire.wire.to_a + length s.wire.wire.to_b) s.a t.a t.b step.stands.0 (omega (arith, waits_spent Initiator s.a t.a known.transcript.client known.ends.a step.a))
+    a_acts s.wire (length s.wire.wire.to_a + length s.wire.wire.to_b) s.a t.a t.b step.stands.0 (omega (arith, waits_spent Initiator s.a t.a known.transcript.a known.ends.a step.a))
     (b_rests s.wire s.a s.b t.b step.b few)
 event_few s t (OnChannel (Blocked B)) known step spends clean few =
-    b_acts s.wire (length s.wire.wire.to_a + length s.wire.wire.to_b) t.a s.b t.b step.stands.0 (omega (arith, waits_spent Responder s.b t.b known.transcript.server known.ends.b step.b))
+    b_acts s.wire (length s.wire.wire.to_a + length s.wire.wire.to_b) t.a s.b t.b step.stands.0 (omega (arith, waits_spent Responder s.b t.b known.transcript.b known.ends.b step.b))
     (a_rests s.wire s.a t.a s.b step.a few)
 event_few s t (OnChannel (Lost A packet)) known step spends clean few =
     few_loses 11 13 s.wire.wire.end_a s.wire.wire.end_b (length s.wire.wire.to_a + length s.wire.wire.to_b) (length (drop 1 s.wire.wire.to_a) + length s.wire.wire.to_b) s.wire.lossy

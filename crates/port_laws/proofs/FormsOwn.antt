@@ -14,24 +14,24 @@ use Rattle.vio_handshake.specs.declared.handshake.Handshake.{Handshake}
 use Rattle.vio_tag.proofs.Canonical.{length_canonical}
 use Rattle.vio_tag.specs.declared.message.Message.{Message}
 use Rattle.vio_tag.specs.Spelling.{canonical}
-use Rattle.channel_laws.specs.Ranges.{wrapped}
-use Rattle.channel_laws.specs.Sayings.{half_said, said}
-use Rattle.channel_laws.specs.Seeing.{Seen}
-use Rattle.channel_laws.proofs.EndCases.{PutOwn, PutWhat, end_put, put_down, PutControl, PutHandshake, PutMore, PutReady}
-use Rattle.channel_laws.proofs.EndResting.{held_handshake}
-use Rattle.channel_laws.proofs.EndStanding.{stands_step, last_none}
-use Rattle.channel_laws.specs.EndCore.{Waits}
-use Rattle.channel_laws.specs.Standing.{EndStands}
-use Rattle.port_model.proofs.Refuting.{none_some, of_some, true_false}
-use Rattle.port_model.proofs.Ruling.{says_of}
-use Rattle.port_model.specs.EndLog.{EndLog}
-use Rattle.port_model.specs.Fetching.{Fetched, NotReady, fetched}
-use Rattle.port_model.specs.Groups.{membership}
-use Rattle.port_model.specs.NetEndPutting.{announcement, answer, answers, groups_answer, holding_own, net_holds, net_opens, net_put}
-use Rattle.port_model.specs.NetEndRule.{Announces, Fetches, NetRule, Puts, Replies, Says, Tells, port_rule}
-use Rattle.port_model.specs.NetEndState.{Activity, GroupsReply, NetEndState, NetSession}
-use Rattle.port_model.specs.NetEndStep.{NetLeft, NetSends}
-use Rattle.port_model.specs.RuleFacts.{IsFreeIn}
+use Rattle.lane_models.specs.Ranges.{wrapped}
+use Rattle.lane_models.specs.Sayings.{half_said, said}
+use Rattle.lane_models.specs.Seeing.{Seen}
+use Rattle.lane_models.proofs.EndCases.{PutOwn, PutWhat, end_put, put_down, PutControl, PutHandshake, PutMore, PutReady}
+use Rattle.lane_models.proofs.EndResting.{held_handshake}
+use Rattle.lane_models.proofs.EndStanding.{stands_step, last_none}
+use Rattle.lane_models.specs.EndCore.{Waits}
+use Rattle.lane_models.specs.Standing.{EndStands}
+use Rattle.lane_models.proofs.Refuting.{none_some, of_some, true_false}
+use Rattle.lane_models.proofs.Ruling.{says_of}
+use Rattle.lane_models.specs.EndLog.{EndLog}
+use Rattle.lane_models.specs.Fetching.{Fetched, NotReady, fetched}
+use Rattle.lane_models.specs.Groups.{membership}
+use Rattle.lane_models.specs.NetEndPutting.{announcement, answer, answers, groups_answer, holding_own, net_holds, net_opens, net_put}
+use Rattle.lane_models.specs.NetEndRule.{Announces, Fetches, NetRule, Puts, Replies, Says, Tells, port_rule}
+use Rattle.lane_models.specs.NetEndState.{Activity, GroupsReply, NetEndState, NetSession}
+use Rattle.lane_models.specs.NetEndStep.{NetLeft, NetSends}
+use Rattle.lane_models.specs.RuleFacts.{IsFreeIn}
 use Rattle.port_laws.specs.Counted.{EndCounts, unsaid}
 use Rattle.port_laws.specs.NetCore.{net_core}
 use Rattle.port_laws.proofs.EndCounting.{empty_unsaid, own_left}
@@ -42,7 +42,7 @@ use Rattle.port_laws.proofs.Outbox.{SaysRange, says_range}
 use Rattle.port_laws.proofs.PutCounts.{own_half, own_short, put_empty, put_end, shut_put}
 use Rattle.port_laws.proofs.StepCounts.{Acting}
 use Rattle.port_laws.proofs.TookCounts.{free_empty, session_up}
-use Rattle.channel_laws.proofs.Apart.{some_same}
+use Rattle.lane_models.proofs.Apart.{some_same}
 
 -- IT FORMS a message, with which its link was free
 pub record FormsIt (s held : NetEndState) (m : List ℕ) (q : NetSession) : Type 0 where

@@ -11,16 +11,16 @@ use Rattle.ldc_queue.specs.Transcript.{Utterance}
 use Rattle.ldc_queue.specs.Wire.{peer_behind, peer_of, state_of}
 use Rattle.runs.specs.Lawful.{log_of}
 use Rattle.runs.specs.Run.{Run}
-use Rattle.channel_laws.specs.TranscriptLog.{transcript_of}
-use Rattle.channel_laws.specs.WireLog.{WireLog}
-use Rattle.port_model.proofs.Refuting.{none_some, true_false}
-use Rattle.port_model.specs.EndLog.{EndLog, SessionLog, change}
-use Rattle.port_model.specs.NetEndStep.{Frame, NetAnswer, NetLeft}
-use Rattle.port_model.specs.NetEvent.{Asked, CalmTick, Gives, Injects, Loses, NetEvent, Pokes, Steps, Ticked, on_wire}
-use Rattle.port_model.specs.NetLaneState.{IsNetShape, NetLaneState, NetShape}
-use Rattle.port_model.specs.NetLaneStep.{NetLaneStep, moved_on}
-use Rattle.port_model.specs.PortLog.{PortLog, after, after_answer, log_of_end, no_events}
-use Rattle.port_model.specs.PortState.{OfQueue, OnLane, PortEvent, PortState, PortStep, Receives, before, fresh_port}
+use Rattle.lane_models.specs.TranscriptLog.{transcript_of}
+use Rattle.lane_models.specs.WireLog.{WireLog}
+use Rattle.lane_models.proofs.Refuting.{none_some, true_false}
+use Rattle.lane_models.specs.EndLog.{EndLog, SessionLog, change}
+use Rattle.lane_models.specs.NetEndStep.{Frame, NetAnswer, NetLeft}
+use Rattle.lane_models.specs.NetEvent.{Asked, CalmTick, Gives, Injects, Loses, NetEvent, Pokes, Steps, Ticked, on_wire}
+use Rattle.lane_models.specs.NetLaneState.{IsNetShape, NetLaneState, NetShape}
+use Rattle.lane_models.specs.NetLaneStep.{NetLaneStep, moved_on}
+use Rattle.lane_models.specs.PortLog.{PortLog, after, after_answer, log_of_end, no_events}
+use Rattle.lane_models.specs.PortState.{OfQueue, OnLane, PortEvent, PortState, PortStep, Receives, before, fresh_port}
 use Rattle.port_laws.specs.InOrder.{InOrder, frames_taken, took}
 use Rattle.port_laws.specs.Lost.{frames_lost, lost_at, lost_by}
 use Rattle.port_laws.specs.NetCore.{lane_core}

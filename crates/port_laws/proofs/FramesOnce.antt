@@ -11,19 +11,19 @@ use Rattle.ldc_queue.specs.Transcript.{Utterance}
 use Rattle.ldc_queue.specs.Wire.{peer_behind, peer_of, state_of}
 use Rattle.runs.specs.Lawful.{log_of}
 use Rattle.runs.specs.Run.{Run}
-use Rattle.channel_laws.specs.Messages.{ended_by}
-use Rattle.channel_laws.specs.Sayings.{half_heard, half_said}
-use Rattle.channel_laws.specs.TranscriptLog.{transcript_of}
-use Rattle.channel_laws.specs.WireLog.{WireLog}
-use Rattle.port_model.proofs.Refuting.{none_some, true_false}
-use Rattle.port_model.specs.EndLog.{EndLog, SessionLog, acked_in, change, heard_in, lost_in, more_published, more_taken, said_in}
-use Rattle.port_model.specs.NetEndState.{NetEndState, NetSession, unseen}
-use Rattle.port_model.specs.NetEndStep.{Frame, Given, Joined, NetAnswer, NetLeft, Published, Queued, Reset, Sent, Took}
-use Rattle.port_model.specs.NetEvent.{Asked, CalmTick, Gives, Injects, Loses, NetEvent, Pokes, Steps, Ticked, on_wire}
-use Rattle.port_model.specs.NetLaneState.{IsNetShape, NetLaneState, NetShape, memory_of, net_end, role_at}
-use Rattle.port_model.specs.NetLaneStep.{EndSteps, NetLaneStep, moved_on}
-use Rattle.port_model.specs.PortLog.{PortLog, after, after_answer, after_given, log_of_end, no_events}
-use Rattle.port_model.specs.PortState.{OfQueue, OnLane, PortEvent, PortState, PortStep, Receives, before, fresh_port}
+use Rattle.lane_models.specs.Messages.{ended_by}
+use Rattle.lane_models.specs.Sayings.{half_heard, half_said}
+use Rattle.lane_models.specs.TranscriptLog.{transcript_of}
+use Rattle.lane_models.specs.WireLog.{WireLog}
+use Rattle.lane_models.proofs.Refuting.{none_some, true_false}
+use Rattle.lane_models.specs.EndLog.{EndLog, SessionLog, acked_in, change, heard_in, lost_in, more_published, more_taken, said_in}
+use Rattle.lane_models.specs.NetEndState.{NetEndState, NetSession, unseen}
+use Rattle.lane_models.specs.NetEndStep.{Frame, Given, Joined, NetAnswer, NetLeft, Published, Queued, Reset, Sent, Took}
+use Rattle.lane_models.specs.NetEvent.{Asked, CalmTick, Gives, Injects, Loses, NetEvent, Pokes, Steps, Ticked, on_wire}
+use Rattle.lane_models.specs.NetLaneState.{IsNetShape, NetLaneState, NetShape, memory_of, net_end, role_at}
+use Rattle.lane_models.specs.NetLaneStep.{EndSteps, NetLaneStep, moved_on}
+use Rattle.lane_models.specs.PortLog.{PortLog, after, after_answer, after_given, log_of_end, no_events}
+use Rattle.lane_models.specs.PortState.{OfQueue, OnLane, PortEvent, PortState, PortStep, Receives, before, fresh_port}
 use Rattle.port_laws.specs.Counted.{unsaid}
 use Rattle.port_laws.specs.NetCore.{lane_core}
 use Rattle.port_laws.specs.InOrder.{InOrder, frames_taken, took}
@@ -330,8 +330,8 @@ given_more (Queued id frame) l = (frame ∷ [], refl)
 given_more _ l = same_given l.given
 
 event_given : (e : End) (l : PortLog) (event : NetEvent) → Grown (log_of_end e l).given (log_of_end e (after l (OnLane event))).given
-event_given A l (Steps A answer) = answer_given l.shape.slots l.transcript.client answer l.guest
-event_given B l (Steps B answer) = answer_given l.shape.slots l.transcript.server answer l.hub
+event_given A l (Steps A answer) = answer_given l.shape.slots l.transcript.a answer l.guest
+event_given B l (Steps B answer) = answer_given l.shape.slots l.transcript.b answer l.hub
 event_given A l (Asked A lost) = same_given l.guest.given
 event_given B l (Asked A lost) = same_given l.hub.given
 event_given A l (Gives A given) = given_more given l.guest

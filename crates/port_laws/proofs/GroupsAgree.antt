@@ -3,21 +3,21 @@ use Rattle.std.proofs.Common.{◌≡◌, ℕ, Bool, Option, Some, List, refl, ap
 use Rattle.ldc_link.specs.declared.phase.Role.TheVariants.{Initiator}
 use Rattle.runs.specs.Lawful.{Lawful, run_lawful}
 use Rattle.runs.specs.Run.{Run}
-use Rattle.channel_laws.specs.Seeing.{Seen}
+use Rattle.lane_models.specs.Seeing.{Seen}
 use Rattle.cookie_copy.specs.Reach.{Reach}
-use Rattle.port_model.specs.Fetching.{Fetched}
-use Rattle.port_model.specs.FrameLaws.{JoiningAt, MayJoin}
-use Rattle.port_model.specs.NetEndPutting.{answers, net_holds, net_opens, opened_by_put}
-use Rattle.port_model.specs.NetEndRule.{NetRule, port_rule}
-use Rattle.port_model.specs.NetEndState.{Activity, NetEndState, NetSession}
-use Rattle.port_model.specs.NetEndStep.{Blocked, Frame, Given, Idle, Joining, NetAnswer, NetEndStep, NetGives, NetJoins, NetLeft, Published, Sent, Took}
-use Rattle.port_model.specs.NetEndTaking.{GoesOn}
-use Rattle.port_model.specs.NetEvent.{NetEvent}
-use Rattle.port_model.specs.NetLaneState.{NetLaneState, NetShape}
-use Rattle.port_model.specs.NetLaneStep.{NetLaneStep}
-use Rattle.port_model.specs.PortLog.{PortLog, after, members_after, no_events}
-use Rattle.port_model.specs.PortState.{PortEvent, PortState, PortStep, fresh_port}
-use Rattle.port_model.proofs.Refuting.{none_some, of_some}
+use Rattle.lane_models.specs.Fetching.{Fetched}
+use Rattle.lane_models.specs.FrameLaws.{JoiningAt, MayJoin}
+use Rattle.lane_models.specs.NetEndPutting.{answers, net_holds, net_opens, opened_by_put}
+use Rattle.lane_models.specs.NetEndRule.{NetRule, port_rule}
+use Rattle.lane_models.specs.NetEndState.{Activity, NetEndState, NetSession}
+use Rattle.lane_models.specs.NetEndStep.{Blocked, Frame, Given, Idle, Joining, NetAnswer, NetEndStep, NetGives, NetJoins, NetLeft, Published, Sent, Took}
+use Rattle.lane_models.specs.NetEndTaking.{GoesOn}
+use Rattle.lane_models.specs.NetEvent.{NetEvent}
+use Rattle.lane_models.specs.NetLaneState.{NetLaneState, NetShape}
+use Rattle.lane_models.specs.NetLaneStep.{NetLaneStep}
+use Rattle.lane_models.specs.PortLog.{PortLog, after, members_after, no_events}
+use Rattle.lane_models.specs.PortState.{PortEvent, PortState, PortStep, fresh_port}
+use Rattle.lane_models.proofs.Refuting.{none_some, of_some}
 use Rattle.port_laws.specs.NetFits.{NetFits}
 use Rattle.port_laws.proofs.EndMoves.{packet_goes}
 use Rattle.port_laws.proofs.Fitting.{BothFit}

@@ -7,9 +7,9 @@ use Rattle.std.proofs.lemmas.List.{length-take, take-append-le}
 use Rattle.ldc_link.specs.declared.phase.Role.TheVariants.{Initiator, Responder}
 use Rattle.ldc_packet.specs.declared.packet.Subtype.TheVariants.{Ack}
 use Rattle.vio_tag.specs.Spelling.{envelope_at}
-use Rattle.port_model.proofs.Refuting.{true_false}
-use Rattle.port_model.specs.NetEndState.{GroupsReply, NetSession}
-use Rattle.port_model.specs.Spoken.{addresses_of}
+use Rattle.lane_models.proofs.Refuting.{true_false}
+use Rattle.lane_models.specs.NetEndState.{GroupsReply, NetSession}
+use Rattle.lane_models.specs.Spoken.{addresses_of}
 use Rattle.port_laws.specs.NetCore.{one_if}
 use Rattle.port_laws.proofs.Outbox.{EachFits, EachTells, MessageFits, SaysGroups, SaysRange, TellsSome, count-append, count_groups, fits_more, is_groups, none_tells, tells_more}
 use Rattle.port_laws.proofs.EndMoves.{one_most}

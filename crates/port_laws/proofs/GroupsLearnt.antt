@@ -3,9 +3,9 @@ use Rattle.std.proofs.Common.{◌≡◌, ℕ, suc, ◌≤◌, Bool, true, false,
 use Rattle.std.specs.Prelude.{take, if◌then◌else◌, ⊤}
 use Rattle.std.proofs.lemmas.Bool.{le-leb}
 use Rattle.std.proofs.lemmas.List.{append-nil, length-take, take-append-drop}
-use Rattle.port_model.proofs.GroupSets.{same_address}
-use Rattle.port_model.specs.Groups.{groups_after, is_in, with_groups}
-use Rattle.port_model.specs.Spoken.{addresses_of, count_of, set_of, seven_of}
+use Rattle.lane_models.proofs.GroupSets.{same_address}
+use Rattle.lane_models.specs.Groups.{groups_after, is_in, with_groups}
+use Rattle.lane_models.specs.Spoken.{addresses_of, count_of, set_of, seven_of}
 use Rattle.port_laws.proofs.Outbox.{TellsSome}
 
 -- NONE IS REPEATED behind those that came first

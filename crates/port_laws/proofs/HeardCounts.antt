@@ -15,14 +15,14 @@ use Rattle.vio_tag.specs.declared.message.MsgBody.TheVariants.{DringData, Mcast}
 use Rattle.vio_tag.specs.Form.{HasForm, IsWellFormed}
 use Rattle.vio_tag.specs.Spelling.{HasLength, SpellsBody, SpellsMessage, addresses_at, envelope_code}
 use Rattle.dring.specs.Slots.{range_length}
-use Rattle.port_model.proofs.Refuting.{false_true}
-use Rattle.port_model.specs.EndLog.{EndLog, SessionLog, acked_by, answer_code, answer_to, groups_fields, heard_kind, hears_log, list_after, range_of}
-use Rattle.port_model.specs.Groups.{groups_after}
-use Rattle.port_model.specs.FramesStand.{CountsStand, FramesStand}
-use Rattle.port_model.specs.NetEndState.{GroupsReply, NetEndState, NetSession}
-use Rattle.port_model.specs.NetEndTaking.{active, replying}
-use Rattle.port_model.specs.RuleFacts.{IfOpen}
-use Rattle.port_model.specs.Spoken.{GroupsAck, GroupsInfo, Other, RangeAck, RangeInfo, Spoken, count_of, set_of, seven_of, spoken, spoken_by}
+use Rattle.lane_models.proofs.Refuting.{false_true}
+use Rattle.lane_models.specs.EndLog.{EndLog, SessionLog, acked_by, answer_code, answer_to, groups_fields, heard_kind, hears_log, list_after, range_of}
+use Rattle.lane_models.specs.Groups.{groups_after}
+use Rattle.lane_models.specs.FramesStand.{CountsStand, FramesStand}
+use Rattle.lane_models.specs.NetEndState.{GroupsReply, NetEndState, NetSession}
+use Rattle.lane_models.specs.NetEndTaking.{active, replying}
+use Rattle.lane_models.specs.RuleFacts.{IfOpen}
+use Rattle.lane_models.specs.Spoken.{GroupsAck, GroupsInfo, Other, RangeAck, RangeInfo, Spoken, count_of, set_of, seven_of, spoken, spoken_by}
 use Rattle.port_laws.specs.Counted.{AnswersFor, AnswersRightly, EndCounts, GuestCounts, GuestGroups, IsAnswer, PeerCounts, RingCounts, SessionCounts, unsaid}
 use Rattle.port_laws.proofs.EndCounting.{OpenCounts, empty_unsaid, end_from, guest_same, open_empty}
 use Rattle.port_laws.proofs.LettingGo.{spoken_same}

@@ -21,16 +21,16 @@ use Rattle.vio_tag.specs.Decoding.{Decodes}
 use Rattle.vio_tag.specs.Form.{IsWellFormed}
 use Rattle.vio_tag.specs.Spelling.{SpellsMessage, addresses_at, canonical, envelope_at, envelope_code, sid_at, subtype_at, type_at, type_code}
 use Rattle.vio_tag.specs.declared.cause.Cause.{Cause}
-use Rattle.channel_laws.specs.Sayings.{heard}
-use Rattle.channel_laws.proofs.EndStanding.{open_up}
-use Rattle.channel_laws.proofs.HandshakePlaces.{IsOwn, deal, open_place}
-use Rattle.channel_laws.proofs.LinkCases.{LinkHeard, link_heard}
-use Rattle.channel_laws.proofs.UtteranceCases.{HearsOn, hears_on}
-use Rattle.channel_laws.specs.EndStep.{IsOfSession}
-use Rattle.channel_laws.specs.Sides.{Sides, other}
-use Rattle.channel_laws.specs.Standing.{EndStands}
-use Rattle.port_model.specs.NetEndState.{NetEndState}
-use Rattle.port_model.specs.NetEndTaking.{GoesOn, HearsLink, HearsWhole, NetTake, NetTakes, Resets, reads}
+use Rattle.lane_models.specs.Sayings.{heard}
+use Rattle.lane_models.proofs.EndStanding.{open_up}
+use Rattle.lane_models.proofs.HandshakePlaces.{IsOwn, deal, open_place}
+use Rattle.lane_models.proofs.LinkCases.{LinkHeard, link_heard}
+use Rattle.lane_models.proofs.UtteranceCases.{HearsOn, hears_on}
+use Rattle.lane_models.specs.EndStep.{IsOfSession}
+use Rattle.lane_models.specs.Sides.{Sides, other}
+use Rattle.lane_models.specs.Standing.{EndStands}
+use Rattle.lane_models.specs.NetEndState.{NetEndState}
+use Rattle.lane_models.specs.NetEndTaking.{GoesOn, HearsLink, HearsWhole, NetTake, NetTakes, Resets, reads}
 use Rattle.port_laws.specs.NetCore.{net_core}
 use Rattle.port_laws.proofs.OwnBytes.{groups_bytes, range_bytes}
 use Rattle.port_laws.proofs.PeerOpens.{TwoEnds, mine_at, theirs_at}

@@ -11,18 +11,18 @@ use Rattle.ldc_link.specs.Putting.{owes}
 use Rattle.vio_tag.proofs.Canonical.{length_canonical}
 use Rattle.vio_tag.specs.declared.message.Message.{Message}
 use Rattle.vio_tag.specs.Spelling.{canonical}
-use Rattle.channel_laws.specs.Seeing.{Seen}
+use Rattle.lane_models.specs.Seeing.{Seen}
 use Rattle.cookie_copy.specs.Reach.{Reach}
-use Rattle.port_model.proofs.Refuting.{false_true, none_some, of_some, true_false}
-use Rattle.port_model.proofs.Ruling.{says_of}
-use Rattle.port_model.specs.EndLog.{EndLog, SessionLog, said_kind}
-use Rattle.port_model.specs.Fetching.{Fetched, NotReady, fetched}
-use Rattle.port_model.specs.Groups.{membership, seven}
-use Rattle.port_model.specs.NetEndPutting.{announcement, answer, answers, groups_answer, holding_own, net_holds}
-use Rattle.port_model.specs.NetEndRule.{Announces as AnnouncesRule, Fetches, NetRule, Puts, Replies, Says, Tells, port_rule}
-use Rattle.port_model.specs.NetEndState.{Activity, GroupsReply, NetEndState, NetSession}
-use Rattle.port_model.specs.RuleFacts.{IsFreeIn}
-use Rattle.port_model.specs.Spoken.{GroupsInfo, RangeAck, RangeInfo, Spoken, groups_spoken, spoken}
+use Rattle.lane_models.proofs.Refuting.{false_true, none_some, of_some, true_false}
+use Rattle.lane_models.proofs.Ruling.{says_of}
+use Rattle.lane_models.specs.EndLog.{EndLog, SessionLog, said_kind}
+use Rattle.lane_models.specs.Fetching.{Fetched, NotReady, fetched}
+use Rattle.lane_models.specs.Groups.{membership, seven}
+use Rattle.lane_models.specs.NetEndPutting.{announcement, answer, answers, groups_answer, holding_own, net_holds}
+use Rattle.lane_models.specs.NetEndRule.{Announces as AnnouncesRule, Fetches, NetRule, Puts, Replies, Says, Tells, port_rule}
+use Rattle.lane_models.specs.NetEndState.{Activity, GroupsReply, NetEndState, NetSession}
+use Rattle.lane_models.specs.RuleFacts.{IsFreeIn}
+use Rattle.lane_models.specs.Spoken.{GroupsInfo, RangeAck, RangeInfo, Spoken, groups_spoken, spoken}
 use Rattle.port_laws.specs.Counted.{ActiveCounts, AnswersFor, AnswersRightly, Counts, EndCounts, GuestCounts, GuestGroups, IsAnswer, PeerCounts, RingCounts, SaysRightly, SessionCounts, left_of, unsaid}
 use Rattle.port_laws.specs.NetFits.{AddressesAreShort, NetFits, ReplyFits}
 use Rattle.port_laws.proofs.EndCounting.{OpenCounts, guest_same, open_empty, own_left}

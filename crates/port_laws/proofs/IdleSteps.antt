@@ -6,15 +6,15 @@ use Rattle.ldc_link.specs.declared.phase.Role.TheVariants.{Responder}
 use Rattle.ldc_queue.specs.declared.end.End.TheVariants.{B}
 use Rattle.runs.specs.Lawful.{log_of}
 use Rattle.runs.specs.Run.{Run}
-use Rattle.port_model.proofs.Ruling.{says_of}
-use Rattle.port_model.specs.FramesStand.{FramesStand}
-use Rattle.port_model.specs.NetEndRule.{Idles, port_rule}
-use Rattle.port_model.specs.NetEndState.{NetSession, unseen_in}
-use Rattle.port_model.specs.NetEndStep.{Idle}
-use Rattle.port_model.specs.NetEvent.{CalmTick, Steps}
-use Rattle.port_model.specs.NetLaneState.{IsNetShape, NetShape, seen_at}
-use Rattle.port_model.specs.PortLog.{PortLog, after, no_events}
-use Rattle.port_model.specs.PortState.{OnLane, PortEvent, PortState, PortStep, fresh_port, moves_first, takes_more}
+use Rattle.lane_models.proofs.Ruling.{says_of}
+use Rattle.lane_models.specs.FramesStand.{FramesStand}
+use Rattle.lane_models.specs.NetEndRule.{Idles, port_rule}
+use Rattle.lane_models.specs.NetEndState.{NetSession, unseen_in}
+use Rattle.lane_models.specs.NetEndStep.{Idle}
+use Rattle.lane_models.specs.NetEvent.{CalmTick, Steps}
+use Rattle.lane_models.specs.NetLaneState.{IsNetShape, NetShape, seen_at}
+use Rattle.lane_models.specs.PortLog.{PortLog, after, no_events}
+use Rattle.lane_models.specs.PortState.{OnLane, PortEvent, PortState, PortStep, fresh_port, moves_first, takes_more}
 use Rattle.port_laws.proofs.PortCounts.{ready_before}
 use Rattle.port_laws.proofs.StepCounts.{counts_stand}
 use Rattle.port_laws.proofs.RingRuns.{port_kept}

@@ -12,29 +12,29 @@ use Rattle.ldc_queue.specs.declared.end.End.TheVariants.{A, B}
 use Rattle.ldc_queue.specs.Wire.{Wire, peer_behind, state_of, waiting_for}
 use Rattle.runs.specs.Run.{Run, run_keeps}
 use Rattle.vio_tag.specs.declared.cause.Cause.{Cause}
-use Rattle.channel_laws.specs.Seeing.{Seen}
+use Rattle.lane_models.specs.Seeing.{Seen}
 use Rattle.cookie_copy.specs.Reach.{Reach}
-use Rattle.channel_laws.specs.WireAt.{DeclinesAt, IsUp, MayCarry, MayReset}
-use Rattle.channel_laws.specs.WireEvent.{ByStep, Declined, Giver, WireEvent, giver}
-use Rattle.channel_laws.specs.WireLog.{WireLog}
-use Rattle.channel_laws.specs.EndCore.{EndMove, Fails, Stays}
-use Rattle.channel_laws.specs.EndStep.{EndBegins, EndStays, EndStep}
-use Rattle.channel_laws.proofs.EndsAtRest.{none_waits}
-use Rattle.channel_laws.specs.LaneCore.{AnswerStands, CoreStands, CoreStep, move_of, reset_move, wire_after}
-use Rattle.port_model.specs.NetEndPutting.{net_holds}
-use Rattle.port_model.specs.NetEndRule.{Idles, Joins, NetRule, Takes, port_rule}
-use Rattle.port_model.specs.NetEndState.{NetEndState, joined_net_end}
-use Rattle.port_model.specs.NetEndStep.{Blocked, Frame, Given, Idle, Joined, Joining, NetAnswer, NetEndStep, NetFails, NetGives, NetJoins, NetLeft, Published, Reset, Sent, Took}
-use Rattle.port_model.specs.NetEvent.{Asked, Declines, Gives, Injects, Joins as JoinsGroup, Loses, NetEvent, Pokes, Steps, Ticked, on_wire}
-use Rattle.port_model.specs.NetLaneState.{NetLaneState, NetShape, fresh_net, net_end, reach_of, role_at, seen_at, memory_of}
-use Rattle.port_model.specs.NetLaneStep.{NetLaneStep, Resets, declined_at, moved_on, net_wire, sizes_of}
-use Rattle.port_model.proofs.OwnResets.{net_resets_own}
-use Rattle.port_model.proofs.Ruling.{says_of}
+use Rattle.lane_models.specs.WireAt.{DeclinesAt, IsUp, MayCarry, MayReset}
+use Rattle.lane_models.specs.WireEvent.{ByStep, Declined, Giver, WireEvent, giver}
+use Rattle.lane_models.specs.WireLog.{WireLog}
+use Rattle.lane_models.specs.EndCore.{EndMove, Fails, Stays}
+use Rattle.lane_models.specs.EndStep.{EndBegins, EndStays, EndStep}
+use Rattle.lane_models.proofs.EndsAtRest.{none_waits}
+use Rattle.lane_models.specs.LaneCore.{AnswerStands, CoreStands, CoreStep, move_of, reset_move, wire_after}
+use Rattle.lane_models.specs.NetEndPutting.{net_holds}
+use Rattle.lane_models.specs.NetEndRule.{Idles, Joins, NetRule, Takes, port_rule}
+use Rattle.lane_models.specs.NetEndState.{NetEndState, joined_net_end}
+use Rattle.lane_models.specs.NetEndStep.{Blocked, Frame, Given, Idle, Joined, Joining, NetAnswer, NetEndStep, NetFails, NetGives, NetJoins, NetLeft, Published, Reset, Sent, Took}
+use Rattle.lane_models.specs.NetEvent.{Asked, Declines, Gives, Injects, Joins as JoinsGroup, Loses, NetEvent, Pokes, Steps, Ticked, on_wire}
+use Rattle.lane_models.specs.NetLaneState.{NetLaneState, NetShape, fresh_net, net_end, reach_of, role_at, seen_at, memory_of}
+use Rattle.lane_models.specs.NetLaneStep.{NetLaneStep, Resets, declined_at, moved_on, net_wire, sizes_of}
+use Rattle.lane_models.proofs.OwnResets.{net_resets_own}
+use Rattle.lane_models.proofs.Ruling.{says_of}
 use Rattle.port_laws.specs.NetCore.{core_event, core_events, event_core, fresh_net_core, is_begun, lane_core, net_core, net_core_at}
 use Rattle.port_laws.specs.NetFits.{NetFits}
 use Rattle.port_laws.proofs.EndMoves.{move_by, stays_with, step_core}
 use Rattle.port_laws.proofs.Fitting.{BothFit, event_fits}
-use Rattle.port_model.proofs.Refuting.{false_true, none_some, true_false}
+use Rattle.lane_models.proofs.Refuting.{false_true, none_some, true_false}
 
 -- THE WIRE
 pub wire_same : (l : WireLog) (event : Option WireEvent) → moved_on l event ≡ wire_after l (event_core event)

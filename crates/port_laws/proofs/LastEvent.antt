@@ -2,9 +2,9 @@
 use Rattle.std.proofs.Common.{◌≤◌, List, [], ◌∷◌, ◌++◌, ap, arith}
 use Rattle.runs.specs.Lawful.{Lawful, lawful_split, log_of}
 use Rattle.runs.specs.Run.{Run}
-use Rattle.port_model.specs.NetLaneState.{IsNetShape, NetShape}
-use Rattle.port_model.specs.PortLog.{PortLog, after, no_events}
-use Rattle.port_model.specs.PortState.{PortEvent, PortState, PortStep, fresh_port}
+use Rattle.lane_models.specs.NetLaneState.{IsNetShape, NetShape}
+use Rattle.lane_models.specs.PortLog.{PortLog, after, no_events}
+use Rattle.lane_models.specs.PortState.{PortEvent, PortState, PortStep, fresh_port}
 use Rattle.port_laws.proofs.RingRuns.{port_kept}
 
 pub last_lawful : (shape : NetShape) (May : PortLog → PortEvent → Type 0) (events : List PortEvent) (event : PortEvent) → Lawful May after (no_events shape) (events ++ event ∷ [])

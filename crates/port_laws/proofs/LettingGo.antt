@@ -14,11 +14,11 @@ use Rattle.vio_tag.specs.Spelling.{SpellsBody, SpellsMessage, envelope_code}
 use Rattle.dring.specs.Slots.{range_length}
 use Rattle.port_laws.proofs.MessageDoes.{Acks, MessageDoes, TakeDoes, message_does, Asks, Declines, Names, Told}
 use Rattle.port_laws.specs.LetsGo.{SessionInOrder, LetsGo, TakeLetsGo, TakeLetsNoneGo, acks}
-use Rattle.port_model.proofs.Refuting.{false_true}
-use Rattle.port_model.specs.EndLog.{acked_by}
-use Rattle.port_model.specs.NetEndState.{NetEndState, NetSession}
-use Rattle.port_model.specs.NetEndTaking.{GoesOn, NetTake, Resets, by_handshake, hears_message, opens_by_take}
-use Rattle.port_model.specs.Spoken.{Spoken, spoken, spoken_by}
+use Rattle.lane_models.proofs.Refuting.{false_true}
+use Rattle.lane_models.specs.EndLog.{acked_by}
+use Rattle.lane_models.specs.NetEndState.{NetEndState, NetSession}
+use Rattle.lane_models.specs.NetEndTaking.{GoesOn, NetTake, Resets, by_handshake, hears_message, opens_by_take}
+use Rattle.lane_models.specs.Spoken.{Spoken, spoken, spoken_by}
 
 -- WHAT AN ACK NAMES, by the bytes of the message
 pub spoken_same : (bytes : List ℕ) (message : Message) → SpellsMessage bytes message → spoken bytes ≡ spoken_by (envelope_code message.body) (subtype_code message.subtype)

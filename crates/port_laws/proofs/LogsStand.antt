@@ -7,18 +7,18 @@ use Rattle.std.proofs.lemmas.Option.{slice_get_within}
 use Rattle.ldc_queue.specs.declared.end.End.TheVariants.{A, B}
 use Rattle.ldc_queue.specs.Transcript.{Utterance}
 use Rattle.vnet_msg.specs.Frames.{IsFrame, is_frame_length}
-use Rattle.channel_laws.specs.Messages.{ended_by}
-use Rattle.channel_laws.specs.Sayings.{half_heard, half_said}
-use Rattle.channel_laws.specs.TranscriptLog.{transcript_of}
-use Rattle.port_model.specs.EndLog.{EndLog, OpenedLog, SessionLog, change, ends_log, gives_log, heard_in, heard_kind, more_published, more_taken, opens_log, published_in, said_in, said_kind}
-use Rattle.port_model.specs.NetEndStep.{Blocked, Frame, Given, Idle, NetAnswer, NetGives, Published, Sent, Took}
-use Rattle.port_model.specs.NetEndState.{NetEndState}
-use Rattle.port_model.specs.NetEvent.{Asked, Gives, NetEvent, Steps, Ticked}
-use Rattle.port_model.specs.NetLaneState.{NetLaneState, NetShape, fresh_table}
-use Rattle.port_model.specs.NetLaneStep.{NetLaneStep}
-use Rattle.port_model.specs.PortLog.{PortLog, after, after_answer, after_given, no_events}
-use Rattle.port_model.specs.PortState.{OnLane, Receives}
-use Rattle.port_model.specs.Spoken.{Spoken}
+use Rattle.lane_models.specs.Messages.{ended_by}
+use Rattle.lane_models.specs.Sayings.{half_heard, half_said}
+use Rattle.lane_models.specs.TranscriptLog.{transcript_of}
+use Rattle.lane_models.specs.EndLog.{EndLog, OpenedLog, SessionLog, change, ends_log, gives_log, heard_in, heard_kind, more_published, more_taken, opens_log, published_in, said_in, said_kind}
+use Rattle.lane_models.specs.NetEndStep.{Blocked, Frame, Given, Idle, NetAnswer, NetGives, Published, Sent, Took}
+use Rattle.lane_models.specs.NetEndState.{NetEndState}
+use Rattle.lane_models.specs.NetEvent.{Asked, Gives, NetEvent, Steps, Ticked}
+use Rattle.lane_models.specs.NetLaneState.{NetLaneState, NetShape, fresh_table}
+use Rattle.lane_models.specs.NetLaneStep.{NetLaneStep}
+use Rattle.lane_models.specs.PortLog.{PortLog, after, after_answer, after_given, no_events}
+use Rattle.lane_models.specs.PortState.{OnLane, Receives}
+use Rattle.lane_models.specs.Spoken.{Spoken}
 use Rattle.port_laws.proofs.RingMoves.{get_front}
 use Rattle.port_laws.proofs.SessionsHeard.{get_last, get_more}
 

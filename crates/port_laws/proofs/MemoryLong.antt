@@ -24,21 +24,21 @@ use Rattle.vio_tag.specs.declared.message.MsgBody.{MsgBody}
 use Rattle.vnet_msg.proofs.FrameSlots.{long}
 use Rattle.vnet_msg.specs.Descriptor.{canonical, net_desc_of}
 use Rattle.vnet_msg.specs.Frames.{IsFrame, buffer_place, frame_buffer, frame_desc, header, memory_pages}
-use Rattle.channel_laws.specs.Seeing.{Seen}
-use Rattle.channel_laws.specs.TranscriptLog.{transcript_of}
-use Rattle.port_model.proofs.Moving.{before_keeps}
-use Rattle.port_model.proofs.Ruling.{says_of}
-use Rattle.port_model.specs.Fetching.{slots_cookies}
-use Rattle.port_model.specs.NetEndPutting.{cleared_by_put, cleared_ring}
-use Rattle.port_model.specs.NetEndRule.{Publishes, Takes}
-use Rattle.port_model.specs.NetEndState.{NetEndState, NetSession, unseen_in}
-use Rattle.port_model.specs.NetEndStep.{Frame, NetAnswer, NetEndStep, NetLeft, Published, Took, published_memory}
-use Rattle.port_model.specs.NetEndTaking.{GoesOn, NetTake, Resets, freed}
-use Rattle.port_model.specs.NetEvent.{Asked, CalmTick, Declines, Gives, Injects, NetEvent, Pokes, Steps, Ticked}
-use Rattle.port_model.specs.NetLaneState.{IsNetShape, NetLaneState, NetShape, memory_of, net_end, reach_of, role_at, seen_at}
-use Rattle.port_model.specs.NetLaneStep.{NetLaneStep}
-use Rattle.port_model.specs.PortLog.{PortLog, after, no_events}
-use Rattle.port_model.specs.PortState.{OnLane, PortEvent, PortState, PortStep, Receives, before, fresh_port}
+use Rattle.lane_models.specs.Seeing.{Seen}
+use Rattle.lane_models.specs.TranscriptLog.{transcript_of}
+use Rattle.lane_models.proofs.Moving.{before_keeps}
+use Rattle.lane_models.proofs.Ruling.{says_of}
+use Rattle.lane_models.specs.Fetching.{slots_cookies}
+use Rattle.lane_models.specs.NetEndPutting.{cleared_by_put, cleared_ring}
+use Rattle.lane_models.specs.NetEndRule.{Publishes, Takes}
+use Rattle.lane_models.specs.NetEndState.{NetEndState, NetSession, unseen_in}
+use Rattle.lane_models.specs.NetEndStep.{Frame, NetAnswer, NetEndStep, NetLeft, Published, Took, published_memory}
+use Rattle.lane_models.specs.NetEndTaking.{GoesOn, NetTake, Resets, freed}
+use Rattle.lane_models.specs.NetEvent.{Asked, CalmTick, Declines, Gives, Injects, NetEvent, Pokes, Steps, Ticked}
+use Rattle.lane_models.specs.NetLaneState.{IsNetShape, NetLaneState, NetShape, memory_of, net_end, reach_of, role_at, seen_at}
+use Rattle.lane_models.specs.NetLaneStep.{NetLaneStep}
+use Rattle.lane_models.specs.PortLog.{PortLog, after, no_events}
+use Rattle.lane_models.specs.PortState.{OnLane, PortEvent, PortState, PortStep, Receives, before, fresh_port}
 use Rattle.port_laws.proofs.LogsStand.{LogsStand, fresh_logs, held_given, logs_event, logs_received}
 use Rattle.port_laws.proofs.MemoryRoom.{MemoryHasRoom, power_room}
 use Rattle.port_laws.proofs.MessageDoes.{Acks, Asks, Declines as DeclinesMessage, MessageDoes, Names, Told}
@@ -152,11 +152,11 @@ owns_of shape e u l ready room logs up =
 event_long : (shape : NetShape) (u : PortState) (l : PortLog) (event : NetEvent) (t : NetLaneState) → Ready shape u l → MemoryHasRoom shape.slots u.lane → LogsStand l → NetLaneStep u.lane event t
     → LongMemory shape.slots u.lane → LongMemory shape.slots t
 event_long shape u l (Steps A answer) t ready room logs step long_ =
-    let same = step_long Initiator u.lane.guest l.transcript.client (seen_at A u.lane) u.lane.guest_memory (reach_of A u.lane) answer step.left (some_slots shape A u l ready) (fits_of shape A u l ready room)
+    let same = step_long Initiator u.lane.guest l.transcript.a (seen_at A u.lane) u.lane.guest_memory (reach_of A u.lane) answer step.left (some_slots shape A u l ready) (fits_of shape A u l ready room)
     (owns_of shape A u l ready room logs) step.step in
     subst (LongMemory shape.slots) (sym step.is) (record { guest = same.0 ∙ long_.guest; hub = same.1 ∙ long_.hub })
 event_long shape u l (Steps B answer) t ready room logs step long_ =
-    let same = step_long Responder u.lane.hub l.transcript.server (seen_at B u.lane) u.lane.hub_memory (reach_of B u.lane) answer step.left (some_slots shape B u l ready) (fits_of shape B u l ready room)
+    let same = step_long Responder u.lane.hub l.transcript.b (seen_at B u.lane) u.lane.hub_memory (reach_of B u.lane) answer step.left (some_slots shape B u l ready) (fits_of shape B u l ready room)
     (owns_of shape B u l ready room logs) step.step in
     subst (LongMemory shape.slots) (sym step.is) (record { guest = same.1 ∙ long_.guest; hub = same.0 ∙ long_.hub })
 event_long shape u l (Ticked queued lost) t ready room logs step long_ = subst (LongMemory shape.slots) (sym step.1.1) (record { guest = long_.guest; hub = long_.hub })

@@ -4,10 +4,10 @@ use Rattle.std.specs.Prelude.{◌*◌, ◌^◌}
 use Rattle.std.proofs.lemmas.List.{length-take}
 use Rattle.vio_bytes.specs.Place.{put_at}
 use Rattle.vnet_msg.specs.Frames.{memory_pages}
-use Rattle.port_model.proofs.Moving.{before_keeps}
-use Rattle.port_model.specs.NetEvent.{NetEvent}
-use Rattle.port_model.specs.NetLaneState.{NetLaneState}
-use Rattle.port_model.specs.PortState.{PortState, before}
+use Rattle.lane_models.proofs.Moving.{before_keeps}
+use Rattle.lane_models.specs.NetEvent.{NetEvent}
+use Rattle.lane_models.specs.NetLaneState.{NetLaneState}
+use Rattle.lane_models.specs.PortState.{PortState, before}
 
 -- WRITES
 pub put_longer : (at : ℕ) (piece bytes : List ℕ) → length bytes ≤ length (put_at at piece bytes)

@@ -14,15 +14,15 @@ use Rattle.vio_tag.specs.declared.cause.Cause.TheVariants as the_cause
 use Rattle.vio_tag.specs.declared.message.Message.{Message}
 use Rattle.vio_tag.specs.declared.message.MsgBody.{MsgBody}
 use Rattle.vio_tag.specs.declared.message.MsgBody.TheVariants.{DringData, Mcast}
-use Rattle.channel_laws.specs.Ranges.{is_other}
+use Rattle.lane_models.specs.Ranges.{is_other}
 use Rattle.dring.specs.Slots.{range_length}
-use Rattle.channel_laws.specs.Standing.{is_open_in}
-use Rattle.port_model.proofs.Refuting.{false_true}
-use Rattle.port_model.specs.EndLog.{list_after}
-use Rattle.port_model.specs.Groups.{groups_after}
-use Rattle.port_model.specs.NetEndState.{GroupsReply, NetEndState, NetSession, with_session}
-use Rattle.port_model.specs.NetEndTaking.{GoesOn, NetTake, Resets, acknowledged, active, by_handshake, ends_outside, first_undone, freed, hears_message, in_session, refused, replying, sid_first, takes_ack, takes_done, takes_groups, takes_info, takes_range, told}
-use Rattle.channel_laws.proofs.EndStanding.{opened_phase}
+use Rattle.lane_models.specs.Standing.{is_open_in}
+use Rattle.lane_models.proofs.Refuting.{false_true}
+use Rattle.lane_models.specs.EndLog.{list_after}
+use Rattle.lane_models.specs.Groups.{groups_after}
+use Rattle.lane_models.specs.NetEndState.{GroupsReply, NetEndState, NetSession, with_session}
+use Rattle.lane_models.specs.NetEndTaking.{GoesOn, NetTake, Resets, acknowledged, active, by_handshake, ends_outside, first_undone, freed, hears_message, in_session, refused, replying, sid_first, takes_ack, takes_done, takes_groups, takes_info, takes_range, told}
+use Rattle.lane_models.proofs.EndStanding.{opened_phase}
 
 -- an INFO that is the next
 pub record IsNext (p : NetSession) (seq start : ℕ) : Type 0 where

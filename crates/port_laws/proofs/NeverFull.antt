@@ -14,31 +14,31 @@ use Rattle.runs.specs.Run.{Run, run_push}
 use Rattle.vio_handshake.proofs.Places.{AllSaid, Deal}
 use Rattle.vio_handshake.specs.declared.handshake.Handshake.{Handshake}
 use Rattle.vio_tag.specs.declared.message.Message.{Message}
-use Rattle.channel_laws.specs.Seeing.{Seen}
-use Rattle.channel_laws.specs.TranscriptLog.{TranscriptLog}
-use Rattle.channel_laws.specs.WireAt.{IsUp}
-use Rattle.channel_laws.specs.WireLog.{WireLog}
-use Rattle.channel_laws.proofs.HandshakePlaces.{deal, open_place}
-use Rattle.channel_laws.proofs.ManyWait.{many_wait, owes_some}
-use Rattle.channel_laws.proofs.PartsWaiting.{LongSaid, long_run}
-use Rattle.channel_laws.proofs.WhoOwes.{never_both}
-use Rattle.channel_laws.specs.EndCore.{EndCore}
-use Rattle.channel_laws.specs.LaneCore.{LaneCore}
-use Rattle.channel_laws.specs.LinkPlaces.{BothUp, live_phase, phase_at}
-use Rattle.channel_laws.specs.Sides.{Sides, sides_of}
-use Rattle.channel_laws.specs.Standing.{EndStands}
+use Rattle.lane_models.specs.Seeing.{Seen}
+use Rattle.lane_models.specs.TranscriptLog.{TranscriptLog}
+use Rattle.lane_models.specs.WireAt.{IsUp}
+use Rattle.lane_models.specs.WireLog.{WireLog}
+use Rattle.lane_models.proofs.HandshakePlaces.{deal, open_place}
+use Rattle.lane_models.proofs.ManyWait.{many_wait, owes_some}
+use Rattle.lane_models.proofs.PartsWaiting.{LongSaid, long_run}
+use Rattle.lane_models.proofs.WhoOwes.{never_both}
+use Rattle.lane_models.specs.EndCore.{EndCore}
+use Rattle.lane_models.specs.LaneCore.{LaneCore}
+use Rattle.lane_models.specs.LinkPlaces.{BothUp, live_phase, phase_at}
+use Rattle.lane_models.specs.Sides.{Sides, sides_of}
+use Rattle.lane_models.specs.Standing.{EndStands}
 use Rattle.cookie_copy.specs.Reach.{Reach}
-use Rattle.port_model.proofs.Refuting.{none_some}
-use Rattle.port_model.proofs.Ruling.{says_of}
-use Rattle.port_model.specs.NetEndPutting.{net_holds}
-use Rattle.port_model.specs.NetEndRule.{Announces, Fetches, NetRule, Puts, Replies, Says, Tells, port_rule}
-use Rattle.port_model.specs.NetEndState.{NetEndState, NetSession}
-use Rattle.port_model.specs.NetEndStep.{Blocked}
-use Rattle.port_model.specs.NetEvent.{CalmTick, Steps}
-use Rattle.port_model.specs.NetLaneState.{IsNetShape, NetShape, reach_of, seen_at}
-use Rattle.port_model.specs.PortLog.{PortLog, after, no_events}
-use Rattle.port_model.specs.PortMay.{PortMay}
-use Rattle.port_model.specs.PortState.{OnLane, PortEvent, PortState, PortStep, before, fresh_port}
+use Rattle.lane_models.proofs.Refuting.{none_some}
+use Rattle.lane_models.proofs.Ruling.{says_of}
+use Rattle.lane_models.specs.NetEndPutting.{net_holds}
+use Rattle.lane_models.specs.NetEndRule.{Announces, Fetches, NetRule, Puts, Replies, Says, Tells, port_rule}
+use Rattle.lane_models.specs.NetEndState.{NetEndState, NetSession}
+use Rattle.lane_models.specs.NetEndStep.{Blocked}
+use Rattle.lane_models.specs.NetEvent.{CalmTick, Steps}
+use Rattle.lane_models.specs.NetLaneState.{IsNetShape, NetShape, reach_of, seen_at}
+use Rattle.lane_models.specs.PortLog.{PortLog, after, no_events}
+use Rattle.lane_models.specs.PortMay.{PortMay}
+use Rattle.lane_models.specs.PortState.{OnLane, PortEvent, PortState, PortStep, before, fresh_port}
 use Rattle.port_laws.specs.NetCore.{lane_core, net_core}
 use Rattle.port_laws.specs.PortCore.{port_core, port_events}
 use Rattle.port_laws.proofs.CoreLaws.{sizes_fit}
@@ -79,9 +79,9 @@ owes_or_open : (role : Role) (s : NetEndState) (at : Seen) (reach : Reach) (held
 owes_or_open role s at reach held turns session stands up holds is = grind (arith, shut_owes)
 
 -- WHAT A GUEST SAID is in parts of 56 bytes but the last ones
-guest_long : (shape : NetShape) (s : PortState) (l : PortLog) → IsNetShape shape → PortCounts shape s l → LongSaid l.transcript.client
+guest_long : (shape : NetShape) (s : PortState) (l : PortLog) → IsNetShape shape → PortCounts shape s l → LongSaid l.transcript.a
 guest_long shape s l is counts =
-    subst (λ (x : TranscriptLog). LongSaid x.client) (spoken_behind shape counts.events ∙ sym (ap (λ (x : PortLog). x.transcript) counts.log))
+    subst (λ (x : TranscriptLog). LongSaid x.a) (spoken_behind shape counts.events ∙ sym (ap (λ (x : PortLog). x.transcript) counts.log))
     (long_run shape.entries (asks_of shape) (answers_of shape) (port_events counts.events) (port_core s) (sizes_fit shape is) (fresh_port_core shape counts.events s counts.run)).a.long
 
 -- NEVER BOTH
@@ -139,20 +139,20 @@ never_full shape events s m t is run clean whole first second =
     finds_before shape m now (Steps B Blocked) is (port_kept shape so_far m is run_one)
     (ap (λ (x : PortLog). x.wire.forged) log ∙ unforged) in
     let hub_owes : (is_some s.lane.hub.handshake.owed ≡ true) ⊎ (is_some s.lane.hub.session ≡ true) =
-    elim (owes_or_open Responder u.lane.hub (seen_at B u.lane) (reach_of B u.lane) second.1.left.end now.transcript.server u.lane.hub.session
+    elim (owes_or_open Responder u.lane.hub (seen_at B u.lane) (reach_of B u.lane) second.1.left.end now.transcript.b u.lane.hub.session
     (acting_at shape B u now found (ap (λ (w : WireLog). w.wire.end_b) same_wire ∙ other_up)).ends (ap (λ (k : LinkState). k.phase) link_is ∙ phase_b) second.1.step.0 refl) [
       | inl owes ↦ inl (ap (λ (h : Handshake). is_some h.owed) (sym handshake_is) ∙ owes)
       | inr opened ↦ inr (sym open_is ∙ opened)
     ] in
     let not_in_session : s.lane.guest.session ≡ None → ⊥ = λ none.
-    let owed = shut_owes Initiator s.lane.guest (seen_at A s.lane) (reach_of A s.lane) (port_rule Initiator s.lane.guest (seen_at A s.lane)) first.1.left.end l.transcript.client
+    let owed = shut_owes Initiator s.lane.guest (seen_at A s.lane) (reach_of A s.lane) (port_rule Initiator s.lane.guest (seen_at A s.lane)) first.1.left.end l.transcript.a
     (acting_at shape A s l finds up).ends none phase_a refl first.1.step.0 in
     let at = mine_at (asks_of shape) (answers_of shape) Initiator sides two_ends up (ap is_established phase_a) in
     let there = theirs_at (asks_of shape) (answers_of shape) Initiator sides two_ends other_up (ap is_established phase_b) in
     let owns : (is_some s.lane.hub.handshake.owed ≡ true) ⊎ (there.place ≡ AllSaid) =
     elim hub_owes [
       | inl owes ↦ inl owes
-      | inr opened ↦ inr (open_place true d Responder sides.theirs.core l.transcript.server two_ends.theirs there opened)
+      | inr opened ↦ inr (open_place true d Responder sides.theirs.core l.transcript.b two_ends.theirs there opened)
     ] in
-    never_both true d s.lane.guest.handshake s.lane.hub.handshake l.transcript.client l.transcript.server at there owed owns (finds.two_ends.front other_up) (finds.two_ends.front_a up) in
+    never_both true d s.lane.guest.handshake s.lane.hub.handshake l.transcript.a l.transcript.b at there owed owns (finds.two_ends.front other_up) (finds.two_ends.front_a up) in
     by_option s.lane.guest.session in_session not_in_session

@@ -15,34 +15,34 @@ use Rattle.runs.specs.Lawful.{Lawful}
 use Rattle.runs.specs.Run.{Run}
 use Rattle.vio_tag.specs.declared.cause.Cause.{Cause}
 use Rattle.vio_tag.specs.Spelling.{envelope_at, subtype_at}
-use Rattle.channel_laws.specs.Ranges.{wrapped}
-use Rattle.channel_laws.specs.Sayings.{heard, said}
-use Rattle.channel_laws.specs.TranscriptLog.{TranscriptLog, transcript_of}
-use Rattle.channel_laws.specs.WireAt.{IsOwnReset, IsUp, UnforgedReset, WireUnforgedAt}
-use Rattle.channel_laws.specs.WireEvent.{Giver, giver}
-use Rattle.channel_laws.specs.WireLog.{WireLog}
-use Rattle.channel_laws.proofs.ConversingRuns.{hears_next}
-use Rattle.channel_laws.proofs.LinkRefuses.{link_refuses}
-use Rattle.channel_laws.proofs.PartsSaid.{PartsSaid, parts_run}
-use Rattle.channel_laws.proofs.UnforgedResets.{unforged_reset}
-use Rattle.channel_laws.specs.LaneCore.{CoreStep, end_of as core_of_end}
-use Rattle.channel_laws.specs.Resetting.{IsGapBehindLoss, LiesInSession}
-use Rattle.channel_laws.specs.Sides.{Sides, other, sides_of, swapped}
-use Rattle.port_model.proofs.OwnResets.{net_resets_own}
-use Rattle.port_model.proofs.Refuting.{true_false}
-use Rattle.port_model.proofs.Ruling.{says_of}
-use Rattle.port_model.specs.EndLog.{SessionLog, range_of}
-use Rattle.port_model.specs.NetEndRule.{Takes, port_rule}
-use Rattle.port_model.specs.NetEndState.{NetEndState, NetSession}
-use Rattle.port_model.specs.NetEndStep.{NetEndStep, NetFails, Reset}
-use Rattle.port_model.specs.NetEndTaking.{NetTakes, Resets, first_undone}
-use Rattle.port_model.specs.NetEvent.{NetEvent, Steps}
-use Rattle.port_model.specs.NetLaneState.{IsNetShape, NetLaneState, NetShape, memory_of, net_end, reach_of, role_at, seen_at}
-use Rattle.port_model.specs.NetLaneStep.{NetLaneStep}
-use Rattle.port_model.specs.PortLog.{PortLog, after, log_of_end, no_events}
-use Rattle.port_model.specs.PortMay.{OfWire}
-use Rattle.port_model.specs.PortState.{OnLane, PortEvent, PortState, PortStep, before, fresh_port}
-use Rattle.port_model.specs.Spoken.{RangeAck, RangeInfo, range_spoken, spoken, spoken_by}
+use Rattle.lane_models.specs.Ranges.{wrapped}
+use Rattle.lane_models.specs.Sayings.{heard, said}
+use Rattle.lane_models.specs.TranscriptLog.{TranscriptLog, transcript_of}
+use Rattle.lane_models.specs.WireAt.{IsOwnReset, IsUp, UnforgedReset, WireUnforgedAt}
+use Rattle.lane_models.specs.WireEvent.{Giver, giver}
+use Rattle.lane_models.specs.WireLog.{WireLog}
+use Rattle.lane_models.proofs.ConversingRuns.{hears_next}
+use Rattle.lane_models.proofs.LinkRefuses.{link_refuses}
+use Rattle.lane_models.proofs.PartsSaid.{PartsSaid, parts_run}
+use Rattle.lane_models.proofs.UnforgedResets.{unforged_reset}
+use Rattle.lane_models.specs.LaneCore.{CoreStep, end_of as core_of_end}
+use Rattle.lane_models.specs.Resetting.{IsGapBehindLoss, LiesInSession}
+use Rattle.lane_models.specs.Sides.{Sides, other, sides_of, swapped}
+use Rattle.lane_models.proofs.OwnResets.{net_resets_own}
+use Rattle.lane_models.proofs.Refuting.{true_false}
+use Rattle.lane_models.proofs.Ruling.{says_of}
+use Rattle.lane_models.specs.EndLog.{SessionLog, range_of}
+use Rattle.lane_models.specs.NetEndRule.{Takes, port_rule}
+use Rattle.lane_models.specs.NetEndState.{NetEndState, NetSession}
+use Rattle.lane_models.specs.NetEndStep.{NetEndStep, NetFails, Reset}
+use Rattle.lane_models.specs.NetEndTaking.{NetTakes, Resets, first_undone}
+use Rattle.lane_models.specs.NetEvent.{NetEvent, Steps}
+use Rattle.lane_models.specs.NetLaneState.{IsNetShape, NetLaneState, NetShape, memory_of, net_end, reach_of, role_at, seen_at}
+use Rattle.lane_models.specs.NetLaneStep.{NetLaneStep}
+use Rattle.lane_models.specs.PortLog.{PortLog, after, log_of_end, no_events}
+use Rattle.lane_models.specs.PortMay.{OfWire}
+use Rattle.lane_models.specs.PortState.{OnLane, PortEvent, PortState, PortStep, before, fresh_port}
+use Rattle.lane_models.specs.Spoken.{RangeAck, RangeInfo, range_spoken, spoken, spoken_by}
 use Rattle.port_laws.specs.NetCore.{fresh_net_core, lane_core}
 use Rattle.port_laws.specs.PortCore.{port_core, port_events}
 use Rattle.port_laws.specs.RingHolds.{RingHolds}
@@ -71,7 +71,7 @@ use Rattle.port_laws.proofs.ExchangeSteps.{outbox_heard}
 use Rattle.port_laws.proofs.TookCounts.{free_empty, session_up}
 use Rattle.port_laws.proofs.WayMoves.{first_came, span, swap_ways}
 use Rattle.port_laws.proofs.WayRuns.{guest_open_up, new_taken, turn_at, ways_before}
-use Rattle.channel_laws.proofs.NextHeard.{own_gap}
+use Rattle.lane_models.proofs.NextHeard.{own_gap}
 use Rattle.port_laws.proofs.PortCauses.{fails_takes, takes_rule}
 
 -- BOTH DIRECTIONS, as an end has them
@@ -83,7 +83,7 @@ WaysAt e u l =
 ways_at : (e : End) (u : NetLaneState) (l : PortLog) → WaysStand u l → IsUp A u.wire.wire → IsUp B u.wire.wire → l.guest.session ≢ None → WaysAt e u l
 ways_at A u l ways up other some = ways up other some
 ways_at B u l ways up other some =
-    swap_ways l.shape.slots (said l.transcript.client) (heard l.transcript.client) (said l.transcript.server) (heard l.transcript.server) (or_new l.guest.session) (or_new l.hub.session) (ways up other some)
+    swap_ways l.shape.slots (said l.transcript.a) (heard l.transcript.a) (said l.transcript.b) (heard l.transcript.b) (or_new l.guest.session) (or_new l.hub.session) (ways up other some)
 
 spoken_range : (m : List ℕ) (k : ℕ) → envelope_at m ≡ 0x0042 → subtype_at m ≡ k → spoken m ≡ range_spoken k
 spoken_range m k range is = ap (λ (n : ℕ). spoken_by n (subtype_at m)) range ∙ ap range_spoken is
@@ -159,7 +159,7 @@ end_resets shape A u l cause packet p finds ways exchange parts session rule tak
     let sides : Sides = sides_of (lane_core u.lane) l.transcript in
     let one_side : TwoEnds (asks_of shape) (answers_of shape) Initiator sides = finds.two_ends.two_ends A in
     let opened : is_some s.session ≡ true = ap is_some session in
-    elim (hears_in Initiator s l.transcript.client u.lane.guest_memory packet (Resets cause) acting.ends (session_up Initiator s l.transcript.client p acting.ends session) takes) [
+    elim (hears_in Initiator s l.transcript.a u.lane.guest_memory packet (Resets cause) acting.ends (session_up Initiator s l.transcript.a p acting.ends session) takes) [
       | inl none ↦ absurd (cc none.is)
       | inr (inr refused) ↦
           let same : cause ≡ refused.cause = cc refused.is in
@@ -167,21 +167,21 @@ end_resets shape A u l cause packet p finds ways exchange parts session rule tak
           (link_refuses Initiator _ packet _ one_side.meets.converse one_side.meets.links one_side.mine.link.follows (parts B) up
           says.1 refused.takes)
       | inr (inl one) ↦
-          let front : IsFront (heard (Heard packet ∷ l.transcript.client)) (said l.transcript.server) =
+          let front : IsFront (heard (Heard packet ∷ l.transcript.a)) (said l.transcript.b) =
           (hears_next Initiator sides packet one.from one_side.meets.converse up says.1 one_side.mine.link.follows one.takes).front in
-          let grown : IsFront (heard l.transcript.client ++ one.bytes ∷ []) (said l.transcript.server) = subst (λ (xs : List (List ℕ)). IsFront xs (said l.transcript.server)) one.messages front in
-          let first = outbox_heard u.lane.hub l.transcript.server l.transcript.client packet one.bytes one.messages grown in
+          let grown : IsFront (heard l.transcript.a ++ one.bytes ∷ []) (said l.transcript.b) = subst (λ (xs : List (List ℕ)). IsFront xs (said l.transcript.b)) one.messages front in
+          let first = outbox_heard u.lane.hub l.transcript.b l.transcript.a packet one.bytes one.messages grown in
           let sid = s.handshake.draft.sid in
-          let before : ExchangeIn sid s.groups p (outbox s l.transcript.client l.transcript.server) (one.bytes ∷ outbox u.lane.hub l.transcript.server (Heard packet ∷ l.transcript.client))
+          let before : ExchangeIn sid s.groups p (outbox s l.transcript.a l.transcript.b) (one.bytes ∷ outbox u.lane.hub l.transcript.b (Heard packet ∷ l.transcript.a))
           u.lane.hub.session u.lane.hub.groups = rw first at (exchange p up other_up session) in
           let own : OwnRead one.bytes one_side.meets.handshakes.sid =
           next_read (asks_of shape) (answers_of shape) Initiator Responder sides one.bytes sid one_side up opened other_up grown before.answers_fit.0 in
           let agreed = mine_agreed (asks_of shape) (answers_of shape) Initiator sides one_side up opened in
           let in_it : InSession Initiator (record s { link = one.link }) p u.lane.guest_memory own.message (Resets cause) =
-          in_own_session Initiator s p u.lane.guest_memory packet l.transcript.client (Resets cause) one_side.meets.handshakes.sid one session agreed.knows own in
+          in_own_session Initiator s p u.lane.guest_memory packet l.transcript.a (Resets cause) one_side.meets.handshakes.sid one session agreed.knows own in
           let expects = expects_at shape A u l one.link one.bytes p sid finds up other_up session (ways_at A u.lane l ways up other_up in_log)
-          (free_empty Initiator s l.transcript.client acting.ends says.0.quiet) grown before.answers_fit.0 (guest_sid shape u.lane l finds.two_ends up opened).agreed
-          (λ named role. is_telling sid s.groups p (outbox s l.transcript.client l.transcript.server) (outbox u.lane.hub l.transcript.server (Heard packet ∷ l.transcript.client)) u.lane.hub.session
+          (free_empty Initiator s l.transcript.a acting.ends says.0.quiet) grown before.answers_fit.0 (guest_sid shape u.lane l finds.two_ends up opened).agreed
+          (λ named role. is_telling sid s.groups p (outbox s l.transcript.a l.transcript.b) (outbox u.lane.hub l.transcript.b (Heard packet ∷ l.transcript.a)) u.lane.hub.session
           u.lane.hub.groups one.bytes before named) in
           absurd (taken_in_session Initiator (record s { link = one.link }) p u.lane.guest_memory sid one.bytes own.message own.message.subtype own.message.body cause expects own.of own.spells refl refl
           (sym in_it.is))
@@ -200,7 +200,7 @@ end_resets shape B u l cause packet q finds ways exchange parts session rule tak
     let guest_session = some_of u.lane.guest.session guest_in.opened in
     let in_log : l.guest.session ≢ None =
     let both = open_both Initiator shape.slots [] u.lane.guest l.guest finds.ready.guest in λ gone. true_false (sym guest_in.opened ∙ both.shut gone) in
-    elim (hears_in Responder s l.transcript.server u.lane.hub_memory packet (Resets cause) acting.ends (session_up Responder s l.transcript.server q acting.ends session) takes) [
+    elim (hears_in Responder s l.transcript.b u.lane.hub_memory packet (Resets cause) acting.ends (session_up Responder s l.transcript.b q acting.ends session) takes) [
       | inl none ↦ absurd (cc none.is)
       | inr (inr refused) ↦
           let same : cause ≡ refused.cause = cc refused.is in
@@ -208,21 +208,21 @@ end_resets shape B u l cause packet q finds ways exchange parts session rule tak
           (link_refuses Responder _ packet _ one_side.meets.converse one_side.meets.links one_side.mine.link.follows (parts A) up
           says.1 refused.takes)
       | inr (inl one) ↦
-          let front : IsFront (heard (Heard packet ∷ l.transcript.server)) (said l.transcript.client) =
+          let front : IsFront (heard (Heard packet ∷ l.transcript.b)) (said l.transcript.a) =
           (hears_next Responder sides packet one.from one_side.meets.converse up says.1 one_side.mine.link.follows one.takes).front in
-          let grown : IsFront (heard l.transcript.server ++ one.bytes ∷ []) (said l.transcript.client) = subst (λ (xs : List (List ℕ)). IsFront xs (said l.transcript.client)) one.messages front in
-          let first = outbox_heard u.lane.guest l.transcript.client l.transcript.server packet one.bytes one.messages grown in
+          let grown : IsFront (heard l.transcript.b ++ one.bytes ∷ []) (said l.transcript.a) = subst (λ (xs : List (List ℕ)). IsFront xs (said l.transcript.a)) one.messages front in
+          let first = outbox_heard u.lane.guest l.transcript.a l.transcript.b packet one.bytes one.messages grown in
           let sid = u.lane.guest.handshake.draft.sid in
           let p = guest_session.0 in
-          let before : ExchangeIn sid u.lane.guest.groups p (one.bytes ∷ outbox u.lane.guest l.transcript.client (Heard packet ∷ l.transcript.server)) (outbox s l.transcript.server l.transcript.client) s.session s.groups =
-          subst (λ (xs : List (List ℕ)). ExchangeIn sid u.lane.guest.groups p xs (outbox s l.transcript.server l.transcript.client) s.session s.groups) first (exchange p guest_in.up up guest_session.1) in
+          let before : ExchangeIn sid u.lane.guest.groups p (one.bytes ∷ outbox u.lane.guest l.transcript.a (Heard packet ∷ l.transcript.b)) (outbox s l.transcript.b l.transcript.a) s.session s.groups =
+          subst (λ (xs : List (List ℕ)). ExchangeIn sid u.lane.guest.groups p xs (outbox s l.transcript.b l.transcript.a) s.session s.groups) first (exchange p guest_in.up up guest_session.1) in
           let own : OwnRead one.bytes one_side.meets.handshakes.sid =
           next_read (asks_of shape) (answers_of shape) Responder Initiator sides one.bytes sid one_side up opened guest_in.up grown before.asks_fit.0 in
           let agreed = mine_agreed (asks_of shape) (answers_of shape) Responder sides one_side up opened in
           let in_it : InSession Responder (record s { link = one.link }) q u.lane.hub_memory own.message (Resets cause) =
-          in_own_session Responder s q u.lane.hub_memory packet l.transcript.server (Resets cause) one_side.meets.handshakes.sid one session agreed.knows own in
+          in_own_session Responder s q u.lane.hub_memory packet l.transcript.b (Resets cause) one_side.meets.handshakes.sid one session agreed.knows own in
           let expects = expects_at shape B u l one.link one.bytes q sid finds up guest_in.up session (ways_at B u.lane l ways guest_in.up up in_log)
-          (free_empty Responder s l.transcript.server acting.ends says.0.quiet) grown before.asks_fit.0 (hub_agreed shape u.lane l finds.two_ends guest_in.up guest_in.opened up opened)
+          (free_empty Responder s l.transcript.b acting.ends says.0.quiet) grown before.asks_fit.0 (hub_agreed shape u.lane l finds.two_ends guest_in.up guest_in.opened up opened)
           (λ named role. absurd (cc role)) in
           absurd (taken_in_session Responder (record s { link = one.link }) q u.lane.hub_memory sid one.bytes own.message own.message.subtype own.message.body cause expects own.of own.spells refl refl
           (sym in_it.is))
@@ -231,10 +231,10 @@ end_resets shape B u l cause packet q finds ways exchange parts session rule tak
 -- A STEP'S RESET
 pub parts_at : (shape : NetShape) (s : PortState) (l : PortLog) (e : End) → IsNetShape shape → PortCounts shape s l → PartsSaid (transcript_of e l.transcript)
 parts_at shape s l A is counts =
-    subst (λ (x : TranscriptLog). PartsSaid x.client) (spoken_behind shape counts.events ∙ sym (ap (λ (x : PortLog). x.transcript) counts.log))
+    subst (λ (x : TranscriptLog). PartsSaid x.a) (spoken_behind shape counts.events ∙ sym (ap (λ (x : PortLog). x.transcript) counts.log))
     (parts_run shape.entries (asks_of shape) (answers_of shape) (port_events counts.events) (port_core s) (sizes_fit shape is) (fresh_port_core shape counts.events s counts.run)).a.parts
 parts_at shape s l B is counts =
-    subst (λ (x : TranscriptLog). PartsSaid x.server) (spoken_behind shape counts.events ∙ sym (ap (λ (x : PortLog). x.transcript) counts.log))
+    subst (λ (x : TranscriptLog). PartsSaid x.b) (spoken_behind shape counts.events ∙ sym (ap (λ (x : PortLog). x.transcript) counts.log))
     (parts_run shape.entries (asks_of shape) (answers_of shape) (port_events counts.events) (port_core s) (sizes_fit shape is) (fresh_port_core shape counts.events s counts.run)).b.parts
 
 pub step_resets : (shape : NetShape) (s t : PortState) (l : PortLog) (e : End) (cause : Cause) (packet : Option (List ℕ)) (lost : ℕ) → IsNetShape shape → KeptExchange shape s l → l.wire.forged ≡ false

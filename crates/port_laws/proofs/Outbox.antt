@@ -16,9 +16,9 @@ use Rattle.vio_tag.proofs.Canonical.{canonical_spells}
 use Rattle.vio_tag.specs.declared.message.Message.{Message}
 use Rattle.vio_tag.specs.declared.message.MsgBody.TheVariants.{DringData}
 use Rattle.vio_tag.specs.Spelling.{SpellsMessage, canonical, envelope_at, subtype_at}
-use Rattle.channel_laws.specs.Sayings.{heard, said}
-use Rattle.port_model.specs.NetEndState.{NetEndState}
-use Rattle.port_model.specs.Spoken.{addresses_of, count_of, set_of}
+use Rattle.lane_models.specs.Sayings.{heard, said}
+use Rattle.lane_models.specs.NetEndState.{NetEndState}
+use Rattle.lane_models.specs.Spoken.{addresses_of, count_of, set_of}
 use Rattle.port_laws.specs.Counted.{unsaid}
 use Rattle.port_laws.specs.NetCore.{one_if}
 use Rattle.port_laws.proofs.OwnBytes.{groups_bytes, range_bytes}

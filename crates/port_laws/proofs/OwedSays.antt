@@ -18,18 +18,18 @@ use Rattle.vio_tag.specs.declared.message.MsgBody.{MsgBody}
 use Rattle.vio_tag.specs.declared.message.MsgBody.TheVariants.{DringData, Mcast, Plain}
 use Rattle.vio_tag.specs.Form.{HasForm, IsWellFormed}
 use Rattle.vio_tag.specs.Spelling.{canonical}
-use Rattle.channel_laws.proofs.EndCases.{NoMessage, PutWhat, Rises, TookHandshake, TookOwn, TookWhat, end_put, end_took}
-use Rattle.channel_laws.proofs.EndResting.{held_handshake}
-use Rattle.channel_laws.proofs.EndStanding.{fresh_end_stands, held_stands, stands_step}
-use Rattle.channel_laws.proofs.HandshakeCases.{RowTaken, row_sent}
-use Rattle.channel_laws.proofs.Lifting.{EndsAll, ends_run}
-use Rattle.channel_laws.specs.EndCore.{Begins, EndCore, EndMove, Fails, Hears, Renews, Says as SaysPacket, Stays, Waits}
-use Rattle.channel_laws.specs.EndStep.{EndSays, EndStep}
-use Rattle.channel_laws.specs.HandshakeFits.{MayOwe}
-use Rattle.channel_laws.specs.LaneCore.{CoreEvent, CoreFits, CoreStep, LaneCore, fresh_core, transcript_behind}
-use Rattle.channel_laws.specs.Standing.{EndStands}
-use Rattle.port_model.proofs.Refuting.{false_true}
-use Rattle.port_model.specs.Spoken.{Other, spoken}
+use Rattle.lane_models.proofs.EndCases.{NoMessage, PutWhat, Rises, TookHandshake, TookOwn, TookWhat, end_put, end_took}
+use Rattle.lane_models.proofs.EndResting.{held_handshake}
+use Rattle.lane_models.proofs.EndStanding.{fresh_end_stands, held_stands, stands_step}
+use Rattle.lane_models.proofs.HandshakeCases.{RowTaken, row_sent}
+use Rattle.lane_models.proofs.Lifting.{EndsAll, ends_run}
+use Rattle.lane_models.specs.EndCore.{Begins, EndCore, EndMove, Fails, Hears, Renews, Says as SaysPacket, Stays, Waits}
+use Rattle.lane_models.specs.EndStep.{EndSays, EndStep}
+use Rattle.lane_models.specs.HandshakeFits.{MayOwe}
+use Rattle.lane_models.specs.LaneCore.{CoreEvent, CoreFits, CoreStep, LaneCore, fresh_core, transcript_behind}
+use Rattle.lane_models.specs.Standing.{EndStands}
+use Rattle.lane_models.proofs.Refuting.{false_true}
+use Rattle.lane_models.specs.Spoken.{Other, spoken}
 
 -- WHAT IT OWES is of no groups: what it declines is data without a ring, or the end of a ring
 abbrev pub NoGroups : MsgBody → Type 0

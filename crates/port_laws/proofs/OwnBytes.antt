@@ -9,11 +9,11 @@ use Rattle.vio_tag.proofs.Canonical.{canonical_spells}
 use Rattle.vio_tag.specs.declared.message.Message.{Message}
 use Rattle.vio_tag.specs.declared.message.MsgBody.TheVariants.{DringData, Mcast}
 use Rattle.vio_tag.specs.Spelling.{SpellsMessage, canonical}
-use Rattle.channel_laws.specs.Messages.{end_slot_of, seq_of, start_slot_of, subtype_of}
-use Rattle.port_model.specs.EndLog.{groups_fields}
-use Rattle.port_model.specs.Groups.{membership, seven}
-use Rattle.port_model.specs.NetEndState.{GroupsReply}
-use Rattle.port_model.specs.Spoken.{addresses_of, count_of, groups_spoken, range_spoken, set_of, seven_of, spoken, state_of}
+use Rattle.lane_models.specs.Messages.{end_slot_of, seq_of, start_slot_of, subtype_of}
+use Rattle.lane_models.specs.EndLog.{groups_fields}
+use Rattle.lane_models.specs.Groups.{membership, seven}
+use Rattle.lane_models.specs.NetEndState.{GroupsReply}
+use Rattle.lane_models.specs.Spoken.{addresses_of, count_of, groups_spoken, range_spoken, set_of, seven_of, spoken, state_of}
 use Rattle.port_laws.specs.Counted.{AreAddresses, AreGroups, reply_fields}
 use Rattle.port_laws.proofs.ShortMessages.{seven_long}
 

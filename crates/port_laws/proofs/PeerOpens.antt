@@ -10,15 +10,15 @@ use Rattle.ldc_queue.specs.Transcript.{Utterance}
 use Rattle.vio_handshake.specs.declared.handshake.Handshake.{Handshake}
 use Rattle.vio_handshake.specs.declared.session.Offer.{Offer}
 use Rattle.vio_handshake.proofs.Places.{AllSaid, Deal, Place}
-use Rattle.channel_laws.specs.Sayings.{heard, said}
-use Rattle.channel_laws.proofs.ConversingRuns.{HeardFrom, hears_now}
-use Rattle.channel_laws.proofs.EndStanding.{open_up}
-use Rattle.channel_laws.proofs.HandshakePlaces.{AtPlace, deal, place_open}
-use Rattle.channel_laws.proofs.HandshakesPlaced.{Meets}
-use Rattle.channel_laws.proofs.Script.{last_or, said_at}
-use Rattle.channel_laws.specs.Sides.{Sides, other}
-use Rattle.channel_laws.specs.Standing.{EndStands}
-use Rattle.port_model.proofs.Refuting.{true_false}
+use Rattle.lane_models.specs.Sayings.{heard, said}
+use Rattle.lane_models.proofs.ConversingRuns.{HeardFrom, hears_now}
+use Rattle.lane_models.proofs.EndStanding.{open_up}
+use Rattle.lane_models.proofs.HandshakePlaces.{AtPlace, deal, place_open}
+use Rattle.lane_models.proofs.HandshakesPlaced.{Meets}
+use Rattle.lane_models.proofs.Script.{last_or, said_at}
+use Rattle.lane_models.specs.Sides.{Sides, other}
+use Rattle.lane_models.specs.Standing.{EndStands}
+use Rattle.lane_models.proofs.Refuting.{true_false}
 
 -- WHAT AN END SAYS in its handshake: six messages, and before all is said at most so many
 most : Role → ℕ

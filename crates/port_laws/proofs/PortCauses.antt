@@ -17,22 +17,22 @@ use Rattle.vio_tag.specs.declared.cause.Cause.{Cause}
 use Rattle.vio_tag.specs.declared.message.Message.{Message}
 use Rattle.vio_tag.specs.declared.message.MsgBody.{MsgBody}
 use Rattle.vio_tag.specs.declared.message.TagFault.{TagFault}
-use Rattle.channel_laws.specs.TranscriptLog.{TranscriptLog, transcript_of}
-use Rattle.channel_laws.proofs.CoreLaws.{stands_a, stands_b}
-use Rattle.channel_laws.proofs.EndCases.{stays_risen}
-use Rattle.channel_laws.proofs.EndStanding.{open_up, opened_phase}
-use Rattle.channel_laws.proofs.PacketCauses.{run_judges, take_refused}
-use Rattle.channel_laws.specs.LaneCore.{CoreEvent, CoreStep, transcript_behind}
-use Rattle.channel_laws.specs.PacketCauses.{Judges, LinkJudged, WholeJudged, fault_first, judged, judged_body, refused_by}
-use Rattle.channel_laws.specs.Standing.{EndStands}
-use Rattle.port_model.specs.NetEndRule.{NetRule, Takes, port_rule}
-use Rattle.port_model.specs.NetEndState.{NetEndState, NetSession}
-use Rattle.port_model.specs.NetEndStep.{NetFails}
-use Rattle.port_model.specs.NetEndTaking.{GoesOn, HearsLink, HearsWhole, NetTake, NetTakes, Resets, by_handshake, hears_message, in_session, reads, sid_first, takes_done}
-use Rattle.port_model.specs.NetEvent.{NetEvent}
-use Rattle.port_model.specs.NetLaneState.{IsNetShape, NetLaneState, NetShape, memory_of, net_end, reach_of, role_at, seen_at}
-use Rattle.port_model.specs.PortLog.{after, no_events}
-use Rattle.port_model.specs.PortState.{PortEvent, PortState, PortStep, before, fresh_port}
+use Rattle.lane_models.specs.TranscriptLog.{TranscriptLog, transcript_of}
+use Rattle.lane_models.proofs.CoreLaws.{stands_a, stands_b}
+use Rattle.lane_models.proofs.EndCases.{stays_risen}
+use Rattle.lane_models.proofs.EndStanding.{open_up, opened_phase}
+use Rattle.lane_models.proofs.PacketCauses.{run_judges, take_refused}
+use Rattle.lane_models.specs.LaneCore.{CoreEvent, CoreStep, transcript_behind}
+use Rattle.lane_models.specs.PacketCauses.{Judges, LinkJudged, WholeJudged, fault_first, judged, judged_body, refused_by}
+use Rattle.lane_models.specs.Standing.{EndStands}
+use Rattle.lane_models.specs.NetEndRule.{NetRule, Takes, port_rule}
+use Rattle.lane_models.specs.NetEndState.{NetEndState, NetSession}
+use Rattle.lane_models.specs.NetEndStep.{NetFails}
+use Rattle.lane_models.specs.NetEndTaking.{GoesOn, HearsLink, HearsWhole, NetTake, NetTakes, Resets, by_handshake, hears_message, in_session, reads, sid_first, takes_done}
+use Rattle.lane_models.specs.NetEvent.{NetEvent}
+use Rattle.lane_models.specs.NetLaneState.{IsNetShape, NetLaneState, NetShape, memory_of, net_end, reach_of, role_at, seen_at}
+use Rattle.lane_models.specs.PortLog.{after, no_events}
+use Rattle.lane_models.specs.PortState.{PortEvent, PortState, PortStep, before, fresh_port}
 use Rattle.port_laws.specs.NetCore.{fresh_net_core, lane_core, net_core_at}
 use Rattle.port_laws.specs.PortCore.{port_events}
 use Rattle.port_laws.specs.PortCauses.{own_cause, port_cause}

@@ -12,23 +12,23 @@ use Rattle.ldc_queue.specs.declared.end.End.TheVariants.{A, B}
 use Rattle.ldc_queue.specs.Transcript.{Utterance}
 use Rattle.runs.specs.Lawful.{log_append, log_of, run_lawful}
 use Rattle.runs.specs.Run.{Run, run_push}
-use Rattle.channel_laws.specs.WireLog.{WireLog}
-use Rattle.channel_laws.proofs.Lifting.{EndsAll}
-use Rattle.channel_laws.specs.LaneCore.{LaneCore, transcript_behind}
-use Rattle.port_model.proofs.Moving.{before_keeps}
-use Rattle.port_model.proofs.FramesKept.{BothStand, event_stands, queued_stands}
-use Rattle.port_model.proofs.Refuting.{false_true, true_false}
-use Rattle.port_model.specs.EndLog.{EndLog, SessionLog, gives_log, said_in}
-use Rattle.port_model.specs.FramesStand.{FramesStand}
-use Rattle.port_model.specs.NetEndState.{NetEndState, NetSession, with_frame}
-use Rattle.port_model.specs.NetEndStep.{BadLength, Full, Given, Joining, NetAnswer, NetGives, NetJoins, Queued, untold}
-use Rattle.port_model.specs.NetEvent.{Asked, Gives, Joins, NetEvent, Steps, Ticked, on_wire}
-use Rattle.port_model.specs.NetLaneState.{IsNetShape, NetLaneState, NetShape, seen_at}
-use Rattle.port_model.specs.NetLaneStep.{NetLaneStep, moved_on}
-use Rattle.port_model.specs.Offers.{port_offer}
-use Rattle.port_model.specs.PortLog.{PortLog, after, after_answer, after_given, end_after, no_events}
-use Rattle.port_model.specs.PortState.{OfQueue, OnLane, PortEvent, PortState, PortStep, Receives, before, fresh_port, moves_first, takes_more}
-use Rattle.port_model.specs.Spoken.{Spoken}
+use Rattle.lane_models.specs.WireLog.{WireLog}
+use Rattle.lane_models.proofs.Lifting.{EndsAll}
+use Rattle.lane_models.specs.LaneCore.{LaneCore, transcript_behind}
+use Rattle.lane_models.proofs.Moving.{before_keeps}
+use Rattle.lane_models.proofs.FramesKept.{BothStand, event_stands, queued_stands}
+use Rattle.lane_models.proofs.Refuting.{false_true, true_false}
+use Rattle.lane_models.specs.EndLog.{EndLog, SessionLog, gives_log, said_in}
+use Rattle.lane_models.specs.FramesStand.{FramesStand}
+use Rattle.lane_models.specs.NetEndState.{NetEndState, NetSession, with_frame}
+use Rattle.lane_models.specs.NetEndStep.{BadLength, Full, Given, Joining, NetAnswer, NetGives, NetJoins, Queued, untold}
+use Rattle.lane_models.specs.NetEvent.{Asked, Gives, Joins, NetEvent, Steps, Ticked, on_wire}
+use Rattle.lane_models.specs.NetLaneState.{IsNetShape, NetLaneState, NetShape, seen_at}
+use Rattle.lane_models.specs.NetLaneStep.{NetLaneStep, moved_on}
+use Rattle.lane_models.specs.Offers.{port_offer}
+use Rattle.lane_models.specs.PortLog.{PortLog, after, after_answer, after_given, end_after, no_events}
+use Rattle.lane_models.specs.PortState.{OfQueue, OnLane, PortEvent, PortState, PortStep, Receives, before, fresh_port, moves_first, takes_more}
+use Rattle.lane_models.specs.Spoken.{Spoken}
 use Rattle.port_laws.specs.Counted.{AreAddresses, Counts, EndCounts, GroupCounts, IsBehind, SaysRightly, UnsaidRight}
 use Rattle.port_laws.specs.NetCore.{is_begun, lane_core, net_core_at}
 use Rattle.port_laws.specs.NetFits.{NetFits}
@@ -36,7 +36,7 @@ use Rattle.port_laws.specs.PortCore.{port_core, port_events}
 use Rattle.port_laws.proofs.CoreLaws.{sizes_fit}
 use Rattle.port_laws.proofs.Fitting.{BothFit}
 use Rattle.port_laws.proofs.GroupsAgree.{event_groups}
-use Rattle.channel_laws.proofs.HandshakeFitting.{EndFits, fits_run}
+use Rattle.lane_models.proofs.HandshakeFitting.{EndFits, fits_run}
 use Rattle.port_laws.proofs.HeldCounts.{SlotsFit}
 use Rattle.port_laws.proofs.OwedSays.{EndOwes, owes_run}
 use Rattle.port_laws.proofs.PortRuns.{before_core, before_fits, before_guest, fresh_port_core, port_fits_behind, spoken_behind}
@@ -125,11 +125,11 @@ acts_of : (role : Role) (slots : ℕ) (queue : List (List ℕ)) (s : NetEndState
 acts_of role slots queue s l turns begun counts stands given keeps owes fit is = grind (arith, slots_fit)
 
 pub guest_acts : (shape : NetShape) (u : PortState) (l : PortLog) → Ready shape u l → is_up u.lane.wire.wire.end_a ≡ true
-    → Acting Initiator shape.slots [] u.lane.guest l.guest l.transcript.client
+    → Acting Initiator shape.slots [] u.lane.guest l.guest l.transcript.a
 guest_acts shape u l ready up = grind (arith, acts_of, slots_fit, up_begun)
 
 pub hub_acts : (shape : NetShape) (u : PortState) (l : PortLog) → Ready shape u l → is_up u.lane.wire.wire.end_b ≡ true
-    → Acting Responder shape.slots u.queue u.lane.hub l.hub l.transcript.server
+    → Acting Responder shape.slots u.queue u.lane.hub l.hub l.transcript.b
 hub_acts shape u l ready up = grind (arith, acts_of, slots_fit, up_begun)
 
 pub ready_before : (shape : NetShape) (s : PortState) (l : PortLog) (event : NetEvent) → IsNetShape shape → PortCounts shape s l → Ready shape (before event s) l
@@ -211,8 +211,8 @@ by_slots n m turns answer P l is holds = subst (λ (x : ℕ). P (after_answer x 
 guest_event : (shape : NetShape) (u : PortState) (l : PortLog) (event : NetEvent) (t : NetLaneState) → Ready shape u l → NetLaneStep u.lane event t → GuestIs shape (end_after A l event) t
 guest_event shape u l (Steps A answer) t ready step =
     subst (GuestIs shape (end_after A l (Steps A answer))) (sym step.is)
-    (by_slots l.shape.slots shape.slots l.transcript.client answer (λ (x : EndLog). EndCounts Initiator shape.slots [] step.left.end x) l.guest (ap (λ (x : NetShape). x.slots) ready.shape_is)
-    (step_counts Initiator shape.slots [] u.lane.guest l.guest l.transcript.client (seen_at A u.lane) u.lane.guest_memory _ answer step.left ready.guest ready.stands.0 (guest_acts shape u l ready) step.step))
+    (by_slots l.shape.slots shape.slots l.transcript.a answer (λ (x : EndLog). EndCounts Initiator shape.slots [] step.left.end x) l.guest (ap (λ (x : NetShape). x.slots) ready.shape_is)
+    (step_counts Initiator shape.slots [] u.lane.guest l.guest l.transcript.a (seen_at A u.lane) u.lane.guest_memory _ answer step.left ready.guest ready.stands.0 (guest_acts shape u l ready) step.step))
 guest_event shape u l (Steps B answer) t ready step = subst (GuestIs shape l.guest) (sym step.is) ready.guest
 guest_event shape u l (Asked A lost) t ready step = subst (GuestIs shape (end_after A l (Asked A lost))) (sym step.1) (begins_counts Initiator shape.slots [] u.lane.guest l.guest lost ready.guest ready.stands.0 step.0)
 guest_event shape u l (Ticked queued lost) t ready step =
@@ -224,8 +224,8 @@ guest_event shape u l _ t ready step = grind arith
 hub_event : (shape : NetShape) (u : PortState) (l : PortLog) (event : NetEvent) (t : NetLaneState) → OfQueue u event → Ready shape u l → NetLaneStep u.lane event t → HubIs shape u.queue (end_after B l event) t
 hub_event shape u l (Steps B answer) t of_queue ready step =
     subst (HubIs shape u.queue (end_after B l (Steps B answer))) (sym step.is)
-    (by_slots l.shape.slots shape.slots l.transcript.server answer (λ (x : EndLog). EndCounts Responder shape.slots u.queue step.left.end x) l.hub (ap (λ (x : NetShape). x.slots) ready.shape_is)
-    (step_counts Responder shape.slots u.queue u.lane.hub l.hub l.transcript.server (seen_at B u.lane) u.lane.hub_memory _ answer step.left ready.hub ready.stands.1 (hub_acts shape u l ready) step.step))
+    (by_slots l.shape.slots shape.slots l.transcript.b answer (λ (x : EndLog). EndCounts Responder shape.slots u.queue step.left.end x) l.hub (ap (λ (x : NetShape). x.slots) ready.shape_is)
+    (step_counts Responder shape.slots u.queue u.lane.hub l.hub l.transcript.b (seen_at B u.lane) u.lane.hub_memory _ answer step.left ready.hub ready.stands.1 (hub_acts shape u l ready) step.step))
 hub_event shape u l (Steps A answer) t of_queue ready step = subst (HubIs shape u.queue l.hub) (sym step.is) ready.hub
 hub_event shape u l (Asked B lost) t of_queue ready step =
     subst (HubIs shape u.queue (end_after B l (Asked B lost))) (sym step.1) (begins_counts Responder shape.slots u.queue u.lane.hub l.hub lost ready.hub ready.stands.1 step.0)

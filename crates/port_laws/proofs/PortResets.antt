@@ -17,33 +17,33 @@ use Rattle.vio_tag.specs.declared.message.MsgBody.{MsgBody}
 use Rattle.vio_tag.specs.declared.message.MsgBody.TheVariants.{DringData, Mcast}
 use Rattle.vio_tag.specs.Fault.{first_fault}
 use Rattle.vio_tag.specs.Spelling.{SpellsBody, envelope_at, envelope_code}
-use Rattle.channel_laws.specs.Ranges.{is_other}
+use Rattle.lane_models.specs.Ranges.{is_other}
 use Rattle.dring.specs.Slots.{range_length}
-use Rattle.channel_laws.specs.ResetSays.{IsOther, ResetSays, WireResetAt}
-use Rattle.channel_laws.specs.TranscriptLog.{TranscriptLog, transcript_of}
-use Rattle.channel_laws.specs.WireAt.{GapOf, WireGapAt}
-use Rattle.channel_laws.specs.WireEvent.{WireEvent}
-use Rattle.channel_laws.proofs.CausesSaid.{cause_said}
-use Rattle.channel_laws.proofs.LinkResets.{other_number}
-use Rattle.channel_laws.proofs.Resets.{reset_says}
-use Rattle.channel_laws.specs.LaneCore.{CoreEvent, CoreStep, end_of, transcript_behind}
-use Rattle.channel_laws.specs.PacketCauses.{JudgesRightly, OwnSays, SomeSays}
-use Rattle.channel_laws.specs.Resetting.{ResetsFor}
-use Rattle.port_model.proofs.OwnResets.{net_resets_own}
-use Rattle.port_model.specs.FrameLaws.{SlotCause}
-use Rattle.port_model.specs.EndLog.{SessionLog, opened_log}
-use Rattle.port_model.specs.Fetching.{Fetched, IsFrame as IsFetched, NotReady, Refuses, fetched}
-use Rattle.port_model.specs.NetEndRule.{Fetches, NetRule, port_rule}
-use Rattle.port_model.specs.NetEndState.{Activity, NetEndState, NetSession}
-use Rattle.port_model.specs.NetEndStep.{FetchFails, Frame, NetFails, Published, Reset}
-use Rattle.port_model.specs.NetEndTaking.{ends_outside, first_undone}
-use Rattle.port_model.specs.NetEvent.{CalmTick, Gives, Joins, NetEvent, Steps}
-use Rattle.port_model.specs.NetLaneState.{IsNetShape, NetLaneState, NetShape, memory_of, net_end, reach_of, role_at, seen_at}
-use Rattle.port_model.specs.NetLaneStep.{NetLaneStep}
-use Rattle.port_model.specs.Offers.{port_offer}
-use Rattle.port_model.specs.PortLog.{PortLog, after, no_events}
-use Rattle.port_model.specs.PortMay.{OfWire}
-use Rattle.port_model.specs.PortState.{OnLane, PortEvent, PortState, PortStep, before, fresh_port}
+use Rattle.lane_models.specs.ResetSays.{IsOther, ResetSays, WireResetAt}
+use Rattle.lane_models.specs.TranscriptLog.{TranscriptLog, transcript_of}
+use Rattle.lane_models.specs.WireAt.{GapOf, WireGapAt}
+use Rattle.lane_models.specs.WireEvent.{WireEvent}
+use Rattle.lane_models.proofs.CausesSaid.{cause_said}
+use Rattle.lane_models.proofs.LinkResets.{other_number}
+use Rattle.lane_models.proofs.Resets.{reset_says}
+use Rattle.lane_models.specs.LaneCore.{CoreEvent, CoreStep, end_of, transcript_behind}
+use Rattle.lane_models.specs.PacketCauses.{JudgesRightly, OwnSays, SomeSays}
+use Rattle.lane_models.specs.Resetting.{ResetsFor}
+use Rattle.lane_models.proofs.OwnResets.{net_resets_own}
+use Rattle.lane_models.specs.FrameLaws.{SlotCause}
+use Rattle.lane_models.specs.EndLog.{SessionLog, opened_log}
+use Rattle.lane_models.specs.Fetching.{Fetched, IsFrame as IsFetched, NotReady, Refuses, fetched}
+use Rattle.lane_models.specs.NetEndRule.{Fetches, NetRule, port_rule}
+use Rattle.lane_models.specs.NetEndState.{Activity, NetEndState, NetSession}
+use Rattle.lane_models.specs.NetEndStep.{FetchFails, Frame, NetFails, Published, Reset}
+use Rattle.lane_models.specs.NetEndTaking.{ends_outside, first_undone}
+use Rattle.lane_models.specs.NetEvent.{CalmTick, Gives, Joins, NetEvent, Steps}
+use Rattle.lane_models.specs.NetLaneState.{IsNetShape, NetLaneState, NetShape, memory_of, net_end, reach_of, role_at, seen_at}
+use Rattle.lane_models.specs.NetLaneStep.{NetLaneStep}
+use Rattle.lane_models.specs.Offers.{port_offer}
+use Rattle.lane_models.specs.PortLog.{PortLog, after, no_events}
+use Rattle.lane_models.specs.PortMay.{OfWire}
+use Rattle.lane_models.specs.PortState.{OnLane, PortEvent, PortState, PortStep, before, fresh_port}
 use Rattle.port_laws.specs.NetCore.{fresh_net_core, lane_core}
 use Rattle.port_laws.specs.PortCore.{port_events}
 use Rattle.port_laws.specs.PortCauses.{ack_cause, info_cause, own_cause, session_cause}

@@ -2,15 +2,15 @@
 use Rattle.std.proofs.Common.{◌≡◌, ℕ, Option, Some, None, List, [], ◌∷◌, ◌++◌, refl, sym, subst, ap, ◌∙◌, arith}
 use Rattle.runs.specs.Lawful.{Lawful, log_append, log_of, run_lawful}
 use Rattle.runs.specs.Run.{Run, run_keeps, run_push}
-use Rattle.channel_laws.specs.TranscriptLog.{TranscriptLog}
-use Rattle.channel_laws.specs.WireEvent.{WireEvent}
-use Rattle.channel_laws.specs.CoreLog as core
-use Rattle.channel_laws.specs.LaneCore.{CoreEvent, CoreStep, transcript_after, transcript_behind}
-use Rattle.port_model.proofs.Moving.{before_keeps}
-use Rattle.port_model.specs.NetEvent.{NetEvent}
-use Rattle.port_model.specs.NetLaneState.{NetShape}
-use Rattle.port_model.specs.PortLog.{PortLog, after, no_events, spoken_on}
-use Rattle.port_model.specs.PortState.{OnLane, PortEvent, PortState, PortStep, Receives, before, fresh_port}
+use Rattle.lane_models.specs.TranscriptLog.{TranscriptLog}
+use Rattle.lane_models.specs.WireEvent.{WireEvent}
+use Rattle.lane_models.specs.CoreLog as core
+use Rattle.lane_models.specs.LaneCore.{CoreEvent, CoreStep, transcript_after, transcript_behind}
+use Rattle.lane_models.proofs.Moving.{before_keeps}
+use Rattle.lane_models.specs.NetEvent.{NetEvent}
+use Rattle.lane_models.specs.NetLaneState.{NetShape}
+use Rattle.lane_models.specs.PortLog.{PortLog, after, no_events, spoken_on}
+use Rattle.lane_models.specs.PortState.{OnLane, PortEvent, PortState, PortStep, Receives, before, fresh_port}
 use Rattle.port_laws.specs.NetCore.{core_event, event_core, fresh_net_core, lane_core}
 use Rattle.port_laws.specs.PortCore.{port_core, port_event, port_events}
 use Rattle.port_laws.proofs.Fitting.{BothFit, event_fits}

@@ -7,20 +7,20 @@ use Rattle.ldc_queue.specs.declared.end.End.TheVariants.{A, B}
 use Rattle.ldc_queue.specs.OneStream.{IsFront}
 use Rattle.ldc_queue.specs.Wire.{peer_of}
 use Rattle.vio_handshake.specs.declared.session.Offer.{Offer}
-use Rattle.channel_laws.specs.Sayings.{heard, said}
-use Rattle.channel_laws.specs.TranscriptLog.{TranscriptLog, transcript_of}
-use Rattle.channel_laws.specs.WireAt.{IsUp}
-use Rattle.channel_laws.proofs.ConversingRuns.{messages_of}
-use Rattle.channel_laws.proofs.HandshakesPlaced.{Meets, meets_keep}
-use Rattle.channel_laws.proofs.Sessions.{meets_knows, one_session}
-use Rattle.channel_laws.specs.CoreLog as core
-use Rattle.channel_laws.specs.LaneCore.{LaneCore, end_of}
-use Rattle.channel_laws.specs.OneSession.{AreOneSession}
-use Rattle.channel_laws.specs.Sides.{Sides, sides_of, swapped}
-use Rattle.port_model.specs.NetLaneState.{IsNetShape, NetShape, role_at}
-use Rattle.port_model.specs.Offers.{port_offer}
-use Rattle.port_model.specs.PortLog.{PortLog}
-use Rattle.port_model.specs.PortState.{PortState}
+use Rattle.lane_models.specs.Sayings.{heard, said}
+use Rattle.lane_models.specs.TranscriptLog.{TranscriptLog, transcript_of}
+use Rattle.lane_models.specs.WireAt.{IsUp}
+use Rattle.lane_models.proofs.ConversingRuns.{messages_of}
+use Rattle.lane_models.proofs.HandshakesPlaced.{Meets, meets_keep}
+use Rattle.lane_models.proofs.Sessions.{meets_knows, one_session}
+use Rattle.lane_models.specs.CoreLog as core
+use Rattle.lane_models.specs.LaneCore.{LaneCore, end_of}
+use Rattle.lane_models.specs.OneSession.{AreOneSession}
+use Rattle.lane_models.specs.Sides.{Sides, sides_of, swapped}
+use Rattle.lane_models.specs.NetLaneState.{IsNetShape, NetShape, role_at}
+use Rattle.lane_models.specs.Offers.{port_offer}
+use Rattle.lane_models.specs.PortLog.{PortLog}
+use Rattle.lane_models.specs.PortState.{PortState}
 use Rattle.port_laws.specs.PortCore.{port_core, port_events}
 use Rattle.port_laws.proofs.CoreLaws.{offers_match, sizes_fit}
 use Rattle.port_laws.proofs.PeerOpens.{InAll, TwoEnds, closed_short, least_heard, least_seven, open_long, peer_is_up, peer_open, row}
@@ -41,8 +41,8 @@ sides_from B c transcript = swapped (sides_of c transcript)
 pub record PortTwoEnds (shape : NetShape) (c : LaneCore) (l : PortLog) : Type 0 where
   pub two_ends : (e : End) → TwoEnds (asks_of shape) (answers_of shape) (role_at e) (sides_from e c l.transcript)
   pub one : c.a.is_open ≡ true → c.b.is_open ≡ true → AreOneSession c.a.handshake c.b.handshake
-  pub front_a : IsUp A c.wire.wire → IsFront (heard l.transcript.client) (said l.transcript.server)
-  pub front : IsUp B c.wire.wire → IsFront (heard l.transcript.server) (said l.transcript.client)
+  pub front_a : IsUp A c.wire.wire → IsFront (heard l.transcript.a) (said l.transcript.b)
+  pub front : IsUp B c.wire.wire → IsFront (heard l.transcript.b) (said l.transcript.a)
 
 pub port_two_ends : (shape : NetShape) (s : PortState) (l : PortLog) → IsNetShape shape → PortCounts shape s l → s.lane.wire.forged ≡ false → PortTwoEnds shape (port_core s) l
 port_two_ends shape s l is counts clean =
@@ -59,8 +59,8 @@ port_two_ends shape s l is counts clean =
           (record { both = refl; mine = knows.holds.ends.a; theirs = knows.holds.ends.b; meets = meets })
           (record { both = refl; mine = knows.holds.ends.b; theirs = knows.holds.ends.a; meets = keeps.swaps Initiator (sides_of (port_core s) now.transcript) meets });
       one = λ guest hub. one_session asks answers (port_core s) now knows clean guest hub;
-      front_a = λ up. subst (λ (x : TranscriptLog). IsFront (heard x.client) (said x.server)) same (messages_of (port_core s) now.transcript A meets.converse up);
-      front = λ up. subst (λ (x : TranscriptLog). IsFront (heard x.server) (said x.client)) same (messages_of (port_core s) now.transcript B meets.converse up);
+      front_a = λ up. subst (λ (x : TranscriptLog). IsFront (heard x.a) (said x.b)) same (messages_of (port_core s) now.transcript A meets.converse up);
+      front = λ up. subst (λ (x : TranscriptLog). IsFront (heard x.b) (said x.a)) same (messages_of (port_core s) now.transcript B meets.converse up);
     }
   where
     by_end : (e : End) (transcript : TranscriptLog) → transcript ≡ l.transcript → TwoEnds (asks_of shape) (answers_of shape) Initiator (sides_of (port_core s) transcript)

@@ -6,12 +6,12 @@ use Rattle.ldc_queue.specs.declared.end.ChannelState.{ChannelState}
 use Rattle.ldc_queue.specs.declared.end.ChannelState.TheVariants.{Up}
 use Rattle.ldc_queue.specs.declared.end.End.{End}
 use Rattle.ldc_queue.specs.declared.end.End.TheVariants.{A}
-use Rattle.channel_laws.specs.WireLog.{WireLog, lossy_behind}
-use Rattle.port_model.specs.NetEndState.{NetEndState, NetSession}
-use Rattle.port_model.specs.NetEndStep.{NetAnswer}
-use Rattle.port_model.specs.NetEvent.{NetEvent, Steps, Ticked, on_wire}
-use Rattle.port_model.specs.NetLaneStep.{moved_on}
-use Rattle.port_model.specs.PortState.{OnLane, PortState, PortStep, Receives, before, PortEvent}
+use Rattle.lane_models.specs.WireLog.{WireLog, lossy_behind}
+use Rattle.lane_models.specs.NetEndState.{NetEndState, NetSession}
+use Rattle.lane_models.specs.NetEndStep.{NetAnswer}
+use Rattle.lane_models.specs.NetEvent.{NetEvent, Steps, Ticked, on_wire}
+use Rattle.lane_models.specs.NetLaneStep.{moved_on}
+use Rattle.lane_models.specs.PortState.{OnLane, PortState, PortStep, Receives, before, PortEvent}
 use Rattle.port_laws.specs.Remaining.{end_left, remaining}
 use Rattle.port_laws.specs.RemainingSteps.{IsCalm}
 use Rattle.port_laws.proofs.PortCounts.{before_wire, wire_event}

@@ -12,24 +12,24 @@ use Rattle.ldc_queue.specs.Messages.{is_empty}
 use Rattle.ldc_queue.specs.Transcript.{Utterance}
 use Rattle.vio_handshake.specs.declared.handshake.Handshake.{Handshake}
 use Rattle.vio_handshake.specs.Rules.{opens_by_put}
-use Rattle.channel_laws.specs.EndPuts.{handshake_behind}
-use Rattle.channel_laws.specs.Messages.{ended_by, whole_with}
-use Rattle.channel_laws.specs.Sayings.{half_said}
-use Rattle.channel_laws.proofs.EndCases.{PutControl, PutHandshake, PutMore, PutOwn, PutReady, PutWhat, put_down}
-use Rattle.channel_laws.proofs.EndStanding.{holds_some, last_none}
-use Rattle.channel_laws.proofs.LinkCases.{behind_part}
-use Rattle.channel_laws.proofs.UtteranceCases.{SaysLast, SaysMore}
-use Rattle.channel_laws.specs.Standing.{EndStands}
-use Rattle.port_model.proofs.Refuting.{false_true, none_some, true_false}
-use Rattle.port_model.specs.EndLog.{EndLog, SessionLog, change, opens_log, said_in, said_kind, says_log}
-use Rattle.port_model.specs.NetEndPutting.{net_kind, net_opens, net_put, opened_by_put}
-use Rattle.port_model.specs.NetEndState.{NetEndState, NetSession, first_id, opened_net_end}
-use Rattle.port_model.specs.Spoken.{Other, Spoken, spoken}
+use Rattle.lane_models.specs.EndPuts.{handshake_behind}
+use Rattle.lane_models.specs.Messages.{ended_by, whole_with}
+use Rattle.lane_models.specs.Sayings.{half_said}
+use Rattle.lane_models.proofs.EndCases.{PutControl, PutHandshake, PutMore, PutOwn, PutReady, PutWhat, put_down}
+use Rattle.lane_models.proofs.EndStanding.{holds_some, last_none}
+use Rattle.lane_models.proofs.LinkCases.{behind_part}
+use Rattle.lane_models.proofs.UtteranceCases.{SaysLast, SaysMore}
+use Rattle.lane_models.specs.Standing.{EndStands}
+use Rattle.lane_models.proofs.Refuting.{false_true, none_some, true_false}
+use Rattle.lane_models.specs.EndLog.{EndLog, SessionLog, change, opens_log, said_in, said_kind, says_log}
+use Rattle.lane_models.specs.NetEndPutting.{net_kind, net_opens, net_put, opened_by_put}
+use Rattle.lane_models.specs.NetEndState.{NetEndState, NetSession, first_id, opened_net_end}
+use Rattle.lane_models.specs.Spoken.{Other, Spoken, spoken}
 use Rattle.port_laws.specs.Counted.{Counts, EndCounts, HoldsRightly, SaysRightly, UnsaidRight, left_of, unsaid}
 use Rattle.port_laws.specs.NetCore.{net_core}
 use Rattle.port_laws.proofs.EndCounting.{OpenCounts, empty_unsaid, open_counts, shut_counts, own_left}
-use Rattle.channel_laws.proofs.PacketsLeft.{opening_shut}
-use Rattle.channel_laws.specs.HandshakeFits.{OwedFits}
+use Rattle.lane_models.proofs.PacketsLeft.{opening_shut}
+use Rattle.lane_models.specs.HandshakeFits.{OwedFits}
 use Rattle.port_laws.proofs.OwedSays.{OwesNoGroups, owed_other}
 
 -- A SESSION OPENS with nothing published, taken or told

@@ -5,8 +5,8 @@ use Rattle.std.proofs.Math.Nat.{add-mod_right, mod-eq_of_lt}
 use Rattle.std.proofs.lemmas.Bool.{cases_lt, cases_order, eqb-true}
 use Rattle.std.proofs.lemmas.Bool.Decides.{nat_tests}
 use Rattle.dring.specs.Slots.{ready_state}
-use Rattle.port_model.proofs.Refuting.{false_true}
-use Rattle.port_model.specs.NetEndTaking.{slot_state}
+use Rattle.lane_models.proofs.Refuting.{false_true}
+use Rattle.lane_models.specs.NetEndTaking.{slot_state}
 use Rattle.port_laws.specs.NetCore.{one_if}
 use Rattle.port_laws.specs.Remaining.{ready_slots}
 use Rattle.port_laws.specs.RingHolds.{RingHolds}

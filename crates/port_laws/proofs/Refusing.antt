@@ -13,14 +13,14 @@ use Rattle.vio_tag.specs.declared.message.Message.{Message}
 use Rattle.vio_tag.specs.declared.message.MsgBody.{MsgBody}
 use Rattle.vio_tag.specs.declared.message.MsgBody.TheVariants.{DringData, Mcast}
 use Rattle.vio_tag.specs.Spelling.{SpellsMessage, envelope_at, subtype_at}
-use Rattle.channel_laws.specs.Messages.{end_slot_of, seq_of, start_slot_of}
-use Rattle.channel_laws.specs.Ranges.{is_other, wrapped}
-use Rattle.channel_laws.specs.EndStep.{IsOfSession}
-use Rattle.channel_laws.specs.Sides.{other}
-use Rattle.port_model.specs.EndLog.{SessionLog, range_of}
-use Rattle.port_model.specs.Groups.{groups_after}
-use Rattle.port_model.specs.NetEndState.{NetEndState, NetSession, with_session}
-use Rattle.port_model.specs.NetEndTaking.{GoesOn, NetTake, Resets, first_undone, in_session, slot_state, takes_ack, takes_groups, takes_info}
+use Rattle.lane_models.specs.Messages.{end_slot_of, seq_of, start_slot_of}
+use Rattle.lane_models.specs.Ranges.{is_other, wrapped}
+use Rattle.lane_models.specs.EndStep.{IsOfSession}
+use Rattle.lane_models.specs.Sides.{other}
+use Rattle.lane_models.specs.EndLog.{SessionLog, range_of}
+use Rattle.lane_models.specs.Groups.{groups_after}
+use Rattle.lane_models.specs.NetEndState.{NetEndState, NetSession, with_session}
+use Rattle.lane_models.specs.NetEndTaking.{GoesOn, NetTake, Resets, first_undone, in_session, slot_state, takes_ack, takes_groups, takes_info}
 use Rattle.port_laws.specs.RingHolds.{RingHolds}
 use Rattle.port_laws.specs.WaysStand.{Way}
 use Rattle.port_laws.proofs.Outbox.{MessageFits}

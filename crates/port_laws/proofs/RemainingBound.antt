@@ -7,11 +7,11 @@ use Rattle.ldc_queue.specs.declared.end.ChannelState.{ChannelState}
 use Rattle.ldc_queue.specs.declared.end.ChannelState.TheVariants.{Up}
 use Rattle.runs.specs.Lawful.{log_of}
 use Rattle.runs.specs.Run.{Run}
-use Rattle.channel_laws.specs.WireLog.{WireLog}
-use Rattle.port_model.specs.NetEndState.{Activity, NetEndState, NetSession, unseen_in}
-use Rattle.port_model.specs.NetLaneState.{IsNetShape, NetShape}
-use Rattle.port_model.specs.PortLog.{PortLog, after, no_events}
-use Rattle.port_model.specs.PortState.{PortEvent, PortState, PortStep, fresh_port}
+use Rattle.lane_models.specs.WireLog.{WireLog}
+use Rattle.lane_models.specs.NetEndState.{Activity, NetEndState, NetSession, unseen_in}
+use Rattle.lane_models.specs.NetLaneState.{IsNetShape, NetShape}
+use Rattle.lane_models.specs.PortLog.{PortLog, after, no_events}
+use Rattle.lane_models.specs.PortState.{PortEvent, PortState, PortStep, fresh_port}
 use Rattle.port_laws.specs.NetCore.{is_begun, net_core_at, one_if}
 use Rattle.port_laws.specs.PortCore.{port_core}
 use Rattle.port_laws.specs.Remaining.{absent, end_left, frames_held, life, ready_slots, remaining, second_life, took_some}

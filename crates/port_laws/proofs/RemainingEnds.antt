@@ -12,23 +12,23 @@ use Rattle.vio_handshake.specs.declared.handshake.Handshake.{Handshake}
 use Rattle.vio_handshake.specs.declared.handshake.Phase.{Phase}
 use Rattle.vio_handshake.specs.Rules.{opens_by_put}
 use Rattle.vio_tag.specs.declared.message.Message.{Message}
-use Rattle.channel_laws.specs.EndPuts.{PutKind, handshake_behind, put_opens}
-use Rattle.channel_laws.specs.Seeing.{Seen}
+use Rattle.lane_models.specs.EndPuts.{PutKind, handshake_behind, put_opens}
+use Rattle.lane_models.specs.Seeing.{Seen}
 use Rattle.cookie_copy.specs.Reach.{Reach}
-use Rattle.channel_laws.proofs.EndStanding.{held_stands}
-use Rattle.channel_laws.proofs.PacketsLeft.{held_packets, loud_none, owing_none, own_most, says_packets}
-use Rattle.channel_laws.specs.EndStep.{EndSays, Holding, Holds}
-use Rattle.channel_laws.specs.PacketsLeft.{own_in}
-use Rattle.channel_laws.specs.Standing.{EndStands, is_open_in}
-use Rattle.port_model.proofs.Refuting.{false_true, none_some, of_some}
-use Rattle.port_model.proofs.Ruling.{says_of}
-use Rattle.port_model.specs.EndLog.{EndLog}
-use Rattle.port_model.specs.Fetching.{Fetched, fetched}
-use Rattle.port_model.specs.NetEndPutting.{announcement, answers, cleared_by_put, groups_answer, holding, holding_own, net_holds, net_kind, net_opens, net_put, opened_by_put}
-use Rattle.port_model.specs.Groups.{membership}
-use Rattle.port_model.specs.NetEndRule.{Announces, Fetches, NetRule, Publishes, Puts, Replies, Says, Tells, port_rule}
-use Rattle.port_model.specs.NetEndState.{Activity, GroupsReply, NetEndState, NetSession, unseen_in}
-use Rattle.port_model.specs.NetEndStep.{NetLeft, NetPublishes, NetSends, leaves, published}
+use Rattle.lane_models.proofs.EndStanding.{held_stands}
+use Rattle.lane_models.proofs.PacketsLeft.{held_packets, loud_none, owing_none, own_most, says_packets}
+use Rattle.lane_models.specs.EndStep.{EndSays, Holding, Holds}
+use Rattle.lane_models.specs.PacketsLeft.{own_in}
+use Rattle.lane_models.specs.Standing.{EndStands, is_open_in}
+use Rattle.lane_models.proofs.Refuting.{false_true, none_some, of_some}
+use Rattle.lane_models.proofs.Ruling.{says_of}
+use Rattle.lane_models.specs.EndLog.{EndLog}
+use Rattle.lane_models.specs.Fetching.{Fetched, fetched}
+use Rattle.lane_models.specs.NetEndPutting.{announcement, answers, cleared_by_put, groups_answer, holding, holding_own, net_holds, net_kind, net_opens, net_put, opened_by_put}
+use Rattle.lane_models.specs.Groups.{membership}
+use Rattle.lane_models.specs.NetEndRule.{Announces, Fetches, NetRule, Publishes, Puts, Replies, Says, Tells, port_rule}
+use Rattle.lane_models.specs.NetEndState.{Activity, GroupsReply, NetEndState, NetSession, unseen_in}
+use Rattle.lane_models.specs.NetEndStep.{NetLeft, NetPublishes, NetSends, leaves, published}
 use Rattle.port_laws.specs.NetCore.{net_core}
 use Rattle.port_laws.specs.Remaining.{end_left, groups_left, put_weight, ready_slots, ready_weight, session_left}
 use Rattle.port_laws.proofs.EndMoves.{HeldCore, held_core, puts_behind, says_core}

@@ -14,19 +14,19 @@ use Rattle.runs.specs.Lawful.{log_of}
 use Rattle.runs.specs.Run.{Run}
 use Rattle.vio_bytes.specs.Place.{put_at}
 use Rattle.vnet_msg.specs.Frames.{header}
-use Rattle.channel_laws.specs.WireLog.{WireLog}
-use Rattle.channel_laws.specs.EndCore.{EndCore}
-use Rattle.port_model.proofs.Ruling.{says_of}
-use Rattle.port_model.specs.NetEndRule.{Fetches}
-use Rattle.port_model.specs.NetEndState.{Activity, NetEndState, NetSession}
-use Rattle.port_model.specs.NetEndStep.{Frame, NetLeft, taken}
-use Rattle.port_model.specs.NetEndTaking.{slot_state}
-use Rattle.port_model.specs.NetEvent.{NetEvent, Steps}
-use Rattle.port_model.specs.NetLaneState.{IsNetShape, NetLaneState, NetShape, memory_of, net_end, role_at, seen_at, with_left}
-use Rattle.port_model.specs.NetLaneStep.{EndSteps}
-use Rattle.port_model.specs.Offers.{port_offer}
-use Rattle.port_model.specs.PortLog.{PortLog, after, no_events}
-use Rattle.port_model.specs.PortState.{OnLane, PortEvent, PortState, PortStep, before, fresh_port}
+use Rattle.lane_models.specs.WireLog.{WireLog}
+use Rattle.lane_models.specs.EndCore.{EndCore}
+use Rattle.lane_models.proofs.Ruling.{says_of}
+use Rattle.lane_models.specs.NetEndRule.{Fetches}
+use Rattle.lane_models.specs.NetEndState.{Activity, NetEndState, NetSession}
+use Rattle.lane_models.specs.NetEndStep.{Frame, NetLeft, taken}
+use Rattle.lane_models.specs.NetEndTaking.{slot_state}
+use Rattle.lane_models.specs.NetEvent.{NetEvent, Steps}
+use Rattle.lane_models.specs.NetLaneState.{IsNetShape, NetLaneState, NetShape, memory_of, net_end, role_at, seen_at, with_left}
+use Rattle.lane_models.specs.NetLaneStep.{EndSteps}
+use Rattle.lane_models.specs.Offers.{port_offer}
+use Rattle.lane_models.specs.PortLog.{PortLog, after, no_events}
+use Rattle.lane_models.specs.PortState.{OnLane, PortEvent, PortState, PortStep, before, fresh_port}
 use Rattle.port_laws.specs.NetCore.{one_if}
 use Rattle.port_laws.specs.Remaining.{end_left, put_weight, ready_slots, ready_weight, remaining, remaining_of}
 use Rattle.port_laws.proofs.MemoryRoom.{MemoryHasRoom}

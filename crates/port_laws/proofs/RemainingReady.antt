@@ -11,9 +11,9 @@ use Rattle.vio_bytes.specs.Place.{put_at}
 use Rattle.vio_bytes.specs.Range.{range_at}
 use Rattle.vnet_msg.specs.Descriptor.{canonical}
 use Rattle.vnet_msg.specs.Frames.{buffer_place, frame_buffer, frame_desc}
-use Rattle.port_model.specs.NetEndPutting.{cleared_ring}
-use Rattle.port_model.specs.NetEndStep.{published_memory}
-use Rattle.port_model.specs.NetEndTaking.{freed, slot_state}
+use Rattle.lane_models.specs.NetEndPutting.{cleared_ring}
+use Rattle.lane_models.specs.NetEndStep.{published_memory}
+use Rattle.lane_models.specs.NetEndTaking.{freed, slot_state}
 use Rattle.port_laws.specs.NetCore.{one_if}
 use Rattle.port_laws.specs.Remaining.{ready_slots}
 use Rattle.port_laws.proofs.MemoryRoom.{put_longer}

@@ -10,15 +10,15 @@ use Rattle.ldc_queue.specs.Wire.{state_of, upset}
 use Rattle.runs.specs.Lawful.{log_of}
 use Rattle.runs.specs.Run.{Run}
 use Rattle.vio_tag.specs.declared.cause.Cause.{Cause}
-use Rattle.channel_laws.specs.WireAt.{IsUp}
-use Rattle.channel_laws.specs.WireLog.{WireLog}
-use Rattle.port_model.proofs.FramesKept.{held_in}
-use Rattle.port_model.specs.NetEndState.{NetEndState, NetSession, joined_net_end, unseen}
-use Rattle.port_model.specs.NetEndStep.{Blocked, Frame, Idle, NetAnswer, Reset, Took}
-use Rattle.port_model.specs.NetEvent.{NetEvent, Steps}
-use Rattle.port_model.specs.NetLaneState.{IsNetShape, NetLaneState, NetShape}
-use Rattle.port_model.specs.PortLog.{PortLog, after, no_events}
-use Rattle.port_model.specs.PortState.{OnLane, PortEvent, PortState, PortStep, before, fresh_port}
+use Rattle.lane_models.specs.WireAt.{IsUp}
+use Rattle.lane_models.specs.WireLog.{WireLog}
+use Rattle.lane_models.proofs.FramesKept.{held_in}
+use Rattle.lane_models.specs.NetEndState.{NetEndState, NetSession, joined_net_end, unseen}
+use Rattle.lane_models.specs.NetEndStep.{Blocked, Frame, Idle, NetAnswer, Reset, Took}
+use Rattle.lane_models.specs.NetEvent.{NetEvent, Steps}
+use Rattle.lane_models.specs.NetLaneState.{IsNetShape, NetLaneState, NetShape}
+use Rattle.lane_models.specs.PortLog.{PortLog, after, no_events}
+use Rattle.lane_models.specs.PortState.{OnLane, PortEvent, PortState, PortStep, before, fresh_port}
 use Rattle.port_laws.specs.Remaining.{absent, end_left, first_left, frames_kept, kept_in, remaining, remaining_of, session_left}
 use Rattle.port_laws.specs.RemainingSteps.{IsCalm, IsReset}
 use Rattle.port_laws.proofs.NoRefusal.{step_resets}

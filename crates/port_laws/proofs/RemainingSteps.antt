@@ -12,25 +12,25 @@ use Rattle.ldc_queue.specs.Transcript.{Utterance}
 use Rattle.ldc_queue.specs.Wire.{peer_behind, peer_of, queue_behind, state_of}
 use Rattle.runs.specs.Lawful.{log_of}
 use Rattle.runs.specs.Run.{Run}
-use Rattle.channel_laws.specs.Seeing.{Seen}
-use Rattle.channel_laws.specs.TranscriptLog.{transcript_of}
-use Rattle.channel_laws.specs.WireAt.{IsUp}
-use Rattle.channel_laws.specs.WireEvent.{WireEvent}
-use Rattle.channel_laws.specs.WireEvent as on_channel
-use Rattle.channel_laws.specs.WireLog.{lossy_behind, wire_moved}
-use Rattle.channel_laws.specs.PacketsLeft.{all_of, left_in}
-use Rattle.channel_laws.specs.Standing.{EndStands}
-use Rattle.port_model.proofs.FramesKept.{held_in}
-use Rattle.port_model.proofs.Ruling.{says_of}
-use Rattle.port_model.specs.FramesStand.{FramesStand}
-use Rattle.port_model.specs.NetEndRule.{Joins, Publishes, port_rule}
-use Rattle.port_model.specs.NetEndState.{NetEndState, joined_net_end, unseen, with_frame}
-use Rattle.port_model.specs.NetEndStep.{Blocked, Joined, NetAnswer, NetLeft, Published, Sent, leaves}
-use Rattle.port_model.specs.NetEvent.{NetEvent, Steps}
-use Rattle.port_model.specs.NetLaneState.{IsNetShape, NetLaneState, NetShape, memory_of, net_end, reach_of, role_at, seen_at, with_left}
-use Rattle.port_model.specs.NetLaneStep.{EndSteps, net_wire}
-use Rattle.port_model.specs.PortLog.{PortLog, after, log_of_end, no_events}
-use Rattle.port_model.specs.PortState.{OnLane, PortEvent, PortState, PortStep, before, fresh_port, moves_first}
+use Rattle.lane_models.specs.Seeing.{Seen}
+use Rattle.lane_models.specs.TranscriptLog.{transcript_of}
+use Rattle.lane_models.specs.WireAt.{IsUp}
+use Rattle.lane_models.specs.WireEvent.{WireEvent}
+use Rattle.lane_models.specs.WireEvent as on_channel
+use Rattle.lane_models.specs.WireLog.{lossy_behind, wire_moved}
+use Rattle.lane_models.specs.PacketsLeft.{all_of, left_in}
+use Rattle.lane_models.specs.Standing.{EndStands}
+use Rattle.lane_models.proofs.FramesKept.{held_in}
+use Rattle.lane_models.proofs.Ruling.{says_of}
+use Rattle.lane_models.specs.FramesStand.{FramesStand}
+use Rattle.lane_models.specs.NetEndRule.{Joins, Publishes, port_rule}
+use Rattle.lane_models.specs.NetEndState.{NetEndState, joined_net_end, unseen, with_frame}
+use Rattle.lane_models.specs.NetEndStep.{Blocked, Joined, NetAnswer, NetLeft, Published, Sent, leaves}
+use Rattle.lane_models.specs.NetEvent.{NetEvent, Steps}
+use Rattle.lane_models.specs.NetLaneState.{IsNetShape, NetLaneState, NetShape, memory_of, net_end, reach_of, role_at, seen_at, with_left}
+use Rattle.lane_models.specs.NetLaneStep.{EndSteps, net_wire}
+use Rattle.lane_models.specs.PortLog.{PortLog, after, log_of_end, no_events}
+use Rattle.lane_models.specs.PortState.{OnLane, PortEvent, PortState, PortStep, before, fresh_port, moves_first}
 use Rattle.port_laws.specs.NetCore.{is_begun, net_core_at}
 use Rattle.port_laws.specs.Remaining.{absent, end_left, first_left, put_weight, remaining, remaining_of, second_life, session_left}
 use Rattle.port_laws.specs.RemainingSteps.{IsCalm, TakesNothing}
@@ -131,9 +131,9 @@ joins_b x h u queued away first = grind arith
 pub begun_left : (e : End) (shape : NetShape) (u : PortState) (l : PortLog) → Ready shape u l → up_left (role_at e) (more_at e (length u.queue)) (memory_of e u.lane) (joined_net_end (role_at e) (net_end e u.lane))
     ≡ first_left (role_at e) (length (net_end e u.lane).frames + more_at e (length u.queue) - unseen (net_end e u.lane).session)
 begun_left A shape u l ready =
-    joined_left Initiator (is_begun u.lane.wire.wire.end_a) u.lane.guest l.transcript.client u.lane.guest_memory 0 ready.keeps.a.stands ready.stands.0
+    joined_left Initiator (is_begun u.lane.wire.wire.end_a) u.lane.guest l.transcript.a u.lane.guest_memory 0 ready.keeps.a.stands ready.stands.0
 begun_left B shape u l ready =
-    joined_left Responder (is_begun u.lane.wire.wire.end_b) u.lane.hub l.transcript.server u.lane.hub_memory (length u.queue) ready.keeps.b.stands ready.stands.1
+    joined_left Responder (is_begun u.lane.wire.wire.end_b) u.lane.hub l.transcript.b u.lane.hub_memory (length u.queue) ready.keeps.b.stands ready.stands.1
 
 pub away_falls : (e : End) (shape : NetShape) (u : PortState) (l : PortLog) → Ready shape u l → state_of e u.lane.wire.wire ≢ Up
     → remaining_of (joined_at e u.lane) (length u.queue) + 1 ≤ remaining_of u.lane (length u.queue)

@@ -14,25 +14,25 @@ use Rattle.runs.specs.Lawful.{log_of}
 use Rattle.runs.specs.Run.{Run}
 use Rattle.vio_handshake.specs.declared.handshake.Handshake.{Handshake}
 use Rattle.vio_tag.specs.declared.message.MsgBody.{MsgBody}
-use Rattle.channel_laws.specs.TranscriptLog.{transcript_of}
-use Rattle.channel_laws.specs.WireAt.{IsFirstOn, IsUp}
-use Rattle.channel_laws.proofs.PacketsTaken.{unforged_took}
-use Rattle.channel_laws.specs.LaneCore.{end_of}
-use Rattle.channel_laws.specs.PacketsLeft.{packets_left}
-use Rattle.channel_laws.specs.Standing.{EndStands}
-use Rattle.port_model.proofs.Ruling.{says_of}
-use Rattle.port_model.specs.FramesStand.{CountsStand, FramesStand}
-use Rattle.port_model.specs.NetEndPutting.{cleared_ring}
-use Rattle.port_model.specs.NetEndRule.{Takes}
-use Rattle.port_model.specs.NetEndState.{NetEndState, NetSession, opened_net_end}
-use Rattle.port_model.specs.NetEndStep.{NetLeft, Took}
-use Rattle.port_model.specs.NetEndTaking.{GoesOn, NetTake, NetTakes, Resets}
-use Rattle.port_model.specs.NetEvent.{NetEvent, Steps}
-use Rattle.port_model.specs.NetLaneState.{IsNetShape, NetLaneState, NetShape, memory_of, net_end, role_at, seen_at, with_left}
-use Rattle.port_model.specs.NetLaneStep.{EndSteps, net_wire}
-use Rattle.port_model.specs.Offers.{port_offer}
-use Rattle.port_model.specs.PortLog.{PortLog, after, no_events}
-use Rattle.port_model.specs.PortState.{OnLane, PortEvent, PortState, PortStep, before, fresh_port}
+use Rattle.lane_models.specs.TranscriptLog.{transcript_of}
+use Rattle.lane_models.specs.WireAt.{IsFirstOn, IsUp}
+use Rattle.lane_models.proofs.PacketsTaken.{unforged_took}
+use Rattle.lane_models.specs.LaneCore.{end_of}
+use Rattle.lane_models.specs.PacketsLeft.{packets_left}
+use Rattle.lane_models.specs.Standing.{EndStands}
+use Rattle.lane_models.proofs.Ruling.{says_of}
+use Rattle.lane_models.specs.FramesStand.{CountsStand, FramesStand}
+use Rattle.lane_models.specs.NetEndPutting.{cleared_ring}
+use Rattle.lane_models.specs.NetEndRule.{Takes}
+use Rattle.lane_models.specs.NetEndState.{NetEndState, NetSession, opened_net_end}
+use Rattle.lane_models.specs.NetEndStep.{NetLeft, Took}
+use Rattle.lane_models.specs.NetEndTaking.{GoesOn, NetTake, NetTakes, Resets}
+use Rattle.lane_models.specs.NetEvent.{NetEvent, Steps}
+use Rattle.lane_models.specs.NetLaneState.{IsNetShape, NetLaneState, NetShape, memory_of, net_end, role_at, seen_at, with_left}
+use Rattle.lane_models.specs.NetLaneStep.{EndSteps, net_wire}
+use Rattle.lane_models.specs.Offers.{port_offer}
+use Rattle.lane_models.specs.PortLog.{PortLog, after, no_events}
+use Rattle.lane_models.specs.PortState.{OnLane, PortEvent, PortState, PortStep, before, fresh_port}
 use Rattle.port_laws.specs.NetCore.{is_begun, lane_core, net_core, net_core_at}
 use Rattle.port_laws.specs.PortCore.{port_core, port_events}
 use Rattle.port_laws.specs.Remaining.{end_left, put_weight, ready_weight, remaining, remaining_of, session_left}

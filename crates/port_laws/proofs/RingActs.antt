@@ -17,28 +17,28 @@ use Rattle.ldc_queue.specs.Wire.{peer_of, state_of}
 use Rattle.vio_handshake.specs.declared.session.Offer.{Offer}
 use Rattle.vio_handshake.specs.Pairing.{KnowsBoth, KnowsRing}
 use Rattle.vnet_msg.specs.Frames.{IsFrame, memory_pages}
-use Rattle.channel_laws.specs.OwnMemory.{own_table}
-use Rattle.channel_laws.specs.Seeing.{Seen}
-use Rattle.channel_laws.specs.TranscriptLog.{transcript_of}
-use Rattle.channel_laws.specs.WireAt.{IsUp}
-use Rattle.channel_laws.specs.WireLog.{WireLog}
-use Rattle.channel_laws.proofs.EndResting.{held_handshake}
-use Rattle.channel_laws.specs.LaneCore.{end_of}
-use Rattle.port_model.proofs.Refuting.{false_true, none_some, true_false}
-use Rattle.port_model.proofs.Ruling.{says_of}
-use Rattle.port_model.specs.EndLog.{EndLog, SessionLog, said_in}
-use Rattle.port_model.specs.Fetching.{slots_cookies}
-use Rattle.port_model.specs.FrameLaws.{InSession, IsActive}
-use Rattle.port_model.specs.NetEndPutting.{net_kind}
-use Rattle.port_model.specs.NetEndRule.{Fetches, port_rule}
-use Rattle.port_model.specs.NetEndState.{NetEndState, NetSession}
-use Rattle.port_model.specs.NetEndStep.{Frame, NetAnswer, NetEndStep, NetLeft, Sent, Took}
-use Rattle.port_model.specs.NetEvent.{Steps}
-use Rattle.port_model.specs.NetLaneState.{NetLaneState, NetShape, memory_of, net_end, reach_of, role_at, seen_at}
-use Rattle.port_model.specs.NetLaneStep.{EndSteps, net_wire}
-use Rattle.port_model.specs.Offers.{port_offer, ring_cookie}
-use Rattle.port_model.specs.PortLog.{PortLog, after, after_answer, log_of_end}
-use Rattle.port_model.specs.PortState.{OnLane, PortState}
+use Rattle.lane_models.specs.OwnMemory.{own_table}
+use Rattle.lane_models.specs.Seeing.{Seen}
+use Rattle.lane_models.specs.TranscriptLog.{transcript_of}
+use Rattle.lane_models.specs.WireAt.{IsUp}
+use Rattle.lane_models.specs.WireLog.{WireLog}
+use Rattle.lane_models.proofs.EndResting.{held_handshake}
+use Rattle.lane_models.specs.LaneCore.{end_of}
+use Rattle.lane_models.proofs.Refuting.{false_true, none_some, true_false}
+use Rattle.lane_models.proofs.Ruling.{says_of}
+use Rattle.lane_models.specs.EndLog.{EndLog, SessionLog, said_in}
+use Rattle.lane_models.specs.Fetching.{slots_cookies}
+use Rattle.lane_models.specs.FrameLaws.{InSession, IsActive}
+use Rattle.lane_models.specs.NetEndPutting.{net_kind}
+use Rattle.lane_models.specs.NetEndRule.{Fetches, port_rule}
+use Rattle.lane_models.specs.NetEndState.{NetEndState, NetSession}
+use Rattle.lane_models.specs.NetEndStep.{Frame, NetAnswer, NetEndStep, NetLeft, Sent, Took}
+use Rattle.lane_models.specs.NetEvent.{Steps}
+use Rattle.lane_models.specs.NetLaneState.{NetLaneState, NetShape, memory_of, net_end, reach_of, role_at, seen_at}
+use Rattle.lane_models.specs.NetLaneStep.{EndSteps, net_wire}
+use Rattle.lane_models.specs.Offers.{port_offer, ring_cookie}
+use Rattle.lane_models.specs.PortLog.{PortLog, after, after_answer, log_of_end}
+use Rattle.lane_models.specs.PortState.{OnLane, PortState}
 use Rattle.port_laws.specs.Counted.{EndCounts}
 use Rattle.port_laws.specs.NetCore.{lane_core}
 use Rattle.port_laws.specs.RingStands.{RingIn, RingStands, taken_by, taken_in, taken_of}
@@ -61,8 +61,8 @@ use Rattle.port_laws.proofs.PutCounts.{not_some}
 
 -- THE RINGS, and what the logs say
 pub record Rings (s : NetLaneState) (l : PortLog) : Type 0 where
-  pub guest_spoke : SpokeIn Initiator l.transcript.client l.guest.session
-  pub hub_spoke : SpokeIn Responder l.transcript.server l.hub.session
+  pub guest_spoke : SpokeIn Initiator l.transcript.a l.guest.session
+  pub hub_spoke : SpokeIn Responder l.transcript.b l.hub.session
   pub guest_ring : RingStands A s l
   pub hub_ring : RingStands B s l
 
@@ -153,14 +153,14 @@ none_taken role turns x log spoke never = grind (arith, none_asked)
 pub shut_peer : (shape : NetShape) (e : End) (u : NetLaneState) (l : PortLog) → PortTwoEnds shape (lane_core u) l → Rings u l → (net_end e u).session ≡ None
     → taken_by (state_of (peer_of e) u.wire.wire) (log_of_end (peer_of e) l).session ≡ 0
 shut_peer shape A u l two_ends rings none =
-    none_taken Responder l.transcript.server u.wire.wire.end_b l.hub.session rings.hub_spoke
+    none_taken Responder l.transcript.b u.wire.wire.end_b l.hub.session rings.hub_spoke
     (λ up v is asked.
-    let there = many_open shape (lane_core u) l B two_ends up ((spoke_some Responder l.transcript.server l.hub.session v is rings.hub_spoke).many asked) in
+    let there = many_open shape (lane_core u) l B two_ends up ((spoke_some Responder l.transcript.b l.hub.session v is rings.hub_spoke).many asked) in
     true_false (sym there.opened ∙ ap is_some none))
 shut_peer shape B u l two_ends rings none =
-    none_taken Initiator l.transcript.client u.wire.wire.end_a l.guest.session rings.guest_spoke
+    none_taken Initiator l.transcript.a u.wire.wire.end_a l.guest.session rings.guest_spoke
     (λ up v is asked.
-    let there = many_open shape (lane_core u) l A two_ends up ((spoke_some Initiator l.transcript.client l.guest.session v is rings.guest_spoke).many asked) in
+    let there = many_open shape (lane_core u) l A two_ends up ((spoke_some Initiator l.transcript.a l.guest.session v is rings.guest_spoke).many asked) in
     true_false (sym there.opened ∙ ap is_some none))
 
 -- AN END REACHES ITS PEER'S RING where both are in session

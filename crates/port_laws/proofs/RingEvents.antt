@@ -8,19 +8,19 @@ use Rattle.ldc_queue.specs.declared.end.ChannelState.TheVariants.{Up}
 use Rattle.ldc_queue.specs.declared.end.End.{End}
 use Rattle.ldc_queue.specs.Transcript.{Heard, Said, Utterance}
 use Rattle.ldc_queue.specs.Wire.{peer_behind, peer_of, state_of}
-use Rattle.channel_laws.specs.Messages.{ended_by, opening_sid}
-use Rattle.channel_laws.specs.Sayings.{half_heard, half_said, heard}
-use Rattle.channel_laws.specs.Seeing.{Seen}
-use Rattle.channel_laws.specs.TranscriptLog.{TranscriptLog, transcript_of}
-use Rattle.port_model.proofs.Ruling.{says_of}
-use Rattle.port_model.specs.EndLog.{EndLog, SessionLog, change, heard_in, heard_kind, hears_log, more_published, more_taken as one_taken, opens_log, said_in, said_kind, says_log}
-use Rattle.port_model.specs.NetEndState.{NetEndState, NetSession}
-use Rattle.port_model.specs.NetEndStep.{Blocked, Frame, Idle, Joined, NetAnswer, NetEndStep, NetLeft, Published, Reset, Sent, Took}
-use Rattle.port_model.specs.NetEvent.{Steps, on_wire}
-use Rattle.port_model.specs.NetLaneState.{NetLaneState}
-use Rattle.port_model.specs.NetLaneStep.{net_wire}
-use Rattle.port_model.specs.PortLog.{after_answer, spoken_on}
-use Rattle.port_model.specs.Spoken.{Spoken}
+use Rattle.lane_models.specs.Messages.{ended_by, opening_sid}
+use Rattle.lane_models.specs.Sayings.{half_heard, half_said, heard}
+use Rattle.lane_models.specs.Seeing.{Seen}
+use Rattle.lane_models.specs.TranscriptLog.{TranscriptLog, transcript_of}
+use Rattle.lane_models.proofs.Ruling.{says_of}
+use Rattle.lane_models.specs.EndLog.{EndLog, SessionLog, change, heard_in, heard_kind, hears_log, more_published, more_taken as one_taken, opens_log, said_in, said_kind, says_log}
+use Rattle.lane_models.specs.NetEndState.{NetEndState, NetSession}
+use Rattle.lane_models.specs.NetEndStep.{Blocked, Frame, Idle, Joined, NetAnswer, NetEndStep, NetLeft, Published, Reset, Sent, Took}
+use Rattle.lane_models.specs.NetEvent.{Steps, on_wire}
+use Rattle.lane_models.specs.NetLaneState.{NetLaneState}
+use Rattle.lane_models.specs.NetLaneStep.{net_wire}
+use Rattle.lane_models.specs.PortLog.{after_answer, spoken_on}
+use Rattle.lane_models.specs.Spoken.{Spoken}
 use Rattle.port_laws.specs.RingStands.{RingIn, taken_by, taken_in}
 use Rattle.port_laws.proofs.PeerOpens.{row}
 use Rattle.port_laws.proofs.RingSteps.{Owns, TakesOf, more_taken, opens_by, own_ring, peer_ring}

@@ -26,10 +26,10 @@ use Rattle.vnet_msg.specs.declared.desc.NetDesc.{NetDesc}
 use Rattle.vnet_msg.specs.Descriptor.{canonical, net_desc_of}
 use Rattle.vnet_msg.specs.Frames.{buffer_place, frame_desc, frame_in, header, holds_frame, moved_size}
 use Rattle.vio_tag.specs.declared.cause.Cause.TheVariants as the_cause
-use Rattle.port_model.specs.Fetching.{IsFrame as IsFetched, NotReady, Refuses, copied, data_cookies, described, fetched, frame_fault, mark_fault, marked, slot_read, slots_cookies}
-use Rattle.port_model.specs.NetEndState.{NetEndState}
-use Rattle.port_model.specs.NetEndTaking.{slot_state}
-use Rattle.port_model.specs.Offers.{ring_cookie}
+use Rattle.lane_models.specs.Fetching.{IsFrame as IsFetched, NotReady, Refuses, copied, data_cookies, described, fetched, frame_fault, mark_fault, marked, slot_read, slots_cookies}
+use Rattle.lane_models.specs.NetEndState.{NetEndState}
+use Rattle.lane_models.specs.NetEndTaking.{slot_state}
+use Rattle.lane_models.specs.Offers.{ring_cookie}
 use Rattle.port_laws.specs.RingHolds.{RingHolds, SlotHolds, SlotOf, desc_in}
 use Rattle.port_laws.proofs.RingMoves.{Fits, buffers_stay, held_state, other_slot, holds_stays, slot_within, slot_written, some_frame, state_stays}
 

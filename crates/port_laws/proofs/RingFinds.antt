@@ -21,10 +21,10 @@ use Rattle.vnet_msg.proofs.Spelling.{canonical_reads_back}
 use Rattle.vnet_msg.specs.declared.desc.NetDesc.{NetDesc}
 use Rattle.vnet_msg.specs.Descriptor.{net_desc_of}
 use Rattle.vnet_msg.specs.Frames.{buffer_place, frame_desc, frame_in, header, holds_frame, moved_size}
-use Rattle.port_model.specs.Fetching.{Fetched, IsFrame as IsFetched, NotReady, Refuses, copied, data_cookies, described, fetched, frame_fault, mark_fault, marked, read, slot_read, slots_cookies}
-use Rattle.port_model.specs.NetEndState.{Activity, NetEndState}
-use Rattle.port_model.specs.NetEndStep.{FetchFails}
-use Rattle.port_model.specs.NetEndTaking.{slot_state}
+use Rattle.lane_models.specs.Fetching.{Fetched, IsFrame as IsFetched, NotReady, Refuses, copied, data_cookies, described, fetched, frame_fault, mark_fault, marked, read, slot_read, slots_cookies}
+use Rattle.lane_models.specs.NetEndState.{Activity, NetEndState}
+use Rattle.lane_models.specs.NetEndStep.{FetchFails}
+use Rattle.lane_models.specs.NetEndTaking.{slot_state}
 use Rattle.port_laws.specs.RingHolds.{RingHolds, SlotHolds}
 use Rattle.port_laws.proofs.RingFetches.{Reaches, one_spots, ready_next, slot_fetched}
 use Rattle.port_laws.proofs.RingMoves.{held_state, some_frame}

@@ -17,9 +17,9 @@ use Rattle.vio_tag.specs.declared.cause.Cause.{Cause}
 use Rattle.vnet_msg.proofs.FrameSlots.{long}
 use Rattle.vnet_msg.specs.Descriptor.{canonical}
 use Rattle.vnet_msg.specs.Frames.{IsFrame, buffer_place, frame_buffer, frame_desc, moved_size}
-use Rattle.port_model.specs.NetEndPutting.{cleared_ring}
-use Rattle.port_model.specs.NetEndStep.{published_memory}
-use Rattle.port_model.specs.NetEndTaking.{first_undone, freed, slot_state}
+use Rattle.lane_models.specs.NetEndPutting.{cleared_ring}
+use Rattle.lane_models.specs.NetEndStep.{published_memory}
+use Rattle.lane_models.specs.NetEndTaking.{first_undone, freed, slot_state}
 use Rattle.port_laws.specs.RingHolds.{RingHolds, SlotHolds, SlotOf, desc_in}
 
 -- a ring of so many slots, and their buffers, lie in a memory

@@ -9,18 +9,18 @@ use Rattle.ldc_queue.specs.declared.end.End.TheVariants.{A, B}
 use Rattle.ldc_queue.specs.Wire.{peer_behind}
 use Rattle.runs.specs.Lawful.{log_of, run_lawful}
 use Rattle.runs.specs.Run.{Run}
-use Rattle.channel_laws.specs.WireLog.{WireLog}
-use Rattle.channel_laws.specs.LaneCore.{LaneCore}
-use Rattle.port_model.proofs.Moving.{before_keeps}
-use Rattle.port_model.proofs.Refuting.{true_false}
-use Rattle.port_model.specs.EndLog.{SessionLog}
-use Rattle.port_model.specs.NetEndState.{NetEndState, NetSession}
-use Rattle.port_model.specs.NetEndStep.{Given, Joining, NetGives, NetJoins, Queued}
-use Rattle.port_model.specs.NetEvent.{Asked, Gives, Injects, Joins, Loses, NetEvent, Pokes, Steps, Ticked, on_wire}
-use Rattle.port_model.specs.NetLaneState.{IsNetShape, NetLaneState, NetShape}
-use Rattle.port_model.specs.NetLaneStep.{NetLaneStep, Resets, moved_on}
-use Rattle.port_model.specs.PortLog.{PortLog, after, after_given, no_events}
-use Rattle.port_model.specs.PortState.{OfQueue, OnLane, PortEvent, PortState, PortStep, Receives, before, fresh_port}
+use Rattle.lane_models.specs.WireLog.{WireLog}
+use Rattle.lane_models.specs.LaneCore.{LaneCore}
+use Rattle.lane_models.proofs.Moving.{before_keeps}
+use Rattle.lane_models.proofs.Refuting.{true_false}
+use Rattle.lane_models.specs.EndLog.{SessionLog}
+use Rattle.lane_models.specs.NetEndState.{NetEndState, NetSession}
+use Rattle.lane_models.specs.NetEndStep.{Given, Joining, NetGives, NetJoins, Queued}
+use Rattle.lane_models.specs.NetEvent.{Asked, Gives, Injects, Joins, Loses, NetEvent, Pokes, Steps, Ticked, on_wire}
+use Rattle.lane_models.specs.NetLaneState.{IsNetShape, NetLaneState, NetShape}
+use Rattle.lane_models.specs.NetLaneStep.{NetLaneStep, Resets, moved_on}
+use Rattle.lane_models.specs.PortLog.{PortLog, after, after_given, no_events}
+use Rattle.lane_models.specs.PortState.{OfQueue, OnLane, PortEvent, PortState, PortStep, Receives, before, fresh_port}
 use Rattle.port_laws.specs.NetCore.{lane_core}
 use Rattle.port_laws.specs.RingStands.{RingIn, RingStands, taken_by}
 use Rattle.port_laws.proofs.LogsStand.{LogsStand, TablesStand, fresh_logs, logs_event, logs_received, tables_event}
@@ -76,7 +76,7 @@ lane_rings shape u t l (Ticked queued lost) of_queue finds step clean counts two
 lane_rings shape u t l (Gives A given) of_queue finds step clean counts two_ends =
     grind (arith, given_spoke, given_other, given_ring)
   where
-    given_spoke : (given : Given) → SpokeIn Initiator l.transcript.client (after_given given l.guest).session
+    given_spoke : (given : Given) → SpokeIn Initiator l.transcript.a (after_given given l.guest).session
     given_spoke given = grind arith
 
     given_other : (given : Given) → u.lane.wire.wire.end_b ≡ Up

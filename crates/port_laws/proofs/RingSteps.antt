@@ -10,21 +10,21 @@ use Rattle.ldc_queue.specs.Transcript.{Utterance}
 use Rattle.vio_tag.specs.declared.message.Message.{Message}
 use Rattle.vio_tag.specs.declared.message.MsgBody.{MsgBody}
 use Rattle.vnet_msg.specs.Frames.{IsFrame}
-use Rattle.channel_laws.specs.EndPuts.{handshake_behind}
+use Rattle.lane_models.specs.EndPuts.{handshake_behind}
 use Rattle.dring.specs.Slots.{range_length}
-use Rattle.channel_laws.specs.Seeing.{Seen}
+use Rattle.lane_models.specs.Seeing.{Seen}
 use Rattle.cookie_copy.specs.Reach.{Reach}
-use Rattle.channel_laws.specs.Standing.{EndStands}
-use Rattle.port_model.proofs.Refuting.{none_some, of_some}
-use Rattle.port_model.proofs.Ruling.{says_of}
-use Rattle.port_model.specs.Fetching.{Fetched, IsFrame as IsFetched, fetched}
-use Rattle.port_model.specs.FramesStand.{CountsStand, FramesStand}
-use Rattle.port_model.specs.Groups.{membership}
-use Rattle.port_model.specs.NetEndPutting.{announcement, answer, answers, cleared_by_put, cleared_ring, groups_answer, holding, holding_own, net_holds, net_kind, net_opens, opened_by_put}
-use Rattle.port_model.specs.NetEndRule.{Announces, Fetches, NetRule, Publishes, Puts, Replies, Says, Tells, port_rule}
-use Rattle.port_model.specs.NetEndState.{Activity, NetEndState, NetSession, unseen_in}
-use Rattle.port_model.specs.NetEndStep.{Blocked, Frame, Idle, NetAnswer, NetEndStep, NetLeft, NetSends, Published, Sent, Took, published, published_memory, taken}
-use Rattle.port_model.specs.NetEndTaking.{GoesOn, NetTake, NetTakes, Resets}
+use Rattle.lane_models.specs.Standing.{EndStands}
+use Rattle.lane_models.proofs.Refuting.{none_some, of_some}
+use Rattle.lane_models.proofs.Ruling.{says_of}
+use Rattle.lane_models.specs.Fetching.{Fetched, IsFrame as IsFetched, fetched}
+use Rattle.lane_models.specs.FramesStand.{CountsStand, FramesStand}
+use Rattle.lane_models.specs.Groups.{membership}
+use Rattle.lane_models.specs.NetEndPutting.{announcement, answer, answers, cleared_by_put, cleared_ring, groups_answer, holding, holding_own, net_holds, net_kind, net_opens, opened_by_put}
+use Rattle.lane_models.specs.NetEndRule.{Announces, Fetches, NetRule, Publishes, Puts, Replies, Says, Tells, port_rule}
+use Rattle.lane_models.specs.NetEndState.{Activity, NetEndState, NetSession, unseen_in}
+use Rattle.lane_models.specs.NetEndStep.{Blocked, Frame, Idle, NetAnswer, NetEndStep, NetLeft, NetSends, Published, Sent, Took, published, published_memory, taken}
+use Rattle.lane_models.specs.NetEndTaking.{GoesOn, NetTake, NetTakes, Resets}
 use Rattle.port_laws.specs.NetCore.{net_core}
 use Rattle.port_laws.specs.RingHolds.{RingHolds}
 use Rattle.port_laws.specs.RingStands.{RingIn}

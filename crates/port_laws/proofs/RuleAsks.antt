@@ -27,33 +27,33 @@ use Rattle.vio_tag.specs.declared.message.TagFault.{TagFault}
 use Rattle.vio_tag.specs.Decoding.{Decodes}
 use Rattle.vio_tag.specs.Form.{HasForm}
 use Rattle.vio_tag.specs.Spelling.{SpellsBody, SpellsMessage, envelope_code}
-use Rattle.channel_laws.specs.Messages.{end_slot_of, ended_by, is_range, range_if, range_in}
-use Rattle.channel_laws.specs.Ranges.{is_other, wrapped}
-use Rattle.channel_laws.specs.Sayings.{count_heard, half_heard}
-use Rattle.channel_laws.specs.TranscriptLog.{transcript_of}
-use Rattle.channel_laws.specs.WireAt.{counts_next}
-use Rattle.channel_laws.proofs.Resets.{reset_says}
-use Rattle.channel_laws.specs.LaneCore.{CoreEvent, CoreStep, end_of as core_of, transcript_behind}
-use Rattle.channel_laws.specs.PacketCauses.{body_cause, decoded_cause, fault_cause, message_cause, mode_cause, names_mode, number_cause, packet_cause, part_cause}
-use Rattle.channel_laws.specs.Resetting.{ResetsFor}
-use Rattle.port_model.proofs.Refuting.{none_some, true_false}
-use Rattle.port_model.proofs.Ruling.{says_of}
-use Rattle.port_model.proofs.SlotsLooked.{first_in_order}
-use Rattle.port_model.specs.EndLog.{SessionLog, range_of}
-use Rattle.port_model.specs.FrameLaws.{Asks, AsksAt, InSession, IsActive, NamesUndone, SomeMessage, UndoneAt}
-use Rattle.port_model.specs.NetEndRule.{Takes, port_rule}
-use Rattle.port_model.specs.NetEndState.{NetEndState, NetSession}
-use Rattle.port_model.specs.NetEndStep.{Reset, Took}
-use Rattle.port_model.specs.NetEndTaking.{GoesOn, Resets, first_undone}
-use Rattle.port_model.specs.NetEvent.{NetEvent, Steps}
-use Rattle.port_model.specs.NetLaneState.{IsNetShape, NetLaneState, NetShape, memory_of, net_end, reach_of, role_at, seen_at}
-use Rattle.port_model.specs.Offers.{port_offer}
-use Rattle.port_model.specs.NetLaneStep.{NetLaneStep}
-use Rattle.port_model.specs.PortLog.{PortLog, after, log_of_end, no_events}
-use Rattle.port_model.specs.PortState.{OnLane, PortEvent, PortState, PortStep, before, fresh_port}
-use Rattle.port_model.specs.RuleFacts.{IfOpen, MayListen}
-use Rattle.port_model.specs.SlotsLooked.{FirstUndone}
-use Rattle.port_model.specs.Spoken.{RangeInfo, spoken, spoken_by}
+use Rattle.lane_models.specs.Messages.{end_slot_of, ended_by, is_range, range_if, range_in}
+use Rattle.lane_models.specs.Ranges.{is_other, wrapped}
+use Rattle.lane_models.specs.Sayings.{count_heard, half_heard}
+use Rattle.lane_models.specs.TranscriptLog.{transcript_of}
+use Rattle.lane_models.specs.WireAt.{counts_next}
+use Rattle.lane_models.proofs.Resets.{reset_says}
+use Rattle.lane_models.specs.LaneCore.{CoreEvent, CoreStep, end_of as core_of, transcript_behind}
+use Rattle.lane_models.specs.PacketCauses.{body_cause, decoded_cause, fault_cause, message_cause, mode_cause, names_mode, number_cause, packet_cause, part_cause}
+use Rattle.lane_models.specs.Resetting.{ResetsFor}
+use Rattle.lane_models.proofs.Refuting.{none_some, true_false}
+use Rattle.lane_models.proofs.Ruling.{says_of}
+use Rattle.lane_models.proofs.SlotsLooked.{first_in_order}
+use Rattle.lane_models.specs.EndLog.{SessionLog, range_of}
+use Rattle.lane_models.specs.FrameLaws.{Asks, AsksAt, InSession, IsActive, NamesUndone, SomeMessage, UndoneAt}
+use Rattle.lane_models.specs.NetEndRule.{Takes, port_rule}
+use Rattle.lane_models.specs.NetEndState.{NetEndState, NetSession}
+use Rattle.lane_models.specs.NetEndStep.{Reset, Took}
+use Rattle.lane_models.specs.NetEndTaking.{GoesOn, Resets, first_undone}
+use Rattle.lane_models.specs.NetEvent.{NetEvent, Steps}
+use Rattle.lane_models.specs.NetLaneState.{IsNetShape, NetLaneState, NetShape, memory_of, net_end, reach_of, role_at, seen_at}
+use Rattle.lane_models.specs.Offers.{port_offer}
+use Rattle.lane_models.specs.NetLaneStep.{NetLaneStep}
+use Rattle.lane_models.specs.PortLog.{PortLog, after, log_of_end, no_events}
+use Rattle.lane_models.specs.PortState.{OnLane, PortEvent, PortState, PortStep, before, fresh_port}
+use Rattle.lane_models.specs.RuleFacts.{IfOpen, MayListen}
+use Rattle.lane_models.specs.SlotsLooked.{FirstUndone}
+use Rattle.lane_models.specs.Spoken.{RangeInfo, spoken, spoken_by}
 use Rattle.port_laws.specs.NetCore.{fresh_net_core, lane_core}
 use Rattle.port_laws.specs.PortCauses.{ack_cause, info_cause, own_cause, session_cause}
 use Rattle.port_laws.specs.PortCore.{port_events}

@@ -12,24 +12,24 @@ use Rattle.ldc_queue.specs.declared.end.End.TheVariants.{A}
 use Rattle.ldc_queue.specs.Transcript.{Utterance}
 use Rattle.runs.specs.Lawful.{Lawful, log_of}
 use Rattle.runs.specs.Run.{Run}
-use Rattle.channel_laws.specs.Messages.{ended_by, is_range, range_if, range_in}
-use Rattle.channel_laws.specs.Sayings.{half_heard, half_said}
-use Rattle.channel_laws.specs.TranscriptLog.{transcript_of}
-use Rattle.port_model.proofs.FramesKept.{step_stands}
-use Rattle.port_model.proofs.Refuting.{none_some}
-use Rattle.port_model.proofs.Ruling.{says_of}
-use Rattle.port_model.specs.EndLog.{EndLog, SessionLog, held, hears_log, lost_in, opens_log, range_of}
-use Rattle.port_model.specs.FrameLaws.{AcknowledgesAt, Acknowledges, AdmissionAt, Announces, AnnouncesAt, IfMessage, IfSession, InSession, LostAt, MayPublish, PublishedAt, SeesAt, SeesPublished, TakingAt}
-use Rattle.port_model.specs.FramesStand.{FramesStand}
-use Rattle.port_model.specs.NetEndRule.{Fetches, Publishes, Takes, port_rule}
-use Rattle.port_model.specs.NetEndState.{Activity, NetEndState, NetSession, unseen, unseen_in}
-use Rattle.port_model.specs.NetEndStep.{Frame, Joined, Published, Reset, Sent, Took}
-use Rattle.port_model.specs.NetEvent.{Asked, NetEvent, Steps, Ticked}
-use Rattle.port_model.specs.NetLaneState.{IsNetShape, NetLaneState, NetShape, memory_of, net_end, reach_of, role_at, seen_at}
-use Rattle.port_model.specs.NetLaneStep.{NetLaneStep}
-use Rattle.port_model.specs.PortLog.{PortLog, after, log_of_end, no_events}
-use Rattle.port_model.specs.PortState.{OfQueue, OnLane, PortEvent, PortState, PortStep, Receives, before, fresh_port}
-use Rattle.port_model.specs.Spoken.{RangeAck, spoken, spoken_by}
+use Rattle.lane_models.specs.Messages.{ended_by, is_range, range_if, range_in}
+use Rattle.lane_models.specs.Sayings.{half_heard, half_said}
+use Rattle.lane_models.specs.TranscriptLog.{transcript_of}
+use Rattle.lane_models.proofs.FramesKept.{step_stands}
+use Rattle.lane_models.proofs.Refuting.{none_some}
+use Rattle.lane_models.proofs.Ruling.{says_of}
+use Rattle.lane_models.specs.EndLog.{EndLog, SessionLog, held, hears_log, lost_in, opens_log, range_of}
+use Rattle.lane_models.specs.FrameLaws.{AcknowledgesAt, Acknowledges, AdmissionAt, Announces, AnnouncesAt, IfMessage, IfSession, InSession, LostAt, MayPublish, PublishedAt, SeesAt, SeesPublished, TakingAt}
+use Rattle.lane_models.specs.FramesStand.{FramesStand}
+use Rattle.lane_models.specs.NetEndRule.{Fetches, Publishes, Takes, port_rule}
+use Rattle.lane_models.specs.NetEndState.{Activity, NetEndState, NetSession, unseen, unseen_in}
+use Rattle.lane_models.specs.NetEndStep.{Frame, Joined, Published, Reset, Sent, Took}
+use Rattle.lane_models.specs.NetEvent.{Asked, NetEvent, Steps, Ticked}
+use Rattle.lane_models.specs.NetLaneState.{IsNetShape, NetLaneState, NetShape, memory_of, net_end, reach_of, role_at, seen_at}
+use Rattle.lane_models.specs.NetLaneStep.{NetLaneStep}
+use Rattle.lane_models.specs.PortLog.{PortLog, after, log_of_end, no_events}
+use Rattle.lane_models.specs.PortState.{OfQueue, OnLane, PortEvent, PortState, PortStep, Receives, before, fresh_port}
+use Rattle.lane_models.specs.Spoken.{RangeAck, spoken, spoken_by}
 use Rattle.port_laws.specs.Counted.{ActiveCounts, EndCounts, PeerCounts, SaysRightly, unsaid}
 use Rattle.port_laws.proofs.EndCounting.{OpenCounts, left_published, left_seen, open_counts, shut_counts, open_empty}
 use Rattle.port_laws.proofs.PortCounts.{PortCounts, Ready, guest_acts, hub_acts, port_counts, queue_of, ready_before}
@@ -39,7 +39,7 @@ use Rattle.port_laws.proofs.StepCounts.{Acting, sent_right, took_here}
 use Rattle.port_laws.proofs.TookCounts.{TookCounts, free_empty}
 use Rattle.port_laws.proofs.LaneMoves.{holds_up}
 use Rattle.port_laws.proofs.SlotsFound.{fetched_fits}
-use Rattle.channel_laws.proofs.Apart.{some_same}
+use Rattle.lane_models.proofs.Apart.{some_same}
 
 -- EITHER END
 pub end_counted : (shape : NetShape) (e : End) (u : PortState) (l : PortLog) → Ready shape u l → EndCounts (role_at e) shape.slots (queue_of e u) (net_end e u.lane) (log_of_end e l)

@@ -3,19 +3,19 @@ use Rattle.std.proofs.Common.{◌≡◌, ℕ, Option, Some, List, arith}
 use Rattle.ldc_link.specs.declared.phase.Role.TheVariants.{Responder}
 use Rattle.runs.specs.Lawful.{Lawful, log_of}
 use Rattle.runs.specs.Run.{Run}
-use Rattle.channel_laws.specs.Messages.{ended_by}
-use Rattle.channel_laws.specs.Sayings.{half_said}
-use Rattle.channel_laws.specs.TranscriptLog.{transcript_of}
-use Rattle.port_model.specs.EndLog.{EndLog, SessionLog}
-use Rattle.port_model.specs.FrameLaws.{GroupsSaidAt, IfMessage, SpeaksOfGroups}
-use Rattle.port_model.specs.NetEndState.{NetEndState}
-use Rattle.port_model.specs.NetEndStep.{Sent}
-use Rattle.port_model.specs.NetEvent.{NetEvent, Steps}
-use Rattle.port_model.specs.NetLaneState.{IsNetShape, NetLaneState, NetShape}
-use Rattle.port_model.specs.NetLaneStep.{NetLaneStep}
-use Rattle.port_model.specs.PortLog.{PortLog, after, log_of_end, no_events}
-use Rattle.port_model.specs.PortState.{OnLane, PortEvent, PortState, PortStep, before, fresh_port}
-use Rattle.port_model.specs.Spoken.{Spoken, spoken}
+use Rattle.lane_models.specs.Messages.{ended_by}
+use Rattle.lane_models.specs.Sayings.{half_said}
+use Rattle.lane_models.specs.TranscriptLog.{transcript_of}
+use Rattle.lane_models.specs.EndLog.{EndLog, SessionLog}
+use Rattle.lane_models.specs.FrameLaws.{GroupsSaidAt, IfMessage, SpeaksOfGroups}
+use Rattle.lane_models.specs.NetEndState.{NetEndState}
+use Rattle.lane_models.specs.NetEndStep.{Sent}
+use Rattle.lane_models.specs.NetEvent.{NetEvent, Steps}
+use Rattle.lane_models.specs.NetLaneState.{IsNetShape, NetLaneState, NetShape}
+use Rattle.lane_models.specs.NetLaneStep.{NetLaneStep}
+use Rattle.lane_models.specs.PortLog.{PortLog, after, log_of_end, no_events}
+use Rattle.lane_models.specs.PortState.{OnLane, PortEvent, PortState, PortStep, before, fresh_port}
+use Rattle.lane_models.specs.Spoken.{Spoken, spoken}
 use Rattle.port_laws.specs.Counted.{EndCounts, SaysRightly}
 use Rattle.port_laws.specs.GroupsTold.{told_in}
 use Rattle.port_laws.proofs.EndCounting.{open_counts, shut_counts}

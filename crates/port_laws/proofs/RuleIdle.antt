@@ -11,25 +11,25 @@ use Rattle.ldc_queue.specs.declared.end.End.TheVariants.{A, B}
 use Rattle.ldc_queue.specs.Wire.{waiting_for}
 use Rattle.runs.specs.Lawful.{Lawful}
 use Rattle.runs.specs.Run.{Run}
-use Rattle.channel_laws.specs.Seeing.{Seen}
-use Rattle.channel_laws.specs.WireLog.{WireLog}
-use Rattle.port_model.proofs.Moving.{before_keeps}
-use Rattle.port_model.proofs.Refuting.{false_true, none_some, true_false}
-use Rattle.port_model.proofs.Ruling.{says_of}
-use Rattle.port_model.specs.EndLog.{EndLog, SessionLog}
-use Rattle.port_model.specs.FrameLaws.{IfSession}
-use Rattle.port_model.specs.FramesStand.{FramesStand}
-use Rattle.port_model.specs.NetEndRule.{Idles, port_rule, publishes, tells_first}
-use Rattle.port_model.specs.NetEndState.{NetEndState, NetSession, unseen_in}
-use Rattle.port_model.specs.NetEndStep.{Idle}
-use Rattle.port_model.specs.NetEvent.{NetEvent, Steps}
-use Rattle.port_model.specs.NetLaneState.{IsNetShape, NetShape, net_end, role_at, seen_at}
-use Rattle.port_model.specs.NetLaneStep.{NetLaneStep}
-use Rattle.port_model.specs.PortLog.{PortLog, after, no_events}
-use Rattle.port_model.specs.PortState.{OnLane, PortEvent, PortState, PortStep, before, fresh_port, moved, moves_first, takes_more}
-use Rattle.port_model.specs.RestLaws.{AllPublished, IdleAt, IsIdle, IsTold}
-use Rattle.port_model.specs.RuleFacts.{IfOpen, IsFree, MayListen}
-use Rattle.channel_laws.proofs.EndsAtRest.{none_waits}
+use Rattle.lane_models.specs.Seeing.{Seen}
+use Rattle.lane_models.specs.WireLog.{WireLog}
+use Rattle.lane_models.proofs.Moving.{before_keeps}
+use Rattle.lane_models.proofs.Refuting.{false_true, none_some, true_false}
+use Rattle.lane_models.proofs.Ruling.{says_of}
+use Rattle.lane_models.specs.EndLog.{EndLog, SessionLog}
+use Rattle.lane_models.specs.FrameLaws.{IfSession}
+use Rattle.lane_models.specs.FramesStand.{FramesStand}
+use Rattle.lane_models.specs.NetEndRule.{Idles, port_rule, publishes, tells_first}
+use Rattle.lane_models.specs.NetEndState.{NetEndState, NetSession, unseen_in}
+use Rattle.lane_models.specs.NetEndStep.{Idle}
+use Rattle.lane_models.specs.NetEvent.{NetEvent, Steps}
+use Rattle.lane_models.specs.NetLaneState.{IsNetShape, NetShape, net_end, role_at, seen_at}
+use Rattle.lane_models.specs.NetLaneStep.{NetLaneStep}
+use Rattle.lane_models.specs.PortLog.{PortLog, after, no_events}
+use Rattle.lane_models.specs.PortState.{OnLane, PortEvent, PortState, PortStep, before, fresh_port, moved, moves_first, takes_more}
+use Rattle.lane_models.specs.RestLaws.{AllPublished, IdleAt, IsIdle, IsTold}
+use Rattle.lane_models.specs.RuleFacts.{IfOpen, IsEndFree, MayListen}
+use Rattle.lane_models.proofs.EndsAtRest.{none_waits}
 use Rattle.port_laws.specs.Counted.{EndCounts, GroupCounts}
 use Rattle.port_laws.proofs.EndCounting.{OpenCounts, empty_unsaid, open_counts, open_empty}
 use Rattle.port_laws.proofs.PortCounts.{PortCounts, Ready}
@@ -52,7 +52,7 @@ publishes_none s p frame is idles = grind arith
 time_none : (role : Role) (s : NetEndState) (p : NetSession) → tells_first role p (publishes p (slice_get s.frames (unseen_in p))) ≡ Idles → NothingLeft role s p
 time_none role s p idles = grind (arith, publishes_none)
 
-pub rule_left : (role : Role) (s : NetEndState) (at : Seen) (p : NetSession) → IsFree s at → at.first ≡ None → s.session ≡ Some p → MayListen p → port_rule role s at ≡ Idles → NothingLeft role s p
+pub rule_left : (role : Role) (s : NetEndState) (at : Seen) (p : NetSession) → IsEndFree s at → at.first ≡ None → s.session ≡ Some p → MayListen p → port_rule role s at ≡ Idles → NothingLeft role s p
 rule_left role s at p free first session listens idles = grind (arith, time_none)
 
 -- AN IDLE END in session
@@ -80,7 +80,7 @@ guest_idle : (shape : NetShape) (u : PortState) (l : PortLog) → Ready shape u 
 guest_idle shape u l ready idles =
     let says = says_of Initiator u.lane.guest (seen_at A u.lane) Idles idles in
     let acting = end_acts shape A u l ready says.0.up in
-    let empty = free_empty Initiator u.lane.guest l.transcript.client acting.ends says.0.quiet in
+    let empty = free_empty Initiator u.lane.guest l.transcript.a acting.ends says.0.quiet in
     if_session l.guest.session (IsIdle A l) (λ v log.
     let both = both_open Initiator shape.slots [] u.lane.guest l.guest v ready.guest log in
     let listens : MayListen both.p = subst (λ (x : Option NetSession). IfOpen x MayListen) both.is says.2 in
@@ -110,7 +110,7 @@ hub_idle shape s l kept ready idles =
     let u : PortState = moved s in
     let says = says_of Responder u.lane.hub (seen_at B u.lane) Idles idles in
     let acting = end_acts shape B u l ready says.0.up in
-    let empty = free_empty Responder u.lane.hub l.transcript.server acting.ends says.0.quiet in
+    let empty = free_empty Responder u.lane.hub l.transcript.b acting.ends says.0.quiet in
     if_session l.hub.session (IsIdle B l) (λ v log.
     let both = both_open Responder shape.slots u.queue u.lane.hub l.hub v ready.hub log in
     let listens : MayListen both.p = subst (λ (x : Option NetSession). IfOpen x MayListen) both.is says.2 in

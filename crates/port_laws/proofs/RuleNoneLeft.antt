@@ -12,26 +12,26 @@ use Rattle.ldc_queue.specs.OneStream.{OneWay, live}
 use Rattle.ldc_queue.specs.Transcript.{numbered_heard, numbered_said}
 use Rattle.runs.specs.Lawful.{Lawful}
 use Rattle.runs.specs.Run.{Run}
-use Rattle.channel_laws.proofs.SameSayings.{heard_is, said_is}
-use Rattle.channel_laws.specs.Sayings.{heard, said}
-use Rattle.channel_laws.specs.TranscriptLog.{transcript_of}
-use Rattle.channel_laws.specs.WireLog.{WireLog}
-use Rattle.channel_laws.specs.Conversing.{Converse}
-use Rattle.channel_laws.specs.Sides.{Sides}
-use Rattle.port_model.proofs.Moving.{before_keeps}
-use Rattle.port_model.proofs.Refuting.{true_false}
-use Rattle.port_model.proofs.Ruling.{says_of}
-use Rattle.port_model.specs.EndLog.{SessionLog}
-use Rattle.port_model.specs.NetEndRule.{Idles, port_rule}
-use Rattle.port_model.specs.NetEndState.{NetEndState, NetSession}
-use Rattle.port_model.specs.NetEndStep.{Idle}
-use Rattle.port_model.specs.NetEvent.{CalmTick, NetEvent, Steps}
-use Rattle.port_model.specs.NetLaneState.{IsNetShape, NetShape, net_end, role_at, seen_at}
-use Rattle.port_model.specs.NetLaneStep.{NetLaneStep}
-use Rattle.port_model.specs.PortLog.{PortLog, after, log_of_end, no_events}
-use Rattle.port_model.specs.PortState.{OnLane, PortEvent, PortState, PortStep, before, fresh_port}
-use Rattle.port_model.specs.RestLaws.{TwoIdleAt}
-use Rattle.port_model.specs.RuleFacts.{IfOpen, MayListen}
+use Rattle.lane_models.proofs.SameSayings.{heard_is, said_is}
+use Rattle.lane_models.specs.Sayings.{heard, said}
+use Rattle.lane_models.specs.TranscriptLog.{transcript_of}
+use Rattle.lane_models.specs.WireLog.{WireLog}
+use Rattle.lane_models.specs.Conversing.{Converse}
+use Rattle.lane_models.specs.Sides.{Sides}
+use Rattle.lane_models.proofs.Moving.{before_keeps}
+use Rattle.lane_models.proofs.Refuting.{true_false}
+use Rattle.lane_models.proofs.Ruling.{says_of}
+use Rattle.lane_models.specs.EndLog.{SessionLog}
+use Rattle.lane_models.specs.NetEndRule.{Idles, port_rule}
+use Rattle.lane_models.specs.NetEndState.{NetEndState, NetSession}
+use Rattle.lane_models.specs.NetEndStep.{Idle}
+use Rattle.lane_models.specs.NetEvent.{CalmTick, NetEvent, Steps}
+use Rattle.lane_models.specs.NetLaneState.{IsNetShape, NetShape, net_end, role_at, seen_at}
+use Rattle.lane_models.specs.NetLaneStep.{NetLaneStep}
+use Rattle.lane_models.specs.PortLog.{PortLog, after, log_of_end, no_events}
+use Rattle.lane_models.specs.PortState.{OnLane, PortEvent, PortState, PortStep, before, fresh_port}
+use Rattle.lane_models.specs.RestLaws.{TwoIdleAt}
+use Rattle.lane_models.specs.RuleFacts.{IfOpen, MayListen}
 use Rattle.port_laws.specs.NoneLeft.{NoneLeft, NoneLeftAt}
 use Rattle.port_laws.specs.WaysStand.{Way, WaysStand, acks_in, infos_in}
 use Rattle.port_laws.proofs.PortCounts.{before_wire, queue_of, ready_before}
@@ -43,10 +43,10 @@ use Rattle.port_laws.proofs.RuleIdle.{idle_counts, rule_left}
 use Rattle.port_laws.proofs.RuleTwoIdle.{IdlesKept, idles_kept, two_idle_event}
 use Rattle.port_laws.proofs.TookCounts.{free_empty}
 use Rattle.port_laws.proofs.WayRuns.{KeptWays, port_ways, ways_before}
-use Rattle.channel_laws.proofs.NextPacket.{none_of}
-use Rattle.channel_laws.proofs.LinkPlaced.{up_live}
+use Rattle.lane_models.proofs.NextPacket.{none_of}
+use Rattle.lane_models.proofs.LinkPlaced.{up_live}
 use Rattle.port_laws.proofs.LaneMoves.{up_of}
-use Rattle.channel_laws.proofs.EndsAtRest.{none_waits}
+use Rattle.lane_models.proofs.EndsAtRest.{none_waits}
 
 -- WHAT WAS SAID WAS HEARD where nothing was lost and nothing waits
 one_way : (x y : ChannelState) (put took waiting : List (List ℕ)) (lost : ℕ) → OneWay (live x put) (live y took) (numbered waiting) lost → lost ≡ 0 → waiting ≡ [] → x ≡ Up → y ≡ Up → put ≡ took
@@ -113,8 +113,8 @@ both_left shape u l finds ways guest_idles hub_idles lossless opened =
     let two_ends = finds.two_ends.two_ends A in
     let all = heard_all _ two_ends.meets.converse whole up other (none_waits _ guest_says.1) (none_waits _ hub_says.1) in
     let between = ways up other opened.0 in
-    let going : between.going ≡ [] = nothing_goes (said l.transcript.client) (heard l.transcript.server) between.going between.goes all.mine in
-    let coming : between.coming ≡ [] = nothing_goes (said l.transcript.server) (heard l.transcript.client) between.coming between.comes all.theirs in
+    let going : between.going ≡ [] = nothing_goes (said l.transcript.a) (heard l.transcript.b) between.going between.goes all.mine in
+    let coming : between.coming ≡ [] = nothing_goes (said l.transcript.b) (heard l.transcript.a) between.coming between.comes all.theirs in
     let guest = some_log l.guest.session opened.0 in
     let hub = some_log l.hub.session opened.1 in
     let guest_end = idle_end shape A u l guest.0 finds guest_idles guest.1 in

@@ -8,21 +8,21 @@ use Rattle.ldc_queue.specs.declared.end.End.TheVariants.{A, B}
 use Rattle.ldc_queue.specs.Transcript.{Utterance}
 use Rattle.runs.specs.Lawful.{Lawful}
 use Rattle.runs.specs.Run.{Run}
-use Rattle.channel_laws.specs.Sayings.{heard, said}
-use Rattle.channel_laws.specs.WireLog.{WireLog}
-use Rattle.port_model.proofs.Refuting.{true_false}
-use Rattle.port_model.proofs.Ruling.{says_of}
-use Rattle.port_model.specs.FrameLaws.{InSession, ToldAll}
-use Rattle.port_model.specs.NetEndRule.{Idles, port_rule}
-use Rattle.port_model.specs.NetEndState.{GroupsReply, NetEndState, NetSession}
-use Rattle.port_model.specs.NetEndStep.{Idle}
-use Rattle.port_model.specs.NetEvent.{CalmTick, NetEvent, Steps}
-use Rattle.port_model.specs.NetLaneState.{IsNetShape, NetShape, seen_at}
-use Rattle.port_model.specs.NetLaneStep.{NetLaneStep}
-use Rattle.port_model.specs.PortLog.{PortLog, after, no_events}
-use Rattle.port_model.specs.PortState.{OnLane, PortEvent, PortState, PortStep, before, fresh_port}
-use Rattle.port_model.specs.RestLaws.{TwoIdleAt}
-use Rattle.port_model.specs.RuleFacts.{IfOpen, MayListen}
+use Rattle.lane_models.specs.Sayings.{heard, said}
+use Rattle.lane_models.specs.WireLog.{WireLog}
+use Rattle.lane_models.proofs.Refuting.{true_false}
+use Rattle.lane_models.proofs.Ruling.{says_of}
+use Rattle.lane_models.specs.FrameLaws.{InSession, ToldAll}
+use Rattle.lane_models.specs.NetEndRule.{Idles, port_rule}
+use Rattle.lane_models.specs.NetEndState.{GroupsReply, NetEndState, NetSession}
+use Rattle.lane_models.specs.NetEndStep.{Idle}
+use Rattle.lane_models.specs.NetEvent.{CalmTick, NetEvent, Steps}
+use Rattle.lane_models.specs.NetLaneState.{IsNetShape, NetShape, seen_at}
+use Rattle.lane_models.specs.NetLaneStep.{NetLaneStep}
+use Rattle.lane_models.specs.PortLog.{PortLog, after, no_events}
+use Rattle.lane_models.specs.PortState.{OnLane, PortEvent, PortState, PortStep, before, fresh_port}
+use Rattle.lane_models.specs.RestLaws.{TwoIdleAt}
+use Rattle.lane_models.specs.RuleFacts.{IfOpen, MayListen}
 use Rattle.port_laws.specs.NetCore.{one_if}
 use Rattle.port_laws.specs.NoneUntold.{KnowsAll, NoneUntoldAt}
 use Rattle.port_laws.proofs.EndCounting.{OpenCounts, empty_unsaid}
@@ -41,10 +41,10 @@ use Rattle.port_laws.proofs.ExchangeGuest.{ExchangeStands}
 use Rattle.port_laws.proofs.ExchangeRuns.{KeptExchange, before_exchange, port_exchange}
 use Rattle.port_laws.proofs.TookCounts.{free_empty}
 use Rattle.port_laws.proofs.LaneMoves.{up_of}
-use Rattle.port_model.specs.EndLog.{SessionLog}
+use Rattle.lane_models.specs.EndLog.{SessionLog}
 use Rattle.port_laws.specs.Counted.{GroupCounts}
 use Rattle.port_laws.specs.GroupsTold.{told_in}
-use Rattle.channel_laws.proofs.EndsAtRest.{none_waits}
+use Rattle.lane_models.proofs.EndsAtRest.{none_waits}
 
 none_out : (s : NetEndState) (mine theirs : List Utterance) → said mine ≡ heard theirs → s.link.to_send ≡ [] → outbox s mine theirs ≡ []
 none_out s mine theirs all empty = grind (arith, drop_all, empty_unsaid)
@@ -71,12 +71,12 @@ both_told shape u l finds exchange guest_idles hub_idles lossless opened =
     let hub_both = both_open Responder shape.slots u.queue u.lane.hub l.hub hub.0 finds.ready.hub hub.1 in
     let listens : MayListen both.p = subst (λ (x : Option NetSession). IfOpen x MayListen) both.is guest_says.2 in
     let hub_listens : MayListen hub_both.p = subst (λ (x : Option NetSession). IfOpen x MayListen) hub_both.is hub_says.2 in
-    let empty = free_empty Initiator u.lane.guest l.transcript.client (end_acts shape A u l finds.ready guest_says.0.up).ends guest_says.0.quiet in
-    let hub_empty = free_empty Responder u.lane.hub l.transcript.server (end_acts shape B u l finds.ready hub_says.0.up).ends hub_says.0.quiet in
+    let empty = free_empty Initiator u.lane.guest l.transcript.a (end_acts shape A u l finds.ready guest_says.0.up).ends guest_says.0.quiet in
+    let hub_empty = free_empty Responder u.lane.hub l.transcript.b (end_acts shape B u l finds.ready hub_says.0.up).ends hub_says.0.quiet in
     let exchanging = exchange both.p up other both.is in
-    let sent = none_out u.lane.guest l.transcript.client l.transcript.server all.mine empty in
+    let sent = none_out u.lane.guest l.transcript.a l.transcript.b all.mine empty in
     let asks = ap count_groups sent in
-    let answers = ap count_groups (none_out u.lane.hub l.transcript.server l.transcript.client all.theirs hub_empty) in
+    let answers = ap count_groups (none_out u.lane.hub l.transcript.b l.transcript.a all.theirs hub_empty) in
     let owed : owed_replies u.lane.hub.session ≡ 0 = ap (λ (o : Option GroupsReply). one_if (is_some o)) (ap reply_in hub_both.is ∙ hub_listens.0) in
     let counted = exchanging.counted in
     let telling : both.p.telling ≡ false = none_telling both.p.telling (omega (arith, counted, asks, answers, owed)) in

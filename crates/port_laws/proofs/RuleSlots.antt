@@ -7,23 +7,23 @@ use Rattle.ldc_queue.specs.declared.end.End.{End}
 use Rattle.ldc_queue.specs.Wire.{peer_of, state_of}
 use Rattle.runs.specs.Lawful.{Lawful}
 use Rattle.runs.specs.Run.{Run}
-use Rattle.channel_laws.specs.TranscriptLog.{transcript_of}
+use Rattle.lane_models.specs.TranscriptLog.{transcript_of}
 use Rattle.vio_tag.specs.declared.cause.Cause.{Cause}
 use Rattle.vnet_msg.specs.Frames.{memory_pages}
-use Rattle.port_model.proofs.Refuting.{none_some, true_false}
-use Rattle.port_model.proofs.Ruling.{says_of}
-use Rattle.port_model.specs.EndLog.{SessionLog}
-use Rattle.port_model.specs.Fetching.{fetched}
-use Rattle.port_model.specs.FramesStand.{CountsStand}
-use Rattle.port_model.specs.NetEndRule.{Fetches, NetRule, Takes, port_rule}
-use Rattle.port_model.specs.NetEndState.{Activity, NetEndState, NetSession}
-use Rattle.port_model.specs.NetEndStep.{FetchFails, NetEndStep, NetFails, NetLeft, Reset}
-use Rattle.port_model.specs.NetEvent.{NetEvent, Steps}
-use Rattle.port_model.specs.NetLaneState.{IsNetShape, NetLaneState, NetShape, memory_of, net_end, reach_of, role_at, seen_at}
-use Rattle.port_model.specs.NetLaneStep.{NetLaneStep}
-use Rattle.port_model.specs.PortLog.{PortLog, after, log_of_end, no_events}
-use Rattle.port_model.specs.PortState.{OnLane, PortEvent, PortState, PortStep, before, fresh_port}
-use Rattle.port_model.specs.RuleFacts.{IfOpen}
+use Rattle.lane_models.proofs.Refuting.{none_some, true_false}
+use Rattle.lane_models.proofs.Ruling.{says_of}
+use Rattle.lane_models.specs.EndLog.{SessionLog}
+use Rattle.lane_models.specs.Fetching.{fetched}
+use Rattle.lane_models.specs.FramesStand.{CountsStand}
+use Rattle.lane_models.specs.NetEndRule.{Fetches, NetRule, Takes, port_rule}
+use Rattle.lane_models.specs.NetEndState.{Activity, NetEndState, NetSession}
+use Rattle.lane_models.specs.NetEndStep.{FetchFails, NetEndStep, NetFails, NetLeft, Reset}
+use Rattle.lane_models.specs.NetEvent.{NetEvent, Steps}
+use Rattle.lane_models.specs.NetLaneState.{IsNetShape, NetLaneState, NetShape, memory_of, net_end, reach_of, role_at, seen_at}
+use Rattle.lane_models.specs.NetLaneStep.{NetLaneStep}
+use Rattle.lane_models.specs.PortLog.{PortLog, after, log_of_end, no_events}
+use Rattle.lane_models.specs.PortState.{OnLane, PortEvent, PortState, PortStep, before, fresh_port}
+use Rattle.lane_models.specs.RuleFacts.{IfOpen}
 use Rattle.port_laws.specs.Counted.{ActiveCounts, unsaid}
 use Rattle.port_laws.specs.NetCore.{lane_core}
 use Rattle.port_laws.specs.NoSlotReset.{NoSlotResetAt}

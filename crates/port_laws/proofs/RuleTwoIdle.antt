@@ -6,18 +6,18 @@ use Rattle.ldc_queue.specs.declared.end.End.{End}
 use Rattle.ldc_queue.specs.declared.end.End.TheVariants.{A, B}
 use Rattle.runs.specs.Lawful.{Lawful, log_of, run_lawful}
 use Rattle.runs.specs.Run.{Run}
-use Rattle.channel_laws.proofs.EndsAtRest.{none_waits, two_at_rest_open}
-use Rattle.channel_laws.specs.EndsAtRest.{IsAtRest}
-use Rattle.port_model.proofs.Refuting.{none_some}
-use Rattle.port_model.proofs.Ruling.{says_of}
-use Rattle.port_model.specs.NetEndRule.{Idles, port_rule}
-use Rattle.port_model.specs.NetEndStep.{Idle}
-use Rattle.port_model.specs.NetEvent.{CalmTick, NetEvent, Steps}
-use Rattle.port_model.specs.NetLaneState.{IsNetShape, NetLaneState, NetShape, net_end, role_at, seen_at}
-use Rattle.port_model.specs.NetLaneStep.{EndSteps, NetLaneStep}
-use Rattle.port_model.specs.PortLog.{PortLog, after, no_events}
-use Rattle.port_model.specs.PortState.{OnLane, PortEvent, PortState, PortStep, before, fresh_port}
-use Rattle.port_model.specs.RestLaws.{TwoIdleAt}
+use Rattle.lane_models.proofs.EndsAtRest.{none_waits, two_at_rest_open}
+use Rattle.lane_models.specs.EndsAtRest.{IsEndAtRest}
+use Rattle.lane_models.proofs.Refuting.{none_some}
+use Rattle.lane_models.proofs.Ruling.{says_of}
+use Rattle.lane_models.specs.NetEndRule.{Idles, port_rule}
+use Rattle.lane_models.specs.NetEndStep.{Idle}
+use Rattle.lane_models.specs.NetEvent.{CalmTick, NetEvent, Steps}
+use Rattle.lane_models.specs.NetLaneState.{IsNetShape, NetLaneState, NetShape, net_end, role_at, seen_at}
+use Rattle.lane_models.specs.NetLaneStep.{EndSteps, NetLaneStep}
+use Rattle.lane_models.specs.PortLog.{PortLog, after, no_events}
+use Rattle.lane_models.specs.PortState.{OnLane, PortEvent, PortState, PortStep, before, fresh_port}
+use Rattle.lane_models.specs.RestLaws.{TwoIdleAt}
 use Rattle.port_laws.specs.NetCore.{lane_core}
 use Rattle.port_laws.proofs.CoreLaws.{offers_match, sizes_fit}
 use Rattle.port_laws.proofs.EndCounting.{open_counts}
@@ -28,7 +28,7 @@ use Rattle.port_laws.proofs.PutCounts.{some_of}
 use Rattle.port_laws.proofs.LaneMoves.{up_of}
 
 -- AN END AT REST, as its channel sees it
-idle_rests : (e : End) (u : NetLaneState) → port_rule (role_at e) (net_end e u) (seen_at e u) ≡ Idles → IsAtRest e (lane_core u)
+idle_rests : (e : End) (u : NetLaneState) → port_rule (role_at e) (net_end e u) (seen_at e u) ≡ Idles → IsEndAtRest e (lane_core u)
 idle_rests A u idles =
     let says = says_of Initiator u.guest (seen_at A u) Idles idles in
     record { up = up_of u.wire.wire.end_a says.0.up; quiet = says.0.quiet; owed = says.0.owed; waits = none_waits u.wire.wire.to_a says.1 }
@@ -52,7 +52,7 @@ idles_kept shape events s run =
     (fresh_port shape) s (no_events shape) events (record { idles = λ e is. none_some e is }) run).1
 
 -- BOTH AT REST
-two_idle : (shape : NetShape) (s : PortState) (l : PortLog) → PortCounts shape s l → Ready shape s l → IsAtRest A (lane_core s.lane) → IsAtRest B (lane_core s.lane) → l.wire.forged ≡ false → l.wire.lossy ≡ false
+two_idle : (shape : NetShape) (s : PortState) (l : PortLog) → PortCounts shape s l → Ready shape s l → IsEndAtRest A (lane_core s.lane) → IsEndAtRest B (lane_core s.lane) → l.wire.forged ≡ false → l.wire.lossy ≡ false
     → (l.guest.session ≢ None) × (l.hub.session ≢ None)
 two_idle shape s l counts ready one other clean whole = grind (arith, two_at_rest_open, sizes_fit, offers_match, fresh_port_core, some_of, open_counts, none_some)
 
@@ -63,7 +63,7 @@ two_idle_event shape s l (Steps A Idle) t counts ready step = λ last clean whol
 two_idle_event shape s l (Steps B Idle) t counts ready step = λ last clean whole.
     let kept : IdlesKept s l = subst (IdlesKept s) (sym counts.log) (idles_kept shape counts.events s counts.run) in
     two_idle shape s l counts ready (idle_rests A s.lane (kept.idles A last))
-    (subst (IsAtRest B) (before_core (Steps B Idle) s) (idle_rests B (before (Steps B Idle) s).lane step.step.0)) clean whole
+    (subst (IsEndAtRest B) (before_core (Steps B Idle) s) (idle_rests B (before (Steps B Idle) s).lane step.step.0)) clean whole
 two_idle_event shape s l _ t counts ready step = tt
 
 pub port_two_idle : (shape : NetShape) (events : List PortEvent) (s : PortState) → IsNetShape shape → Run PortStep (fresh_port shape) events s → Lawful TwoIdleAt after (no_events shape) events

@@ -6,11 +6,11 @@ use Rattle.ldc_link.specs.declared.phase.Role.{Role}
 use Rattle.ldc_link.specs.declared.phase.Role.TheVariants.{Initiator, Responder}
 use Rattle.ldc_queue.specs.Fragments.{Fragment, fragment_at, is_part}
 use Rattle.ldc_queue.specs.Transcript.{Heard, Said, Utterance}
-use Rattle.channel_laws.specs.Messages.{ended_by, opening_sid, sid_in, sid_of, whole_with}
-use Rattle.channel_laws.specs.Sayings.{half_heard, half_said, heard, said, whole_past}
-use Rattle.port_model.proofs.Refuting.{none_some}
-use Rattle.port_model.specs.EndLog.{SessionLog, heard_in, heard_kind, opened_log, said_in, said_kind}
-use Rattle.port_model.specs.Spoken.{RangeInfo, Spoken}
+use Rattle.lane_models.specs.Messages.{ended_by, opening_sid, sid_in, sid_of, whole_with}
+use Rattle.lane_models.specs.Sayings.{half_heard, half_said, heard, said, whole_past}
+use Rattle.lane_models.proofs.Refuting.{none_some}
+use Rattle.lane_models.specs.EndLog.{SessionLog, heard_in, heard_kind, opened_log, said_in, said_kind}
+use Rattle.lane_models.specs.Spoken.{RangeInfo, Spoken}
 use Rattle.port_laws.proofs.PeerOpens.{row}
 
 -- A SESSION of the log

@@ -6,9 +6,9 @@ use Rattle.vio_tag.proofs.Canonical.{length_canonical}
 use Rattle.vio_tag.specs.declared.message.Message.{Message}
 use Rattle.vio_tag.specs.declared.message.MsgBody.TheVariants.{Mcast}
 use Rattle.vio_tag.specs.Spelling.{addresses_at, canonical}
-use Rattle.port_model.specs.Groups.{membership, seven}
-use Rattle.port_model.specs.NetEndPutting.{announcement, answer, groups_answer}
-use Rattle.port_model.specs.NetEndState.{Activity, GroupsReply, NetEndState, NetSession}
+use Rattle.lane_models.specs.Groups.{membership, seven}
+use Rattle.lane_models.specs.NetEndPutting.{announcement, answer, groups_answer}
+use Rattle.lane_models.specs.NetEndState.{Activity, GroupsReply, NetEndState, NetSession}
 use Rattle.port_laws.specs.NetFits.{AddressesAreShort, ReplyFits}
 
 abbrev joined : List (List ℕ) → List ℕ

@@ -19,12 +19,12 @@ use Rattle.vio_tag.specs.declared.cause.Cause.TheVariants as the_cause
 use Rattle.vnet_msg.specs.declared.desc.NetDesc.{NetDesc}
 use Rattle.vnet_msg.specs.Descriptor.{net_desc_of}
 use Rattle.vnet_msg.specs.Frames.{IsFrame, frame_in, holds_frame, moved_size}
-use Rattle.port_model.proofs.Refuting.{true_false}
-use Rattle.port_model.specs.EndLog.{SessionLog}
-use Rattle.port_model.specs.Fetching.{Fetched, IsFrame as IsFetched, NotReady, Refuses, copied, copy_refused, data_cookies, described, fetched, frame_fault, mark_fault, marked, read, slot_read, slots_cookies}
-use Rattle.port_model.specs.FrameLaws.{SlotCause}
-use Rattle.port_model.specs.NetEndState.{Activity, NetEndState}
-use Rattle.port_model.specs.NetEndStep.{FetchFails}
+use Rattle.lane_models.proofs.Refuting.{true_false}
+use Rattle.lane_models.specs.EndLog.{SessionLog}
+use Rattle.lane_models.specs.Fetching.{Fetched, IsFrame as IsFetched, NotReady, Refuses, copied, copy_refused, data_cookies, described, fetched, frame_fault, mark_fault, marked, read, slot_read, slots_cookies}
+use Rattle.lane_models.specs.FrameLaws.{SlotCause}
+use Rattle.lane_models.specs.NetEndState.{Activity, NetEndState}
+use Rattle.lane_models.specs.NetEndStep.{FetchFails}
 
 -- A COPY that isn't refused moves as many bytes as it is asked for
 past_first : (up aligned holds : Bool) (rest : Option CopyFault)

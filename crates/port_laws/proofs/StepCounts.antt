@@ -6,36 +6,36 @@ use Rattle.ldc_link.specs.declared.phase.Role.{Role}
 use Rattle.ldc_link.specs.Putting.{behind_put}
 use Rattle.ldc_queue.specs.Transcript.{Utterance}
 use Rattle.vio_handshake.specs.declared.handshake.Phase.{Phase}
-use Rattle.channel_laws.specs.Messages.{ended_by, opening_sid}
-use Rattle.channel_laws.specs.Sayings.{half_heard, half_said}
-use Rattle.channel_laws.specs.Seeing.{Seen}
+use Rattle.lane_models.specs.Messages.{ended_by, opening_sid}
+use Rattle.lane_models.specs.Sayings.{half_heard, half_said}
+use Rattle.lane_models.specs.Seeing.{Seen}
 use Rattle.cookie_copy.specs.Faults.{is_up}
 use Rattle.cookie_copy.specs.Reach.{Reach}
-use Rattle.channel_laws.proofs.EndCases.{PutWhat, end_put}
-use Rattle.channel_laws.proofs.EndResting.{held_handshake}
-use Rattle.channel_laws.proofs.EndStanding.{stands_step}
-use Rattle.channel_laws.specs.EndCore.{Waits}
-use Rattle.channel_laws.specs.Grounds.{has_named}
-use Rattle.channel_laws.specs.Standing.{EndStands, is_open_in}
+use Rattle.lane_models.proofs.EndCases.{PutWhat, end_put}
+use Rattle.lane_models.proofs.EndResting.{held_handshake}
+use Rattle.lane_models.proofs.EndStanding.{stands_step}
+use Rattle.lane_models.specs.EndCore.{Waits}
+use Rattle.lane_models.specs.Grounds.{has_named}
+use Rattle.lane_models.specs.Standing.{EndStands, is_open_in}
 use Rattle.vio_handshake.specs.declared.handshake.Handshake.{Handshake}
-use Rattle.port_model.proofs.Refuting.{false_true}
-use Rattle.port_model.proofs.Ruling.{says_of}
-use Rattle.port_model.specs.EndLog.{EndLog, SessionLog, ends_log, publishes_log, takes_log}
-use Rattle.port_model.specs.FramesStand.{CountsStand, FramesStand}
-use Rattle.port_model.specs.NetEndPutting.{net_opens, net_put}
-use Rattle.port_model.specs.NetEndRule.{Fetches, Publishes, Takes, port_rule}
-use Rattle.port_model.specs.NetEndState.{Activity, NetEndState, NetSession, joined_net_end, unseen}
-use Rattle.port_model.specs.NetEndStep.{Blocked, Frame, Idle, Joined, NetAnswer, NetEndStep, NetLeft, NetSends, Published, Reset, Sent, Took, published, taken}
-use Rattle.port_model.specs.PortLog.{after_answer}
-use Rattle.port_model.specs.RuleFacts.{IfOpen}
+use Rattle.lane_models.proofs.Refuting.{false_true}
+use Rattle.lane_models.proofs.Ruling.{says_of}
+use Rattle.lane_models.specs.EndLog.{EndLog, SessionLog, ends_log, publishes_log, takes_log}
+use Rattle.lane_models.specs.FramesStand.{CountsStand, FramesStand}
+use Rattle.lane_models.specs.NetEndPutting.{net_opens, net_put}
+use Rattle.lane_models.specs.NetEndRule.{Fetches, Publishes, Takes, port_rule}
+use Rattle.lane_models.specs.NetEndState.{Activity, NetEndState, NetSession, joined_net_end, unseen}
+use Rattle.lane_models.specs.NetEndStep.{Blocked, Frame, Idle, Joined, NetAnswer, NetEndStep, NetLeft, NetSends, Published, Reset, Sent, Took, published, taken}
+use Rattle.lane_models.specs.PortLog.{after_answer}
+use Rattle.lane_models.specs.RuleFacts.{IfOpen}
 use Rattle.port_laws.specs.Counted.{EndCounts, GuestGroups, LastCounts}
 use Rattle.port_laws.specs.NetCore.{net_core}
 use Rattle.port_laws.specs.NetFits.{NetFits}
 use Rattle.port_laws.proofs.EndCounting.{empty_unsaid, frames_leave, gone_within, guest_same, open_counts, shut_counts, open_empty}
 use Rattle.port_laws.proofs.EndMoves.{HeldCore, held_core, puts_behind, says_core, waits_core}
-use Rattle.channel_laws.proofs.HandshakeFitting.{same_fits}
-use Rattle.channel_laws.specs.HandshakeFits.{HandshakeFits}
-use Rattle.port_model.specs.Offers.{port_offer}
+use Rattle.lane_models.proofs.HandshakeFitting.{same_fits}
+use Rattle.lane_models.specs.HandshakeFits.{HandshakeFits}
+use Rattle.lane_models.specs.Offers.{port_offer}
 use Rattle.port_laws.proofs.HeldCounts.{SlotsFit, held_counts}
 use Rattle.port_laws.proofs.OwedSays.{OwesNoGroups}
 use Rattle.port_laws.proofs.PutCounts.{PutCounts, SaidRight, put_counts}

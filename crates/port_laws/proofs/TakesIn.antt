@@ -17,22 +17,22 @@ use Rattle.vio_tag.specs.declared.message.Message.{Message}
 use Rattle.vio_tag.specs.declared.message.MsgBody.{MsgBody}
 use Rattle.vio_tag.specs.declared.message.MsgBody.TheVariants.{Mcast}
 use Rattle.vio_tag.specs.Spelling.{SpellsBody, SpellsMessage, addresses_at, envelope_at, envelope_code}
-use Rattle.channel_laws.specs.Sayings.{heard, said}
-use Rattle.channel_laws.proofs.HandshakePlaces.{IsOwn, deal}
-use Rattle.channel_laws.proofs.HandshakesPlaced.{envelope_reads, next_own, own_code}
-use Rattle.channel_laws.specs.EndStep.{IsOfSession}
-use Rattle.channel_laws.specs.Sides.{Sides}
-use Rattle.port_model.specs.Groups.{groups_after}
-use Rattle.port_model.specs.NetEndState.{GroupsReply, NetEndState, NetSession, with_session}
-use Rattle.port_model.specs.NetEndTaking.{GoesOn, NetTake, active, hears_message, in_session, replying}
-use Rattle.port_model.specs.Spoken.{addresses_of, count_of, set_of, seven_of}
+use Rattle.lane_models.specs.Sayings.{heard, said}
+use Rattle.lane_models.proofs.HandshakePlaces.{IsOwn, deal}
+use Rattle.lane_models.proofs.HandshakesPlaced.{envelope_reads, next_own, own_code}
+use Rattle.lane_models.specs.EndStep.{IsOfSession}
+use Rattle.lane_models.specs.Sides.{Sides}
+use Rattle.lane_models.specs.Groups.{groups_after}
+use Rattle.lane_models.specs.NetEndState.{GroupsReply, NetEndState, NetSession, with_session}
+use Rattle.lane_models.specs.NetEndTaking.{GoesOn, NetTake, active, hears_message, in_session, replying}
+use Rattle.lane_models.specs.Spoken.{addresses_of, count_of, set_of, seven_of}
 use Rattle.port_laws.proofs.HearsIn.{HearsOne, OwnRead, own_read}
 use Rattle.port_laws.proofs.MessageDoes.{Acks, Asks, MessageDoes, Names, Told, Declines}
 use Rattle.port_laws.proofs.Outbox.{MessageFits, is_groups}
 use Rattle.port_laws.proofs.PeerOpens.{TwoEnds}
 use Rattle.port_laws.proofs.GroupsExchanged.{ReplyAgrees}
 use Rattle.vio_tag.proofs.Reading.{only_spelled}
-use Rattle.port_model.proofs.Refuting.{true_false}
+use Rattle.lane_models.proofs.Refuting.{true_false}
 
 -- THE NEXT MESSAGE is one of the session, and is read as that
 pub next_is_own : (asks answers : Offer) (role : Role) (s : Sides) (bytes : List ℕ) → (two_ends : TwoEnds asks answers role s) → s.mine.state ≡ Up → s.mine.core.is_open ≡ true → s.theirs.state ≡ Up

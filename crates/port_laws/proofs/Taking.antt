@@ -10,9 +10,9 @@ use Rattle.vio_tag.specs.declared.cause.Cause.{Cause}
 use Rattle.vio_tag.specs.declared.message.Message.{Message}
 use Rattle.vio_tag.specs.declared.message.MsgBody.{MsgBody}
 use Rattle.vio_tag.specs.declared.message.MsgBody.TheVariants.{Mcast}
-use Rattle.channel_laws.specs.EndStep.{HandshakeTakes, HearsOwn, IsOfSession, IsOwn}
-use Rattle.port_model.specs.NetEndState.{NetEndState, NetSession}
-use Rattle.port_model.specs.NetEndTaking.{GoesOn, NetTake, Resets, by_handshake, hears_message, in_session, opens_by_take, refused, sid_first, takes_done, takes_groups, takes_info, told}
+use Rattle.lane_models.specs.EndStep.{HandshakeTakes, HearsOwn, IsOfSession, IsOwnMessage}
+use Rattle.lane_models.specs.NetEndState.{NetEndState, NetSession}
+use Rattle.lane_models.specs.NetEndTaking.{GoesOn, NetTake, Resets, by_handshake, hears_message, in_session, opens_by_take, refused, sid_first, takes_done, takes_groups, takes_info, told}
 use Rattle.port_laws.specs.NetCore.{net_core}
 use Rattle.port_laws.specs.NetFits.{AddressesAreShort, NetFits, SessionFits}
 
@@ -33,7 +33,7 @@ pub record GoesFrom (role : Role) (s : NetEndState) (message : Message) (t : Net
 
 abbrev pub TakeGoes : Role → NetEndState → Message → NetTake → Type 0
 TakeGoes role s message (GoesOn t opens memory) = GoesFrom role s message t opens
-TakeGoes role s message (Resets cause) = (handshake_take s.handshake message ≡ Faults cause) ⊎ IsOwn s.handshake (is_some s.session) message
+TakeGoes role s message (Resets cause) = (handshake_take s.handshake message ≡ Faults cause) ⊎ IsOwnMessage s.handshake (is_some s.session) message
 
 take_if : (role : Role) (s : NetEndState) (message : Message) (b : Bool) (one other : NetTake) → TakeGoes role s message one → TakeGoes role s message other
     → TakeGoes role s message (if b then one else other)
@@ -54,7 +54,7 @@ pub record OwnMessage (s : NetEndState) (message : Message) (p : NetSession) : T
   pub sid : sid_fault s.handshake.sid message.sid ≡ None
   pub body : IsOfSession message.body
 
-own_is : (s : NetEndState) (message : Message) (p : NetSession) → OwnMessage s message p → IsOwn s.handshake (is_some s.session) message
+own_is : (s : NetEndState) (message : Message) (p : NetSession) → OwnMessage s message p → IsOwnMessage s.handshake (is_some s.session) message
 own_is s message p own = record { opened = ap (λ (x : Option NetSession). is_some x) own.session; sid = own.sid; body = own.body }
 
 reply_fits : (role : Role) (s : NetEndState) (p : NetSession) → NetFits role s → s.session ≡ Some p → SessionFits (Some p)

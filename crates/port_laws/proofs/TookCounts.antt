@@ -12,20 +12,20 @@ use Rattle.vio_handshake.specs.Rules.{HandshakeTake, handshake_take}
 use Rattle.vio_tag.specs.declared.message.Message.{Message}
 use Rattle.vio_tag.specs.declared.message.TagFault.{TagFault}
 use Rattle.vio_tag.specs.Decoding.{Decodes}
-use Rattle.channel_laws.specs.Messages.{ended_by, whole_with}
-use Rattle.channel_laws.specs.Sayings.{half_heard, heard, whole_by, whole_past}
-use Rattle.channel_laws.proofs.EndStanding.{up_empty}
-use Rattle.channel_laws.proofs.LinkCases.{LinkHeard, link_heard}
-use Rattle.channel_laws.proofs.UtteranceCases.{HearsOn, hears_on}
-use Rattle.channel_laws.specs.Standing.{EndStands, is_open_in}
-use Rattle.port_model.proofs.FramesTaken.{stands_with}
-use Rattle.port_model.proofs.Refuting.{false_true, none_some, true_false}
-use Rattle.port_model.specs.EndLog.{EndLog, SessionLog, change, heard_in, hears_log, opens_log}
-use Rattle.port_model.specs.FramesStand.{FramesStand}
-use Rattle.port_model.specs.NetEndPutting.{cleared_ring}
-use Rattle.port_model.specs.NetEndState.{NetEndState, NetSession, opened_net_end}
-use Rattle.port_model.specs.NetEndTaking.{GoesOn, HearsLink, HearsWhole, NetTakes, by_handshake, hears_message, opens_by_take, reads, risen}
-use Rattle.port_model.specs.RuleFacts.{IfOpen, MayListen}
+use Rattle.lane_models.specs.Messages.{ended_by, whole_with}
+use Rattle.lane_models.specs.Sayings.{half_heard, heard, whole_by, whole_past}
+use Rattle.lane_models.proofs.EndStanding.{up_empty}
+use Rattle.lane_models.proofs.LinkCases.{LinkHeard, link_heard}
+use Rattle.lane_models.proofs.UtteranceCases.{HearsOn, hears_on}
+use Rattle.lane_models.specs.Standing.{EndStands, is_open_in}
+use Rattle.lane_models.proofs.FramesTaken.{stands_with}
+use Rattle.lane_models.proofs.Refuting.{false_true, none_some, true_false}
+use Rattle.lane_models.specs.EndLog.{EndLog, SessionLog, change, heard_in, hears_log, opens_log}
+use Rattle.lane_models.specs.FramesStand.{FramesStand}
+use Rattle.lane_models.specs.NetEndPutting.{cleared_ring}
+use Rattle.lane_models.specs.NetEndState.{NetEndState, NetSession, opened_net_end}
+use Rattle.lane_models.specs.NetEndTaking.{GoesOn, HearsLink, HearsWhole, NetTakes, by_handshake, hears_message, opens_by_take, reads, risen}
+use Rattle.lane_models.specs.RuleFacts.{IfOpen, MayListen}
 use Rattle.port_laws.specs.Counted.{EndCounts}
 use Rattle.port_laws.specs.NetCore.{net_core}
 use Rattle.port_laws.proofs.EndCounting.{ShutCounts, empty_unsaid, shut_counts}

@@ -13,10 +13,10 @@ use Rattle.vio_tag.specs.declared.cause.Cause.{Cause}
 use Rattle.vio_tag.specs.declared.cause.Cause.TheVariants as the_cause
 use Rattle.vio_tag.specs.declared.message.Message.{Message}
 use Rattle.vio_tag.specs.declared.message.TagFault.{TagFault}
-use Rattle.channel_laws.specs.Standing.{EndStands, is_open_in}
-use Rattle.port_model.specs.NetEndPutting.{cleared_ring}
-use Rattle.port_model.specs.NetEndState.{NetEndState, NetSession, opened_net_end}
-use Rattle.port_model.specs.NetEndTaking.{GoesOn, HearsLink, HearsWhole, NetTake, NetTakes, Resets, by_handshake, hears_message, opens_by_take, reads, risen}
+use Rattle.lane_models.specs.Standing.{EndStands, is_open_in}
+use Rattle.lane_models.specs.NetEndPutting.{cleared_ring}
+use Rattle.lane_models.specs.NetEndState.{NetEndState, NetSession, opened_net_end}
+use Rattle.lane_models.specs.NetEndTaking.{GoesOn, HearsLink, HearsWhole, NetTake, NetTakes, Resets, by_handshake, hears_message, opens_by_take, reads, risen}
 use Rattle.port_laws.specs.NetCore.{net_core}
 use Rattle.port_laws.proofs.MessageDoes.{TakeDoes, message_does}
 use Rattle.port_laws.proofs.TookCounts.{risen_up, session_open, session_up}

@@ -3,11 +3,11 @@ use Rattle.std.proofs.Common.{◌≡◌, ℕ, ◌+◌, ◌≤◌, true, false, O
 use Rattle.std.specs.Prelude.{⊤}
 use Rattle.ldc_queue.specs.OneStream.{IsFront}
 use Rattle.ldc_queue.specs.Transcript.{Heard, Said, Utterance}
-use Rattle.channel_laws.specs.Messages.{ended_by, opening_sid}
-use Rattle.channel_laws.specs.Sayings.{half_heard, half_said, heard, said}
-use Rattle.port_model.specs.EndLog.{EndLog, SessionLog, change, heard_in, more_published, more_taken, opened_log, said_in}
-use Rattle.port_model.specs.NetEndStep.{Blocked, Frame, Idle, Joined, NetAnswer, Published, Reset, Sent, Took}
-use Rattle.port_model.specs.PortLog.{after_answer}
+use Rattle.lane_models.specs.Messages.{ended_by, opening_sid}
+use Rattle.lane_models.specs.Sayings.{half_heard, half_said, heard, said}
+use Rattle.lane_models.specs.EndLog.{EndLog, SessionLog, change, heard_in, more_published, more_taken, opened_log, said_in}
+use Rattle.lane_models.specs.NetEndStep.{Blocked, Frame, Idle, Joined, NetAnswer, Published, Reset, Sent, Took}
+use Rattle.lane_models.specs.PortLog.{after_answer}
 use Rattle.port_laws.specs.WaysStand.{Ways, or_new}
 use Rattle.port_laws.proofs.RingEvents.{Goes, utterances_now}
 use Rattle.port_laws.proofs.SessionsHeard.{heard_grown, said_grown}

@@ -6,12 +6,12 @@ use Rattle.std.proofs.lemmas.List.{append-nil, append_cancel_left}
 use Rattle.std.proofs.lemmas.Nat.{mod_below}
 use Rattle.std.proofs.Math.Nat.{add-mod_right, mod-add-mod, mod-eq_of_lt, mod-mod}
 use Rattle.vio_tag.specs.Spelling.{envelope_at}
-use Rattle.channel_laws.specs.Messages.{end_slot_of, start_slot_of}
-use Rattle.channel_laws.specs.Ranges.{wrapped}
+use Rattle.lane_models.specs.Messages.{end_slot_of, start_slot_of}
+use Rattle.lane_models.specs.Ranges.{wrapped}
 use Rattle.dring.specs.Slots.{range_length}
-use Rattle.port_model.specs.EndLog.{SessionLog, heard_in, heard_kind, more_published, more_taken, range_of, said_in, said_kind}
-use Rattle.port_model.specs.FrameLaws.{Acknowledges, Announces}
-use Rattle.port_model.specs.Spoken.{GroupsNack, Other, RangeAck, RangeInfo, Spoken, spoken}
+use Rattle.lane_models.specs.EndLog.{SessionLog, heard_in, heard_kind, more_published, more_taken, range_of, said_in, said_kind}
+use Rattle.lane_models.specs.FrameLaws.{Acknowledges, Announces}
+use Rattle.lane_models.specs.Spoken.{GroupsNack, Other, RangeAck, RangeInfo, Spoken, spoken}
 use Rattle.port_laws.specs.Counted.{SaysRightly}
 use Rattle.port_laws.specs.WaysStand.{Comes, Goes, Rests, Way, Ways, Works, ack_first, acks_in, info_first, infos_in}
 use Rattle.port_laws.proofs.SessionsHeard.{Grown}

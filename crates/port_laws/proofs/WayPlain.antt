@@ -8,13 +8,13 @@ use Rattle.ldc_queue.specs.declared.end.ChannelState.TheVariants.{Up}
 use Rattle.vio_handshake.specs.declared.session.Offer.{Offer}
 use Rattle.vio_handshake.proofs.Places.{AllSaid, AttributesAnswered, Deal, Place, owner}
 use Rattle.vio_tag.specs.Spelling.{canonical, envelope_at}
-use Rattle.channel_laws.specs.Sayings.{heard, said}
-use Rattle.channel_laws.proofs.EndStanding.{open_up}
-use Rattle.channel_laws.proofs.HandshakePlaces.{deal, open_place, place_open}
-use Rattle.channel_laws.proofs.Script.{before, bytes_at, is_role, last_or, one_if, said_at, said_by}
-use Rattle.channel_laws.specs.Sides.{Sides, other}
-use Rattle.port_model.proofs.Refuting.{true_false}
-use Rattle.port_model.specs.Spoken.{Other, spoken}
+use Rattle.lane_models.specs.Sayings.{heard, said}
+use Rattle.lane_models.proofs.EndStanding.{open_up}
+use Rattle.lane_models.proofs.HandshakePlaces.{deal, open_place, place_open}
+use Rattle.lane_models.proofs.Script.{before, bytes_at, is_role, last_or, one_if, said_at, said_by}
+use Rattle.lane_models.specs.Sides.{Sides, other}
+use Rattle.lane_models.proofs.Refuting.{true_false}
+use Rattle.lane_models.specs.Spoken.{Other, spoken}
 use Rattle.port_laws.proofs.PeerOpens.{TwoEnds, mine_at, six_said}
 use Rattle.port_laws.proofs.WayMoves.{Plain}
 

@@ -11,20 +11,20 @@ use Rattle.ldc_queue.specs.Transcript.{Heard, Said, Utterance}
 use Rattle.ldc_queue.specs.Wire.{peer_behind, peer_of, state_of}
 use Rattle.runs.specs.Lawful.{log_of, run_lawful}
 use Rattle.runs.specs.Run.{Run}
-use Rattle.channel_laws.specs.Messages.{ended_by, opening_sid}
-use Rattle.channel_laws.specs.Sayings.{half_said, heard, said}
-use Rattle.channel_laws.specs.TranscriptLog.{transcript_of}
-use Rattle.channel_laws.specs.WireAt.{IsUp}
-use Rattle.channel_laws.specs.WireLog.{WireLog}
-use Rattle.channel_laws.specs.Sides.{sides_of, swapped}
-use Rattle.port_model.proofs.Refuting.{none_some, true_false}
-use Rattle.port_model.specs.EndLog.{EndLog, SessionLog, change, opened_log}
-use Rattle.port_model.specs.NetEndStep.{Frame, Given, Joined, NetAnswer, NetLeft, Reset, Sent, Took}
-use Rattle.port_model.specs.NetEvent.{Asked, Gives, Injects, Loses, NetEvent, Pokes, Steps, Ticked, on_wire}
-use Rattle.port_model.specs.NetLaneState.{IsNetShape, NetLaneState, NetShape, memory_of, net_end, reach_of, role_at, seen_at}
-use Rattle.port_model.specs.NetLaneStep.{EndSteps, NetLaneStep, moved_on}
-use Rattle.port_model.specs.PortLog.{PortLog, after, after_answer, after_given, log_of_end, no_events}
-use Rattle.port_model.specs.PortState.{OfQueue, OnLane, PortEvent, PortState, PortStep, Receives, before, fresh_port}
+use Rattle.lane_models.specs.Messages.{ended_by, opening_sid}
+use Rattle.lane_models.specs.Sayings.{half_said, heard, said}
+use Rattle.lane_models.specs.TranscriptLog.{transcript_of}
+use Rattle.lane_models.specs.WireAt.{IsUp}
+use Rattle.lane_models.specs.WireLog.{WireLog}
+use Rattle.lane_models.specs.Sides.{sides_of, swapped}
+use Rattle.lane_models.proofs.Refuting.{none_some, true_false}
+use Rattle.lane_models.specs.EndLog.{EndLog, SessionLog, change, opened_log}
+use Rattle.lane_models.specs.NetEndStep.{Frame, Given, Joined, NetAnswer, NetLeft, Reset, Sent, Took}
+use Rattle.lane_models.specs.NetEvent.{Asked, Gives, Injects, Loses, NetEvent, Pokes, Steps, Ticked, on_wire}
+use Rattle.lane_models.specs.NetLaneState.{IsNetShape, NetLaneState, NetShape, memory_of, net_end, reach_of, role_at, seen_at}
+use Rattle.lane_models.specs.NetLaneStep.{EndSteps, NetLaneStep, moved_on}
+use Rattle.lane_models.specs.PortLog.{PortLog, after, after_answer, after_given, log_of_end, no_events}
+use Rattle.lane_models.specs.PortState.{OfQueue, OnLane, PortEvent, PortState, PortStep, Receives, before, fresh_port}
 use Rattle.port_laws.specs.NetCore.{lane_core}
 use Rattle.port_laws.specs.RingStands.{taken_in}
 use Rattle.port_laws.specs.WaysStand.{Ways, WaysStand, or_new}
@@ -134,8 +134,8 @@ open_step shape e u t l answer left v acts goes other is front ways =
 
 guest_first : (shape : NetShape) (u t : PortState) (l : PortLog) (packet : List ℕ) (left : NetLeft) → Acts shape A u t l (Sent packet true) left → IsUp A t.lane.wire.wire → IsUp B t.lane.wire.wire
     → l.guest.session ≡ None
-    → Ways l.shape.slots (said (Said packet ∷ l.transcript.client)) (heard l.transcript.client) (said l.transcript.server) (heard l.transcript.server)
-    (opened_log (opening_sid (half_said l.transcript.client) packet)) (or_new l.hub.session)
+    → Ways l.shape.slots (said (Said packet ∷ l.transcript.a)) (heard l.transcript.a) (said l.transcript.b) (heard l.transcript.b)
+    (opened_log (opening_sid (half_said l.transcript.a) packet)) (or_new l.hub.session)
 guest_first shape u t l packet left acts up other none =
     let few = (turned_at shape A u t l (Sent packet true) left acts tt).few none in
     let then_ = after l (OnLane (Steps A (Sent packet true))) in
@@ -144,18 +144,18 @@ guest_first shape u t l packet left acts up other none =
     let hub = open_both Responder shape.slots u.queue u.lane.hub l.hub acts.finds.ready.hub in
     let guest = open_both Initiator shape.slots [] t.lane.guest then_.guest acts.counts.guest in
     let opened : is_some t.lane.guest.session ≡ true = guest.opened (λ gone. none_some _ (sym gone)) in
-    let short : length (said (Said packet ∷ l.transcript.client)) ≤ 6 = omega (arith, few, grown_most _ (said l.transcript.client) (said (Said packet ∷ l.transcript.client)) (said_grown l.transcript.client packet)) in
-    let mine : Plain (said (Said packet ∷ l.transcript.client)) =
+    let short : length (said (Said packet ∷ l.transcript.a)) ≤ 6 = omega (arith, few, grown_most _ (said l.transcript.a) (said (Said packet ∷ l.transcript.a)) (said_grown l.transcript.a packet)) in
+    let mine : Plain (said (Said packet ∷ l.transcript.a)) =
     open_said (asks_of shape) (answers_of shape) Initiator (sides_of (lane_core t.lane) then_.transcript) (acts.two_ends.two_ends A) up opened short in
     let theirs = closed_plain (asks_of shape) (answers_of shape) Responder (swapped (sides_of (lane_core u.lane) l.transcript)) (acts.finds.two_ends.two_ends B) other_before (hub.shut hub_shut) in
-    subst (λ (o : Option SessionLog). Ways l.shape.slots (said (Said packet ∷ l.transcript.client)) (heard l.transcript.client) (said l.transcript.server) (heard l.transcript.server)
-    (opened_log (opening_sid (half_said l.transcript.client) packet)) (or_new o)) (sym hub_shut)
-    (first_ways l.shape.slots (opening_sid (half_said l.transcript.client) packet) (Said packet ∷ l.transcript.client) l.transcript.server (acts.two_ends.front_a up) (acts.two_ends.front other) mine theirs.said_plain)
+    subst (λ (o : Option SessionLog). Ways l.shape.slots (said (Said packet ∷ l.transcript.a)) (heard l.transcript.a) (said l.transcript.b) (heard l.transcript.b)
+    (opened_log (opening_sid (half_said l.transcript.a) packet)) (or_new o)) (sym hub_shut)
+    (first_ways l.shape.slots (opening_sid (half_said l.transcript.a) packet) (Said packet ∷ l.transcript.a) l.transcript.b (acts.two_ends.front_a up) (acts.two_ends.front other) mine theirs.said_plain)
 
 guest_ways : (shape : NetShape) (u t : PortState) (l : PortLog) (answer : NetAnswer) (left : NetLeft) → Acts shape A u t l answer left → WaysStand u.lane l
     → WaysStand t.lane (after l (OnLane (Steps A answer)))
 guest_ways shape u t l answer left acts ways up other some =
-    by_log l.guest.session refl (guest_goes l.shape.slots l.transcript.client answer l.guest some)
+    by_log l.guest.session refl (guest_goes l.shape.slots l.transcript.a answer l.guest some)
   where
     then_ : PortLog
     then_ = after l (OnLane (Steps A answer))
@@ -163,44 +163,44 @@ guest_ways shape u t l answer left acts ways up other some =
     Now : List Utterance → List Utterance → Option SessionLog → Type 0
     Now client server log = Ways l.shape.slots (said client) (heard client) (said server) (heard server) (or_new log) (or_new l.hub.session)
 
-    as_now : Now (utterances_now answer l.transcript.client) l.transcript.server (after_answer l.shape.slots l.transcript.client answer l.guest).session
-        → Ways l.shape.slots (said then_.transcript.client) (heard then_.transcript.client) (said then_.transcript.server) (heard then_.transcript.server) (or_new then_.guest.session) (or_new then_.hub.session)
+    as_now : Now (utterances_now answer l.transcript.a) l.transcript.b (after_answer l.shape.slots l.transcript.a answer l.guest).session
+        → Ways l.shape.slots (said then_.transcript.a) (heard then_.transcript.a) (said then_.transcript.b) (heard then_.transcript.b) (or_new then_.guest.session) (or_new then_.hub.session)
     as_now one =
         let turns = turns_at A l.transcript answer in rw (turns.mine, turns.theirs) one
 
-    front : IsFront (heard (utterances_now answer l.transcript.client)) (said l.transcript.server)
+    front : IsFront (heard (utterances_now answer l.transcript.a)) (said l.transcript.b)
     front =
         let turns = turns_at A l.transcript answer in rw turns.mine at (rw turns.theirs at (acts.two_ends.front_a up))
 
     by_log : (log : Option SessionLog) → l.guest.session ≡ log → Goes answer
-        → Ways l.shape.slots (said then_.transcript.client) (heard then_.transcript.client) (said then_.transcript.server) (heard then_.transcript.server) (or_new then_.guest.session) (or_new then_.hub.session)
+        → Ways l.shape.slots (said then_.transcript.a) (heard then_.transcript.a) (said then_.transcript.b) (heard then_.transcript.b) (or_new then_.guest.session) (or_new then_.hub.session)
     by_log (Some v) is goes =
         let up_before = acts_up_at shape A u t l answer left acts goes in
         let other_before = peer_was_up shape A u t l answer left acts goes other in
         let was = ways up_before other_before (λ gone. none_some v (sym gone ∙ is)) in
-        as_now (open_step shape A u t l answer left v acts goes other_before is front (subst (Now l.transcript.client l.transcript.server) is was))
+        as_now (open_step shape A u t l answer left v acts goes other_before is front (subst (Now l.transcript.a l.transcript.b) is was))
     by_log None is goes =
         let turned = turned_at shape A u t l answer left acts goes in
-        let opening = opening_sent l.shape.slots l.transcript.client answer l.guest is some (turned.few is) (turned.many some) in
+        let opening = opening_sent l.shape.slots l.transcript.a answer l.guest is some (turned.few is) (turned.many some) in
         let same : answer ≡ Sent opening.0 true = opening.1 in
         as_now (rw same (guest_first shape u t l opening.0 left (rw same at acts) up other is))
 
 -- A STEP OF THE SWITCH'S END
 pub hub_plain : (shape : NetShape) (u t : PortState) (l : PortLog) (answer : NetAnswer) (left : NetLeft) → Acts shape B u t l answer left → Goes answer → IsUp B t.lane.wire.wire → l.hub.session ≡ None
-    → ClosedFits l.transcript.server l.transcript.client answer
+    → ClosedFits l.transcript.b l.transcript.a answer
 hub_plain shape u t l answer left acts goes up none = by_log then_.hub.session refl
   where
     then_ : PortLog
     then_ = after l (OnLane (Steps B answer))
 
-    now : then_.transcript.server ≡ utterances_now answer l.transcript.server
+    now : then_.transcript.b ≡ utterances_now answer l.transcript.b
     now = (turns_at B l.transcript answer).mine
 
-    theirs : then_.transcript.client ≡ l.transcript.client
+    theirs : then_.transcript.a ≡ l.transcript.a
     theirs = (turns_at B l.transcript answer).theirs
 
-    front : IsFront (heard (utterances_now answer l.transcript.server)) (said l.transcript.client)
-    front = subst (λ (xs : List Utterance). IsFront (heard xs) (said l.transcript.client)) now (subst (λ (xs : List Utterance). IsFront (heard then_.transcript.server) (said xs)) theirs (acts.two_ends.front up))
+    front : IsFront (heard (utterances_now answer l.transcript.b)) (said l.transcript.a)
+    front = subst (λ (xs : List Utterance). IsFront (heard xs) (said l.transcript.a)) now (subst (λ (xs : List Utterance). IsFront (heard then_.transcript.b) (said xs)) theirs (acts.two_ends.front up))
 
     hub : OpenBoth t.lane.hub then_.hub
     hub = open_both Responder shape.slots t.queue t.lane.hub then_.hub acts.counts.hub
@@ -211,19 +211,19 @@ hub_plain shape u t l answer left acts goes up none = by_log then_.hub.session r
     up_before : IsUp B u.lane.wire.wire
     up_before = acts_up_at shape B u t l answer left acts goes
 
-    was : BothPlain (said l.transcript.server) (heard l.transcript.server)
+    was : BothPlain (said l.transcript.b) (heard l.transcript.b)
     was = closed_plain (asks_of shape) (answers_of shape) Responder (swapped (sides_of (lane_core u.lane) l.transcript)) (acts.finds.two_ends.two_ends B) up_before (hub_before.shut none)
 
-    heard_short : (given : NetAnswer) → length (heard l.transcript.server) ≤ 5 → length (heard (utterances_now given l.transcript.server)) ≤ 6
-    heard_short (Took packet opens) few = omega (arith, few, grown_most _ (heard l.transcript.server) (heard (Heard packet ∷ l.transcript.server)) (heard_grown l.transcript.server packet))
+    heard_short : (given : NetAnswer) → length (heard l.transcript.b) ≤ 5 → length (heard (utterances_now given l.transcript.b)) ≤ 6
+    heard_short (Took packet opens) few = omega (arith, few, grown_most _ (heard l.transcript.b) (heard (Heard packet ∷ l.transcript.b)) (heard_grown l.transcript.b packet))
     heard_short (Joined lost) few = omega arith
     heard_short (Reset cause packet lost) few = omega arith
     heard_short _ few = omega (arith, few)
 
-    said_same : (given : NetAnswer) → length (heard l.transcript.server) ≤ 5 → 6 ≤ length (heard (utterances_now given l.transcript.server)) → Plain (said (utterances_now given l.transcript.server))
+    said_same : (given : NetAnswer) → length (heard l.transcript.b) ≤ 5 → 6 ≤ length (heard (utterances_now given l.transcript.b)) → Plain (said (utterances_now given l.transcript.b))
     said_same given few many = grind (arith, was)
 
-    by_log : (log : Option SessionLog) → then_.hub.session ≡ log → ClosedFits l.transcript.server l.transcript.client answer
+    by_log : (log : Option SessionLog) → then_.hub.session ≡ log → ClosedFits l.transcript.b l.transcript.a answer
     by_log None is =
         let plain = closed_plain (asks_of shape) (answers_of shape) Responder (swapped (sides_of (lane_core t.lane) then_.transcript)) (acts.two_ends.two_ends B) up (hub.shut is) in
         grind (arith, now, front)
@@ -232,7 +232,7 @@ hub_plain shape u t l answer left acts goes up none = by_log then_.hub.session r
         let turned = turned_at shape B u t l answer left acts goes in
         let few = turned.few none in
         let many = turned.many some in
-        let short : length (heard then_.transcript.server) ≤ 6 = subst (λ (xs : List Utterance). length (heard xs) ≤ 6) (sym now) (heard_short answer few) in
+        let short : length (heard then_.transcript.b) ≤ 6 = subst (λ (xs : List Utterance). length (heard xs) ≤ 6) (sym now) (heard_short answer few) in
         let plain = open_heard (asks_of shape) (answers_of shape) Responder (swapped (sides_of (lane_core t.lane) then_.transcript)) (acts.two_ends.two_ends B) up (hub.opened some) short in
         record { said_plain = said_same answer few many; heard_plain = subst (λ (xs : List Utterance). Plain (heard xs)) now plain; front = front }
 
@@ -262,14 +262,14 @@ hub_ways shape u t l answer left acts ways other up some = by_log l.hub.session 
     up_before : IsUp B u.lane.wire.wire
     up_before = acts_up_at shape B u t l answer left acts goes
 
-    now : then_.transcript.server ≡ utterances_now answer l.transcript.server
+    now : then_.transcript.b ≡ utterances_now answer l.transcript.b
     now = (turns_at B l.transcript answer).mine
 
-    same : then_.transcript.client ≡ l.transcript.client
+    same : then_.transcript.a ≡ l.transcript.a
     same = (turns_at B l.transcript answer).theirs
 
-    front : IsFront (heard (utterances_now answer l.transcript.server)) (said l.transcript.client)
-    front = subst (λ (xs : List Utterance). IsFront (heard xs) (said l.transcript.client)) now (subst (λ (xs : List Utterance). IsFront (heard then_.transcript.server) (said xs)) same (acts.two_ends.front up))
+    front : IsFront (heard (utterances_now answer l.transcript.b)) (said l.transcript.a)
+    front = subst (λ (xs : List Utterance). IsFront (heard xs) (said l.transcript.a)) now (subst (λ (xs : List Utterance). IsFront (heard then_.transcript.b) (said xs)) same (acts.two_ends.front up))
 
     v : SessionLog
     v = or_new l.guest.session
@@ -277,21 +277,21 @@ hub_ways shape u t l answer left acts ways other up some = by_log l.hub.session 
     Now : List Utterance → List Utterance → Option SessionLog → Type 0
     Now client server log = Ways l.shape.slots (said server) (heard server) (said client) (heard client) (or_new log) v
 
-    was : Now l.transcript.client l.transcript.server l.hub.session
-    was = swap_ways l.shape.slots (said l.transcript.client) (heard l.transcript.client) (said l.transcript.server) (heard l.transcript.server) v (or_new l.hub.session) (ways other_before up_before some)
+    was : Now l.transcript.a l.transcript.b l.hub.session
+    was = swap_ways l.shape.slots (said l.transcript.a) (heard l.transcript.a) (said l.transcript.b) (heard l.transcript.b) v (or_new l.hub.session) (ways other_before up_before some)
 
-    as_now : Now l.transcript.client (utterances_now answer l.transcript.server) (after_answer l.shape.slots l.transcript.server answer l.hub).session
-        → Ways l.shape.slots (said then_.transcript.client) (heard then_.transcript.client) (said then_.transcript.server) (heard then_.transcript.server) (or_new then_.guest.session) (or_new then_.hub.session)
+    as_now : Now l.transcript.a (utterances_now answer l.transcript.b) (after_answer l.shape.slots l.transcript.b answer l.hub).session
+        → Ways l.shape.slots (said then_.transcript.a) (heard then_.transcript.a) (said then_.transcript.b) (heard then_.transcript.b) (or_new then_.guest.session) (or_new then_.hub.session)
     as_now one =
-        swap_ways l.shape.slots (said then_.transcript.server) (heard then_.transcript.server) (said
-        then_.transcript.client) (heard then_.transcript.client) (or_new then_.hub.session) (or_new then_.guest.session)
+        swap_ways l.shape.slots (said then_.transcript.b) (heard then_.transcript.b) (said
+        then_.transcript.a) (heard then_.transcript.a) (or_new then_.hub.session) (or_new then_.guest.session)
         (rw (now, same) one)
 
     by_log : (log : Option SessionLog) → l.hub.session ≡ log
-        → Ways l.shape.slots (said then_.transcript.client) (heard then_.transcript.client) (said then_.transcript.server) (heard then_.transcript.server) (or_new then_.guest.session) (or_new then_.hub.session)
-    by_log (Some w) is = as_now (open_step shape B u t l answer left w acts goes other_before is front (subst (Now l.transcript.client l.transcript.server) is was))
+        → Ways l.shape.slots (said then_.transcript.a) (heard then_.transcript.a) (said then_.transcript.b) (heard then_.transcript.b) (or_new then_.guest.session) (or_new then_.hub.session)
+    by_log (Some w) is = as_now (open_step shape B u t l answer left w acts goes other_before is front (subst (Now l.transcript.a l.transcript.b) is was))
     by_log None is =
-        as_now (closed_acts l.shape.slots l.transcript.server l.transcript.client answer l.hub v is goes (hub_plain shape u t l answer left acts goes up is) (subst (Now l.transcript.client l.transcript.server) is was))
+        as_now (closed_acts l.shape.slots l.transcript.b l.transcript.a answer l.hub v is goes (hub_plain shape u t l answer left acts goes up is) (subst (Now l.transcript.a l.transcript.b) is was))
 
 -- WHAT ISN'T A STEP
 pub never_alone : (shape : NetShape) (u : PortState) (l : PortLog) (X : Type 0) → Finds shape u l → l.guest.session ≢ None → peer_behind u.lane.wire.wire.end_b u.lane.wire.wire.end_a ≡ Up → X
@@ -314,7 +314,7 @@ lane_ways shape u t l (Asked B lost) of_queue finds step clean counts two_ends w
 lane_ways shape u t l (Ticked queued lost) of_queue finds step clean counts two_ends ways = λ up other some. absurd (some refl)
 lane_ways shape u t l (Gives A given) of_queue finds step clean counts two_ends ways =
     λ up other some.
-    subst (λ (o : Option SessionLog). Ways l.shape.slots (said l.transcript.client) (heard l.transcript.client) (said l.transcript.server) (heard l.transcript.server) (or_new o) (or_new l.hub.session))
+    subst (λ (o : Option SessionLog). Ways l.shape.slots (said l.transcript.a) (heard l.transcript.a) (said l.transcript.b) (heard l.transcript.b) (or_new o) (or_new l.hub.session))
     (sym (given_same given l.guest))
     (ways (sym (ap (λ (x : NetLaneState). x.wire.wire.end_a) step.1) ∙ up) (sym (ap (λ (x : NetLaneState). x.wire.wire.end_b) step.1) ∙ other) (λ none. some (given_same given l.guest ∙ none)))
 lane_ways shape u t l (Gives B given) of_queue finds step clean counts two_ends ways = absurd of_queue

@@ -5,20 +5,20 @@ use Rattle.ldc_queue.specs.declared.end.End.{End}
 use Rattle.ldc_queue.specs.Transcript.{Heard, Said}
 use Rattle.runs.specs.Lawful.{Lawful, log_of}
 use Rattle.runs.specs.Run.{Run}
-use Rattle.channel_laws.specs.TranscriptLog.{TranscriptLog, hears, says, transcript_of}
-use Rattle.channel_laws.specs.WireAt.{WireHeardAt, WireSaidAt}
-use Rattle.channel_laws.specs.WireEvent.{WireEvent}
-use Rattle.channel_laws.proofs.Numbering.{heard_lawful, said_lawful}
-use Rattle.channel_laws.specs.CoreLog as core
-use Rattle.channel_laws.proofs.OpeningOrder.{opens_hearing, opens_saying}
-use Rattle.port_model.specs.FrameLaws.{OpeningsAt}
-use Rattle.port_model.specs.NetEndStep.{Sent, Took}
-use Rattle.port_model.specs.NetEvent.{Steps}
-use Rattle.port_model.specs.NetLaneState.{IsNetShape, NetShape}
-use Rattle.port_model.specs.Offers.{port_offer}
-use Rattle.port_model.specs.PortLog.{PortLog, after, no_events}
-use Rattle.port_model.specs.PortMay.{IfOnWire, OfWire}
-use Rattle.port_model.specs.PortState.{OnLane, PortEvent, PortState, PortStep, fresh_port}
+use Rattle.lane_models.specs.TranscriptLog.{TranscriptLog, hears, says, transcript_of}
+use Rattle.lane_models.specs.WireAt.{WireHeardAt, WireSaidAt}
+use Rattle.lane_models.specs.WireEvent.{WireEvent}
+use Rattle.lane_models.proofs.Numbering.{heard_lawful, said_lawful}
+use Rattle.lane_models.specs.CoreLog as core
+use Rattle.lane_models.proofs.OpeningOrder.{opens_hearing, opens_saying}
+use Rattle.lane_models.specs.FrameLaws.{OpeningsAt}
+use Rattle.lane_models.specs.NetEndStep.{Sent, Took}
+use Rattle.lane_models.specs.NetEvent.{Steps}
+use Rattle.lane_models.specs.NetLaneState.{IsNetShape, NetShape}
+use Rattle.lane_models.specs.Offers.{port_offer}
+use Rattle.lane_models.specs.PortLog.{PortLog, after, no_events}
+use Rattle.lane_models.specs.PortMay.{IfOnWire, OfWire}
+use Rattle.lane_models.specs.PortState.{OnLane, PortEvent, PortState, PortStep, fresh_port}
 use Rattle.port_laws.specs.NetCore.{event_core}
 use Rattle.port_laws.specs.PortCore.{port_core, port_event, port_events}
 use Rattle.port_laws.proofs.CoreLaws.{order_at, sizes_fit}

@@ -7,11 +7,11 @@ use Rattle.ldc_link.specs.declared.phase.Role.TheVariants.{Initiator, Responder}
 use Rattle.ldc_packet.specs.declared.packet.Subtype.{Subtype}
 use Rattle.ldc_packet.specs.declared.packet.Subtype.TheVariants.{Ack, Info, Nack}
 use Rattle.ldc_packet.specs.Spelling.{subtype_code}
-use Rattle.channel_laws.specs.Ranges.{wrapped}
-use Rattle.port_model.specs.EndLog.{EndLog, GroupsFields, SessionLog, said_in}
-use Rattle.port_model.specs.FrameLaws.{Acknowledges, Announces, SpeaksOfGroups}
-use Rattle.port_model.specs.NetEndState.{Activity, GroupsReply, NetEndState, NetSession}
-use Rattle.port_model.specs.Spoken.{GroupsAck, GroupsInfo, GroupsNack, Other, RangeAck, RangeInfo, Spoken, spoken}
+use Rattle.lane_models.specs.Ranges.{wrapped}
+use Rattle.lane_models.specs.EndLog.{EndLog, GroupsFields, SessionLog, said_in}
+use Rattle.lane_models.specs.FrameLaws.{Acknowledges, Announces, SpeaksOfGroups}
+use Rattle.lane_models.specs.NetEndState.{Activity, GroupsReply, NetEndState, NetSession}
+use Rattle.lane_models.specs.Spoken.{GroupsAck, GroupsInfo, GroupsNack, Other, RangeAck, RangeInfo, Spoken, spoken}
 
 -- the message of its session that its link holds, if it holds one
 abbrev pub left_of : (own : Bool) → List ℕ → Option (List ℕ)

@@ -3,8 +3,8 @@
 use Rattle.std.specs.Prelude.{ℕ, ◌+◌, ◌-◌, List, length, Option, Some, None}
 use Rattle.ldc_queue.specs.declared.end.ChannelState.{ChannelState}
 use Rattle.ldc_queue.specs.declared.end.ChannelState.TheVariants.{Down, Resetting, Up}
-use Rattle.port_model.specs.NetEndState.{NetEndState, NetSession, unseen}
-use Rattle.port_model.specs.PortState.{PortState}
+use Rattle.lane_models.specs.NetEndState.{NetEndState, NetSession, unseen}
+use Rattle.lane_models.specs.PortState.{PortState}
 use Rattle.port_laws.specs.Remaining.{ready_slots}
 
 abbrev pub fresh_frames : NetEndState → ℕ

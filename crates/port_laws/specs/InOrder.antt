@@ -2,9 +2,9 @@
 use Rattle.std.specs.Prelude.{◌≡◌, ℕ, ◌+◌, ◌≤◌, List, [], ◌∷◌, ◌++◌, Some, slice_get, ⊤}
 use Rattle.ldc_queue.specs.declared.end.End.{End}
 use Rattle.ldc_queue.specs.declared.end.End.TheVariants.{A, B}
-use Rattle.port_model.specs.NetEndStep.{Frame}
-use Rattle.port_model.specs.NetEvent.{Steps}
-use Rattle.port_model.specs.PortState.{OnLane, PortEvent}
+use Rattle.lane_models.specs.NetEndStep.{Frame}
+use Rattle.lane_models.specs.NetEvent.{Steps}
+use Rattle.lane_models.specs.PortState.{OnLane, PortEvent}
 
 abbrev pub took : End → PortEvent → List (List ℕ)
 took A (OnLane (Steps A (Frame frame))) = frame ∷ []

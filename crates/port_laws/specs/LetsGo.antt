@@ -5,9 +5,9 @@ use Rattle.ldc_packet.specs.declared.packet.Subtype.TheVariants.{Ack}
 use Rattle.vio_tag.specs.declared.message.MsgBody.{MsgBody}
 use Rattle.vio_tag.specs.declared.message.MsgBody.TheVariants.{DringData}
 use Rattle.dring.specs.Slots.{range_length}
-use Rattle.channel_laws.specs.Standing.{is_open_in}
-use Rattle.port_model.specs.NetEndState.{NetEndState, NetSession, first_id, opened_session}
-use Rattle.port_model.specs.NetEndTaking.{GoesOn, NetTake, Resets}
+use Rattle.lane_models.specs.Standing.{is_open_in}
+use Rattle.lane_models.specs.NetEndState.{NetEndState, NetSession, first_id, opened_session}
+use Rattle.lane_models.specs.NetEndTaking.{GoesOn, NetTake, Resets}
 
 -- so many frames an ACK names
 abbrev pub acks : ℕ → MsgBody → Subtype → ℕ

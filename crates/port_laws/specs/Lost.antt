@@ -2,9 +2,9 @@
 use Rattle.std.specs.Prelude.{ℕ, ◌+◌, List, [], ◌∷◌}
 use Rattle.ldc_queue.specs.declared.end.End.{End}
 use Rattle.ldc_queue.specs.declared.end.End.TheVariants.{A, B}
-use Rattle.port_model.specs.NetEndStep.{Joined, NetAnswer, Reset}
-use Rattle.port_model.specs.NetEvent.{Asked, Steps, Ticked}
-use Rattle.port_model.specs.PortState.{OnLane, PortEvent}
+use Rattle.lane_models.specs.NetEndStep.{Joined, NetAnswer, Reset}
+use Rattle.lane_models.specs.NetEvent.{Asked, Steps, Ticked}
+use Rattle.lane_models.specs.PortState.{OnLane, PortEvent}
 
 abbrev pub lost_by : NetAnswer → ℕ
 lost_by (Joined lost) = lost

@@ -4,13 +4,13 @@ use Rattle.ldc_link.specs.declared.phase.Role.{Role}
 use Rattle.ldc_link.specs.declared.phase.Role.TheVariants.{Initiator, Responder}
 use Rattle.ldc_queue.specs.declared.end.ChannelState.{ChannelState}
 use Rattle.ldc_queue.specs.declared.end.ChannelState.TheVariants.{Down, Resetting, Up}
-use Rattle.channel_laws.specs.WireEvent.{WireEvent}
-use Rattle.channel_laws.specs.EndCore.{EndCore}
-use Rattle.channel_laws.specs.LaneCore.{Beside, CoreEvent, LaneCore, OnChannel, fresh_core}
-use Rattle.port_model.specs.NetEndState.{NetEndState, NetSession}
-use Rattle.port_model.specs.NetEvent.{NetEvent, on_wire}
-use Rattle.port_model.specs.NetLaneState.{NetLaneState, NetShape}
-use Rattle.port_model.specs.Offers.{port_offer}
+use Rattle.lane_models.specs.WireEvent.{WireEvent}
+use Rattle.lane_models.specs.EndCore.{EndCore}
+use Rattle.lane_models.specs.LaneCore.{Beside, CoreEvent, LaneCore, OnChannel, fresh_core}
+use Rattle.lane_models.specs.NetEndState.{NetEndState, NetSession}
+use Rattle.lane_models.specs.NetEvent.{NetEvent, on_wire}
+use Rattle.lane_models.specs.NetLaneState.{NetLaneState, NetShape}
+use Rattle.lane_models.specs.Offers.{port_offer}
 
 -- Before it takes a packet an end may say so many messages of its session: an answer to groups, an ACK, its groups, and
 -- an INFO.

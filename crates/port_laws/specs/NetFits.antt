@@ -2,7 +2,7 @@
 use Rattle.std.specs.Prelude.{ℕ, ◌≤◌, List, [], ◌∷◌, length, Option, Some, None, ⊤}
 use Rattle.ldc_link.specs.declared.phase.Role.{Role}
 use Rattle.ldc_link.specs.declared.phase.Role.TheVariants.{Initiator, Responder}
-use Rattle.port_model.specs.NetEndState.{GroupsReply, NetEndState, NetSession}
+use Rattle.lane_models.specs.NetEndState.{GroupsReply, NetEndState, NetSession}
 
 abbrev pub AddressesAreShort : List (List ℕ) → Type 0
 AddressesAreShort [] = ⊤

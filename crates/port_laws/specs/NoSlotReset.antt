@@ -1,9 +1,9 @@
 -- No end of a port resets itself for a slot where nobody forged.
 use Rattle.std.specs.Prelude.{◌≡◌, true, None, ⊤}
-use Rattle.port_model.specs.NetEndStep.{Reset}
-use Rattle.port_model.specs.NetEvent.{Steps}
-use Rattle.port_model.specs.PortLog.{PortLog}
-use Rattle.port_model.specs.PortState.{OnLane, PortEvent}
+use Rattle.lane_models.specs.NetEndStep.{Reset}
+use Rattle.lane_models.specs.NetEvent.{Steps}
+use Rattle.lane_models.specs.PortLog.{PortLog}
+use Rattle.lane_models.specs.PortState.{OnLane, PortEvent}
 
 -- a step's reset without a packet, which is for a slot
 abbrev pub NoSlotResetAt : PortLog → PortEvent → Type 0

@@ -2,12 +2,12 @@
 -- holds none.
 use Rattle.std.specs.Prelude.{◌≡◌, false, Some, ⊤}
 use Rattle.ldc_queue.specs.Wire.{peer_of}
-use Rattle.port_model.specs.EndLog.{SessionLog, held}
-use Rattle.port_model.specs.FrameLaws.{InSession}
-use Rattle.port_model.specs.NetEndStep.{Idle}
-use Rattle.port_model.specs.NetEvent.{Steps}
-use Rattle.port_model.specs.PortLog.{PortLog}
-use Rattle.port_model.specs.PortState.{OnLane, PortEvent}
+use Rattle.lane_models.specs.EndLog.{SessionLog, held}
+use Rattle.lane_models.specs.FrameLaws.{InSession}
+use Rattle.lane_models.specs.NetEndStep.{Idle}
+use Rattle.lane_models.specs.NetEvent.{Steps}
+use Rattle.lane_models.specs.PortLog.{PortLog}
+use Rattle.lane_models.specs.PortState.{OnLane, PortEvent}
 
 -- each frame that was published in the session is acknowledged
 abbrev pub AllSeen : SessionLog → Type 0

@@ -1,12 +1,12 @@
 -- No group is left untold where two ends of a port are idle, one directly after the other, and the switch's end knows them all.
 use Rattle.std.specs.Prelude.{◌≡◌, false, Some, ⊤}
 use Rattle.ldc_queue.specs.Wire.{peer_of}
-use Rattle.port_model.specs.EndLog.{SessionLog}
-use Rattle.port_model.specs.FrameLaws.{InSession, ToldAll}
-use Rattle.port_model.specs.NetEndStep.{Idle}
-use Rattle.port_model.specs.NetEvent.{Steps}
-use Rattle.port_model.specs.PortLog.{PortLog}
-use Rattle.port_model.specs.PortState.{OnLane, PortEvent}
+use Rattle.lane_models.specs.EndLog.{SessionLog}
+use Rattle.lane_models.specs.FrameLaws.{InSession, ToldAll}
+use Rattle.lane_models.specs.NetEndStep.{Idle}
+use Rattle.lane_models.specs.NetEvent.{Steps}
+use Rattle.lane_models.specs.PortLog.{PortLog}
+use Rattle.lane_models.specs.PortState.{OnLane, PortEvent}
 
 -- the switch's end has the guest's list
 abbrev pub KnowsAll : PortLog → SessionLog → Type 0

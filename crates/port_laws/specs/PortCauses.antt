@@ -11,12 +11,12 @@ use Rattle.vio_tag.specs.declared.cause.Cause.TheVariants as the_cause
 use Rattle.vio_tag.specs.declared.message.Message.{Message}
 use Rattle.vio_tag.specs.declared.message.MsgBody.{MsgBody}
 use Rattle.vio_tag.specs.declared.message.MsgBody.TheVariants.{DringData, Mcast}
-use Rattle.channel_laws.specs.Ranges.{is_other}
+use Rattle.lane_models.specs.Ranges.{is_other}
 use Rattle.dring.specs.Slots.{range_length}
-use Rattle.channel_laws.specs.PacketCauses.{packet_cause}
-use Rattle.port_model.specs.NetEndState.{NetEndState, NetSession}
-use Rattle.port_model.specs.NetEndTaking.{first_undone}
-use Rattle.port_model.specs.NetLaneState.{NetLaneState, memory_of, net_end, role_at}
+use Rattle.lane_models.specs.PacketCauses.{packet_cause}
+use Rattle.lane_models.specs.NetEndState.{NetEndState, NetSession}
+use Rattle.lane_models.specs.NetEndTaking.{first_undone}
+use Rattle.lane_models.specs.NetLaneState.{NetLaneState, memory_of, net_end, role_at}
 
 -- AN INFO names another ring than the peer's, hasn't the next number, doesn't begin at the next slot, or names an end and not one of the
 -- peer's slots

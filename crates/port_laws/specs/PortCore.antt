@@ -1,7 +1,7 @@
 -- A port with its out queue as two ends on a channel: what the switch puts into the queue is none of the channel's.
 use Rattle.std.specs.Prelude.{List, map}
-use Rattle.channel_laws.specs.LaneCore.{Beside, CoreEvent, LaneCore}
-use Rattle.port_model.specs.PortState.{OnLane, PortEvent, PortState, Receives}
+use Rattle.lane_models.specs.LaneCore.{Beside, CoreEvent, LaneCore}
+use Rattle.lane_models.specs.PortState.{OnLane, PortEvent, PortState, Receives}
 use Rattle.port_laws.specs.NetCore.{core_event, lane_core}
 
 abbrev pub port_core : PortState → LaneCore

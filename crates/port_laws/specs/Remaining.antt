@@ -9,11 +9,11 @@ use Rattle.ldc_link.specs.declared.phase.Role.TheVariants.{Initiator, Responder}
 use Rattle.ldc_queue.specs.declared.end.ChannelState.{ChannelState}
 use Rattle.ldc_queue.specs.declared.end.ChannelState.TheVariants.{Down, Resetting, Up}
 use Rattle.ldc_queue.specs.Wire.{Wire}
-use Rattle.channel_laws.specs.PacketsLeft.{packets_left}
-use Rattle.port_model.specs.NetEndState.{Activity, NetEndState, NetSession, unseen, unseen_in}
-use Rattle.port_model.specs.NetEndTaking.{slot_state}
-use Rattle.port_model.specs.NetLaneState.{NetLaneState}
-use Rattle.port_model.specs.PortState.{PortState}
+use Rattle.lane_models.specs.PacketsLeft.{packets_left}
+use Rattle.lane_models.specs.NetEndState.{Activity, NetEndState, NetSession, unseen, unseen_in}
+use Rattle.lane_models.specs.NetEndTaking.{slot_state}
+use Rattle.lane_models.specs.NetLaneState.{NetLaneState}
+use Rattle.lane_models.specs.PortState.{PortState}
 use Rattle.port_laws.specs.NetCore.{net_core, one_if}
 
 -- A PACKET that an end has still to put

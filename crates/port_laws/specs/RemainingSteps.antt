@@ -2,9 +2,9 @@
 use Rattle.std.specs.Prelude.{◌≡◌, ⊤}
 use Rattle.ldc_queue.specs.declared.end.End.{End}
 use Rattle.ldc_queue.specs.declared.end.End.TheVariants.{A}
-use Rattle.port_model.specs.NetEndStep.{Blocked, Idle, Joined, NetAnswer, Published, Reset, Sent}
-use Rattle.port_model.specs.NetEvent.{Asked, Steps, Ticked}
-use Rattle.port_model.specs.PortState.{OnLane, PortEvent}
+use Rattle.lane_models.specs.NetEndStep.{Blocked, Idle, Joined, NetAnswer, Published, Reset, Sent}
+use Rattle.lane_models.specs.NetEvent.{Asked, Steps, Ticked}
+use Rattle.lane_models.specs.PortState.{OnLane, PortEvent}
 
 -- it takes nothing: it joins, puts a packet, or publishes a frame
 abbrev pub TakesNothing : NetAnswer → Type 0

@@ -6,7 +6,7 @@ use Rattle.vio_bytes.specs.Range.{range_at}
 use Rattle.vnet_msg.specs.declared.desc.NetDesc.{NetDesc}
 use Rattle.vnet_msg.specs.Descriptor.{canonical}
 use Rattle.vnet_msg.specs.Frames.{IsFrame, buffer_place, frame_buffer, frame_desc, moved_size}
-use Rattle.port_model.specs.NetEndTaking.{slot_state}
+use Rattle.lane_models.specs.NetEndTaking.{slot_state}
 
 -- A FRAME IN A SLOT: the slot has its descriptor, in this state, and the slot's buffer its bytes
 abbrev pub desc_in : (state slot size : ℕ) → NetDesc

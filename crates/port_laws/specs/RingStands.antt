@@ -5,11 +5,11 @@ use Rattle.ldc_queue.specs.declared.end.ChannelState.{ChannelState}
 use Rattle.ldc_queue.specs.declared.end.ChannelState.TheVariants.{Down, Resetting, Up}
 use Rattle.ldc_queue.specs.declared.end.End.{End}
 use Rattle.ldc_queue.specs.Wire.{peer_of, state_of}
-use Rattle.channel_laws.specs.WireAt.{IsUp}
-use Rattle.port_model.specs.EndLog.{SessionLog}
-use Rattle.port_model.specs.NetEndState.{NetSession}
-use Rattle.port_model.specs.NetLaneState.{NetLaneState, memory_of, net_end}
-use Rattle.port_model.specs.PortLog.{PortLog, log_of_end}
+use Rattle.lane_models.specs.WireAt.{IsUp}
+use Rattle.lane_models.specs.EndLog.{SessionLog}
+use Rattle.lane_models.specs.NetEndState.{NetSession}
+use Rattle.lane_models.specs.NetLaneState.{NetLaneState, memory_of, net_end}
+use Rattle.lane_models.specs.PortLog.{PortLog, log_of_end}
 use Rattle.port_laws.specs.RingHolds.{RingHolds}
 
 -- so many frames an end took in its open session; one that isn't up took none in the next

@@ -3,14 +3,14 @@
 -- way.
 use Rattle.std.specs.Prelude.{◌≡◌, ◌≢◌, ℕ, ◌+◌, ◌-◌, ◌%◌, ◌<◌, true, false, List, [], ◌∷◌, ◌++◌, Option, Some, None}
 use Rattle.ldc_queue.specs.declared.end.End.TheVariants.{A, B}
-use Rattle.channel_laws.specs.Messages.{end_slot_of, seq_of, start_slot_of}
-use Rattle.channel_laws.specs.Ranges.{wrapped}
-use Rattle.channel_laws.specs.Sayings.{heard, said}
-use Rattle.channel_laws.specs.WireAt.{IsUp}
-use Rattle.port_model.specs.EndLog.{SessionLog, opened_log}
-use Rattle.port_model.specs.NetLaneState.{NetLaneState}
-use Rattle.port_model.specs.PortLog.{PortLog}
-use Rattle.port_model.specs.Spoken.{RangeAck, RangeInfo, Spoken, spoken}
+use Rattle.lane_models.specs.Messages.{end_slot_of, seq_of, start_slot_of}
+use Rattle.lane_models.specs.Ranges.{wrapped}
+use Rattle.lane_models.specs.Sayings.{heard, said}
+use Rattle.lane_models.specs.WireAt.{IsUp}
+use Rattle.lane_models.specs.EndLog.{SessionLog, opened_log}
+use Rattle.lane_models.specs.NetLaneState.{NetLaneState}
+use Rattle.lane_models.specs.PortLog.{PortLog}
+use Rattle.lane_models.specs.Spoken.{RangeAck, RangeInfo, Spoken, spoken}
 
 -- the INFO and the ACK among messages
 abbrev pub info_first : Spoken → List ℕ → List (List ℕ) → List (List ℕ)
@@ -56,4 +56,4 @@ pub record Ways (slots : ℕ) (said_mine heard_mine said_theirs heard_theirs : L
 abbrev pub WaysStand : NetLaneState → PortLog → Type 0
 WaysStand s l =
     IsUp A s.wire.wire → IsUp B s.wire.wire → l.guest.session ≢ None
-    → Ways l.shape.slots (said l.transcript.client) (heard l.transcript.client) (said l.transcript.server) (heard l.transcript.server) (or_new l.guest.session) (or_new l.hub.session)
+    → Ways l.shape.slots (said l.transcript.a) (heard l.transcript.a) (said l.transcript.b) (heard l.transcript.b) (or_new l.guest.session) (or_new l.hub.session)

@@ -4,9 +4,9 @@ ghost use Rattle.std.specs.Prelude.{◌≡◌, ◌+◌, ◌++◌, ◌≤◌, fal
 ghost use Rattle.runs.specs.Lawful.{log_of};
 ghost use Rattle.runs.specs.Run.{Run};
 ghost use Rattle.ldc_queue.specs.declared.end.End.TheVariants.{A, B};
-ghost use Rattle.port_model.specs.NetLaneState.{IsNetShape, NetShape};
-ghost use Rattle.port_model.specs.PortLog.{after, no_events};
-ghost use Rattle.port_model.specs.PortState.{fresh_port, PortEvent, PortState, PortStep};
+ghost use Rattle.lane_models.specs.NetLaneState.{IsNetShape, NetShape};
+ghost use Rattle.lane_models.specs.PortLog.{after, no_events};
+ghost use Rattle.lane_models.specs.PortState.{fresh_port, PortEvent, PortState, PortStep};
 ghost use Rattle.port_laws.specs.InOrder.{frames_taken};
 ghost use Rattle.port_laws.specs.Lost.{frames_lost};
 

@@ -5,10 +5,10 @@ ghost use Rattle.ldc_link.specs.declared.phase.Role.{Role};
 ghost use Rattle.vio_tag.specs.declared.message.Message.{Message};
 ghost use Rattle.vio_tag.specs.Form.{IsWellFormed};
 ghost use Rattle.vio_tag.specs.Spelling.{SpellsMessage};
-ghost use Rattle.port_model.specs.EndLog.{acked_by};
-ghost use Rattle.port_model.specs.NetEndState.{NetEndState, NetSession};
-ghost use Rattle.port_model.specs.NetEndTaking.{hears_message};
-ghost use Rattle.port_model.specs.Spoken.{spoken};
+ghost use Rattle.lane_models.specs.EndLog.{acked_by};
+ghost use Rattle.lane_models.specs.NetEndState.{NetEndState, NetSession};
+ghost use Rattle.lane_models.specs.NetEndTaking.{hears_message};
+ghost use Rattle.lane_models.specs.Spoken.{spoken};
 ghost use Rattle.port_laws.specs.LetsGo.{acks, SessionInOrder, TakeLetsGo, TakeLetsNoneGo};
 
 /// A message that an end takes in session, and doesn't reset itself for, lets exactly those frames go that it

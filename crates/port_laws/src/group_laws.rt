@@ -3,10 +3,10 @@
 ghost use Rattle.std.specs.Prelude.{◌≡◌, List};
 ghost use Rattle.runs.specs.Lawful.{log_of, Lawful};
 ghost use Rattle.runs.specs.Run.{Run};
-ghost use Rattle.port_model.specs.FrameLaws.{GroupsSaidAt, JoiningAt};
-ghost use Rattle.port_model.specs.NetLaneState.{IsNetShape, NetShape};
-ghost use Rattle.port_model.specs.PortLog.{after, no_events};
-ghost use Rattle.port_model.specs.PortState.{fresh_port, PortEvent, PortState, PortStep};
+ghost use Rattle.lane_models.specs.FrameLaws.{GroupsSaidAt, JoiningAt};
+ghost use Rattle.lane_models.specs.NetLaneState.{IsNetShape, NetShape};
+ghost use Rattle.lane_models.specs.PortLog.{after, no_events};
+ghost use Rattle.lane_models.specs.PortState.{fresh_port, PortEvent, PortState, PortStep};
 ghost use Rattle.port_laws.specs.GroupsTold.{told_in};
 
 /// Along every run of a port, forged or not, a guest joins a group exactly where it didn't join it before and joined

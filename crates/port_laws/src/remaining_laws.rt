@@ -2,14 +2,14 @@
 
 ghost use Rattle.std.specs.Prelude.{◌≡◌, ◌*◌, ◌+◌, ◌<◌, ◌≤◌, ◌⊎◌, ℕ, Bool, false, length, List, Option, true};
 ghost use Rattle.runs.specs.Run.{Run};
-ghost use Rattle.channel_laws.specs.WireAt.{IsUp};
+ghost use Rattle.lane_models.specs.WireAt.{IsUp};
 ghost use Rattle.ldc_queue.specs.declared.end.End.{End};
 ghost use Rattle.ldc_queue.specs.declared.end.End.TheVariants.{B};
 ghost use Rattle.vio_tag.specs.declared.cause.Cause.{Cause};
-ghost use Rattle.port_model.specs.NetEndStep.{Frame, NetAnswer, Reset, Took};
-ghost use Rattle.port_model.specs.NetEvent.{Steps, Ticked};
-ghost use Rattle.port_model.specs.NetLaneState.{IsNetShape, NetShape};
-ghost use Rattle.port_model.specs.PortState.{fresh_port, OnLane, PortEvent, PortState, PortStep};
+ghost use Rattle.lane_models.specs.NetEndStep.{Frame, NetAnswer, Reset, Took};
+ghost use Rattle.lane_models.specs.NetEvent.{Steps, Ticked};
+ghost use Rattle.lane_models.specs.NetLaneState.{IsNetShape, NetShape};
+ghost use Rattle.lane_models.specs.PortState.{fresh_port, OnLane, PortEvent, PortState, PortStep};
 ghost use Rattle.port_laws.specs.Crossing.{crossing};
 ghost use Rattle.port_laws.specs.Remaining.{frames_held, frames_kept, remaining};
 ghost use Rattle.port_laws.specs.RemainingSteps.{IsCalm, IsReset, TakesNothing};

@@ -5,14 +5,14 @@ ghost use Rattle.std.specs.Prelude.{◌≡◌, false, length, List, true};
 ghost use Rattle.runs.specs.Lawful.{Lawful};
 ghost use Rattle.runs.specs.Run.{Run};
 ghost use Rattle.ldc_queue.specs.declared.end.End.TheVariants.{A, B};
-ghost use Rattle.port_model.specs.FrameLaws.{OwnResetAt, TickAt, WorksAt};
-ghost use Rattle.port_model.specs.NetEndStep.{NetAnswer};
-ghost use Rattle.port_model.specs.NetEvent.{Steps};
-ghost use Rattle.port_model.specs.NetLaneState.{IsNetShape, NetShape};
-ghost use Rattle.port_model.specs.NetLaneStep.{is_finished};
-ghost use Rattle.port_model.specs.PortLog.{after, no_events};
-ghost use Rattle.port_model.specs.PortState.{fresh_port, OnLane, PortEvent, PortState, PortStep};
-ghost use Rattle.port_model.specs.RestLaws.{IdleAt, TwoIdleAt};
+ghost use Rattle.lane_models.specs.FrameLaws.{OwnResetAt, TickAt, WorksAt};
+ghost use Rattle.lane_models.specs.NetEndStep.{NetAnswer};
+ghost use Rattle.lane_models.specs.NetEvent.{Steps};
+ghost use Rattle.lane_models.specs.NetLaneState.{IsNetShape, NetShape};
+ghost use Rattle.lane_models.specs.NetLaneStep.{is_finished};
+ghost use Rattle.lane_models.specs.PortLog.{after, no_events};
+ghost use Rattle.lane_models.specs.PortState.{fresh_port, OnLane, PortEvent, PortState, PortStep};
+ghost use Rattle.lane_models.specs.RestLaws.{IdleAt, TwoIdleAt};
 ghost use Rattle.port_laws.specs.RemainingSteps.{IsCalm};
 
 /// Along every run of a port, forged or not, only an end whose channel end is up publishes a frame or takes one.

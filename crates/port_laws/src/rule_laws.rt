@@ -3,10 +3,10 @@
 ghost use Rattle.std.specs.Prelude.{◌≡◌, ◌++◌, drop, List};
 ghost use Rattle.runs.specs.Lawful.{log_of, Lawful};
 ghost use Rattle.runs.specs.Run.{Run};
-ghost use Rattle.port_model.specs.FrameLaws.{AcknowledgesAt, AdmissionAt, AnnouncesAt, AsksAt, LostAt, PublishedAt, SeesAt, TakingAt};
-ghost use Rattle.port_model.specs.NetLaneState.{IsNetShape, NetShape};
-ghost use Rattle.port_model.specs.PortLog.{after, no_events};
-ghost use Rattle.port_model.specs.PortState.{fresh_port, PortEvent, PortState, PortStep};
+ghost use Rattle.lane_models.specs.FrameLaws.{AcknowledgesAt, AdmissionAt, AnnouncesAt, AsksAt, LostAt, PublishedAt, SeesAt, TakingAt};
+ghost use Rattle.lane_models.specs.NetLaneState.{IsNetShape, NetShape};
+ghost use Rattle.lane_models.specs.PortLog.{after, no_events};
+ghost use Rattle.lane_models.specs.PortState.{fresh_port, PortEvent, PortState, PortStep};
 
 /// Along every run of a port, forged or not, a frame that is given to the guest is refused for its length exactly where
 /// it hasn't 14 to 1,514 bytes. Else it is refused as one too many exactly where as many are held as the ring has

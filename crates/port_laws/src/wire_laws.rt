@@ -3,12 +3,12 @@
 ghost use Rattle.std.specs.Prelude.{List};
 ghost use Rattle.runs.specs.Lawful.{Lawful};
 ghost use Rattle.runs.specs.Run.{Run};
-ghost use Rattle.channel_laws.specs.WireAt.{WireAnswersAt, WireHeardAt, WireSaidAt, WireTableAt, WireUnforgedAt};
-ghost use Rattle.port_model.specs.FrameLaws.{OpeningsAt};
-ghost use Rattle.port_model.specs.NetLaneState.{IsNetShape, NetShape};
-ghost use Rattle.port_model.specs.PortLog.{after, no_events, PortLog};
-ghost use Rattle.port_model.specs.PortMay.{IsLawfulPort, OfWire, sizes_in};
-ghost use Rattle.port_model.specs.PortState.{fresh_port, PortEvent, PortState, PortStep};
+ghost use Rattle.lane_models.specs.WireAt.{WireAnswersAt, WireHeardAt, WireSaidAt, WireTableAt, WireUnforgedAt};
+ghost use Rattle.lane_models.specs.FrameLaws.{OpeningsAt};
+ghost use Rattle.lane_models.specs.NetLaneState.{IsNetShape, NetShape};
+ghost use Rattle.lane_models.specs.PortLog.{after, no_events, PortLog};
+ghost use Rattle.lane_models.specs.PortMay.{IsLawfulPort, OfWire, sizes_in};
+ghost use Rattle.lane_models.specs.PortState.{fresh_port, PortEvent, PortState, PortStep};
 
 /// Along every run of a port, forged or not, each packet that an end says is canonical and has its number, and messages
 /// are cut into parts rightly.

@@ -1,7 +1,7 @@
 // The groups of a port.
 
 ghost use Rattle.std.specs.Prelude.{◌≡◌, ◌+◌, ◌≤◌, [], ◌∷◌, ◌++◌, length, IfNone, IfSome, None, Some};
-ghost use Rattle.port_model.specs.Groups.{at_most_seven, groups_after, seven, with_groups, without_groups};
+ghost use Rattle.lane_models.specs.Groups.{at_most_seven, groups_after, seven, with_groups, without_groups};
 
 use arrayvec::ArrayVec;
 

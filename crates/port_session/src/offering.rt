@@ -1,8 +1,8 @@
 // What the two ends of a port offer in their handshake.
 
 ghost use Rattle.std.specs.Prelude.{◌≡◌, ◌≤◌, [], ◌∷◌};
-ghost use Rattle.channel_laws.specs.OwnMemory.{filled};
-ghost use Rattle.port_model.specs.Offers.{class_of, device_of, port_offer, ring_cookie};
+ghost use Rattle.lane_models.specs.OwnMemory.{filled};
+ghost use Rattle.lane_models.specs.Offers.{class_of, device_of, port_offer, ring_cookie};
 
 use byteorder::{BigEndian, ByteOrder};
 use ldc_link::Role;

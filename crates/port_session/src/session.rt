@@ -1,10 +1,10 @@
 // An open session.
 
 ghost use Rattle.std.specs.Prelude.{◌≡◌, ◌≢◌, ◌+◌, ◌-◌, ◌%◌, ◌^◌, ◌<◌, ◌≤◌, ◌&&◌, not, nat_le, nat_lt, true, false, None, Some};
-ghost use Rattle.channel_laws.specs.Ranges.{wrapped};
-ghost use Rattle.port_model.specs.NetEndStep.{published};
-ghost use Rattle.port_model.specs.NetEndTaking.{active, replying};
-ghost use Rattle.port_model.specs.NetEndState.{opened_session, unseen_in};
+ghost use Rattle.lane_models.specs.Ranges.{wrapped};
+ghost use Rattle.lane_models.specs.NetEndStep.{published};
+ghost use Rattle.lane_models.specs.NetEndTaking.{active, replying};
+ghost use Rattle.lane_models.specs.NetEndState.{opened_session, unseen_in};
 
 use dring::slot_of;
 use ldc_packet::Subtype;
@@ -20,7 +20,7 @@ pub struct RingActivity {
 }
 
 impl Model for RingActivity {
-    ghost use Rattle.port_model.specs.NetEndState.{Activity};
+    ghost use Rattle.lane_models.specs.NetEndState.{Activity};
 
     ghost Value = { Activity };
 
@@ -39,7 +39,7 @@ pub struct MembershipReply {
 }
 
 impl Model for MembershipReply {
-    ghost use Rattle.port_model.specs.NetEndState.{GroupsReply};
+    ghost use Rattle.lane_models.specs.NetEndState.{GroupsReply};
 
     ghost Value = { GroupsReply };
 
@@ -76,7 +76,7 @@ pub struct PortSession {
 }
 
 impl Model for PortSession {
-    ghost use Rattle.port_model.specs.NetEndState.{NetSession};
+    ghost use Rattle.lane_models.specs.NetEndState.{NetSession};
 
     ghost Value = { NetSession };
 

@@ -4,15 +4,15 @@ use Rattle.std.proofs.lemmas.Bool.{eq-eqb}
 use Rattle.std.specs.Prelude.{◌==◌, ◌&&◌}
 use Rattle.disk_lane.specs.Events.{injected_event, lost_event, poked_event, reset_event, restart_event, start_event, stop_event, tick_event}
 use Rattle.disk_law.specs.ListState.{ImageState}
-use Rattle.world_parts.specs.disk_model.DiskEvent.{Asks, CalmReset, CalmRestart, CalmStart, CalmStop, CalmTick, DiskEvent, OnWire, Calms}
-use Rattle.world_parts.specs.disk_model.DiskEvent as disk
-use Rattle.world_parts.specs.disk_model.LaneState.{LaneState}
-use Rattle.world_parts.specs.disk_model.LaneStep.{LaneStep}
+use Rattle.world_parts.specs.lane_models.DiskEvent.{Asks, CalmReset, CalmRestart, CalmStart, CalmStop, CalmTick, DiskEvent, OnWire, Calms}
+use Rattle.world_parts.specs.lane_models.DiskEvent as disk
+use Rattle.world_parts.specs.lane_models.LaneState.{LaneState}
+use Rattle.world_parts.specs.lane_models.LaneStep.{LaneStep}
 use Rattle.domain_script.specs.LaneKinds.{disk_lane}
 use Rattle.domain_script.specs.declared.event.Side.{Side}
 use Rattle.domain_script.specs.declared.event.Side.TheVariants.{Client, Server}
-use Rattle.world_parts.specs.channel_laws.WireEvent.{Declines, InjectedFull, NothingLost, NotInjected, PokeRefused}
-use Rattle.world_parts.specs.channel_laws.WireEvent as wire
+use Rattle.world_parts.specs.lane_models.WireEvent.{Declines, InjectedFull, NothingLost, NotInjected, PokeRefused}
+use Rattle.world_parts.specs.lane_models.WireEvent as wire
 use Rattle.world_parts.specs.world_laws.Settle.{OfLane, SettleEntry}
 use Rattle.world_parts.specs.domain_laws.Lines.{AnswersCall, AnswersRequest, Asked, Calls, Injects, Line, Loses, Pokes, Resets, Restarts, Starts, Stops, Ticks, DiskLane}
 use Rattle.ldc_queue.specs.declared.end.End.TheVariants.{A, B}

@@ -3,15 +3,15 @@ use Rattle.std.proofs.Common.{◌≡◌, ℕ, ◌≤◌, Bool, true, false, List
 use Rattle.std.proofs.lemmas.List.{length-take}
 use Rattle.disk_law.specs.ListState.{ImageState}
 use Rattle.disk_lane.specs.Events.{ResetsOwn, StoreAfterOf, served_event}
-use Rattle.world_parts.proofs.disk_model.OwnSteps.{server_resets_own}
-use Rattle.world_parts.specs.disk_model.ClientStep.{completed_slot}
-use Rattle.world_parts.specs.disk_model.LaneState.{LaneState}
-use Rattle.world_parts.specs.disk_model.LaneStep.{LaneStep, ResetBy, ServerOnWire, reach}
-use Rattle.world_parts.specs.channel_laws.Seeing.{seen}
-use Rattle.world_parts.specs.disk_model.Served.{Served}
-use Rattle.world_parts.specs.disk_model.ServerRule.{server_rule}
-use Rattle.world_parts.specs.channel_laws.WireEvent as wire
-use Rattle.world_parts.specs.channel_laws.WireEvent.{ByStep, Giver, giver}
+use Rattle.world_parts.proofs.lane_models.OwnSteps.{server_resets_own}
+use Rattle.world_parts.specs.lane_models.ClientStep.{completed_slot}
+use Rattle.world_parts.specs.lane_models.LaneState.{LaneState}
+use Rattle.world_parts.specs.lane_models.LaneStep.{LaneStep, ResetBy, ServerOnWire, reach}
+use Rattle.world_parts.specs.lane_models.Seeing.{seen}
+use Rattle.world_parts.specs.lane_models.Served.{Served}
+use Rattle.world_parts.specs.lane_models.ServerRule.{server_rule}
+use Rattle.world_parts.specs.lane_models.WireEvent as wire
+use Rattle.world_parts.specs.lane_models.WireEvent.{ByStep, Giver, giver}
 use Rattle.world_parts.specs.lane_laws.CalmEnds.{IsStep}
 use Rattle.world_parts.specs.world_laws.World.{LaneMoves}
 use Rattle.ldc_queue.specs.declared.end.End.TheVariants.{A, B}

@@ -1,8 +1,8 @@
 -- What a step leaves in the journal, by its answer: the entry of its event, or none in a settle where it rests.
 use Rattle.std.proofs.Common.{◌≡◌, ℕ, Bool, true, false, ◌||◌, Some, List, [], ◌∷◌, refl, sym, ap, subst, ◌∙◌}
 use Rattle.std.specs.Prelude.{◌&&◌}
-use Rattle.world_parts.specs.disk_model.DiskEvent.{Asks, DiskEvent, Off, OnWire, Switches}
-use Rattle.world_parts.specs.channel_laws.WireEvent as wire
+use Rattle.world_parts.specs.lane_models.DiskEvent.{Asks, DiskEvent, Off, OnWire, Switches}
+use Rattle.world_parts.specs.lane_models.WireEvent as wire
 use Rattle.world_parts.specs.world_laws.DiskKind.{is_calm}
 use Rattle.world_parts.specs.world_laws.Settle.{OfLane, SettleEntry, entry_of}
 use Rattle.world_parts.specs.domain_laws.Lines.{Line}

@@ -2,8 +2,8 @@
 use Rattle.std.proofs.Common.{◌≡◌, ℕ, ◌<◌, List, [], ◌∷◌, ◌++◌, length, slice_get, slice_set, get_or, Some, sym, ap, subst, ◌∙◌}
 use Rattle.disk_law.specs.ListState.{ImageState}
 use Rattle.domain_script.specs.LaneKinds.{disk_lane}
-use Rattle.world_parts.specs.disk_model.DiskEvent.{DiskEvent}
-use Rattle.world_parts.specs.disk_model.LaneState.{LaneState}
+use Rattle.world_parts.specs.lane_models.DiskEvent.{DiskEvent}
+use Rattle.world_parts.specs.lane_models.LaneState.{LaneState}
 use Rattle.world_parts.specs.world_laws.Settle.{OfLane}
 use Rattle.world_parts.specs.domain_laws.Lines.{Line}
 use Rattle.world_parts.specs.world_laws.World.{OneMoves, WorldState, WorldStep}

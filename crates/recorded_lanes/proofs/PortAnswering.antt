@@ -8,12 +8,12 @@ use Rattle.domain_script.specs.declared.event.Lane.{Lane}
 use Rattle.domain_script.specs.declared.event.Side.{Side}
 use Rattle.domain_script.specs.declared.event.Side.TheVariants.{Client}
 use Rattle.world_parts.specs.domain_laws.Lines.{AnswersFrame, AnswersGroup, AnswersPortCall, Call, Calls, Injects, Joins, Line, Loses, PortLane, Pokes, Resets, Sends, Ticks}
-use Rattle.world_parts.specs.port_model.NetEndStep.{Already, BadLength, GroupsFull, Member, Queued}
-use Rattle.world_parts.specs.port_model.NetEndStep as port
-use Rattle.world_parts.specs.port_model.NetEvent.{Asked, CalmTick, Declines, Gives, NetEvent, Ticked}
-use Rattle.world_parts.specs.port_model.NetEvent as net
-use Rattle.world_parts.specs.port_model.PortState.{OnLane, PortState}
-use Rattle.world_parts.specs.channel_laws.WireEvent.{InjectedFull, NothingLost, NotInjected, PokeRefused}
+use Rattle.world_parts.specs.lane_models.NetEndStep.{Already, BadLength, GroupsFull, Member, Queued}
+use Rattle.world_parts.specs.lane_models.NetEndStep as port
+use Rattle.world_parts.specs.lane_models.NetEvent.{Asked, CalmTick, Declines, Gives, NetEvent, Ticked}
+use Rattle.world_parts.specs.lane_models.NetEvent as net
+use Rattle.world_parts.specs.lane_models.PortState.{OnLane, PortState}
+use Rattle.world_parts.specs.lane_models.WireEvent.{InjectedFull, NothingLost, NotInjected, PokeRefused}
 use Rattle.kept_requests.specs.Bytes.{BytesState, filled}
 use Rattle.lane_kinds.specs.Lanes.{AllStep, EntryOf, own_or}
 use Rattle.runs.specs.Run.{Run}

@@ -5,8 +5,8 @@ use Rattle.std.specs.Prelude.{◌&&◌}
 use Rattle.domain_script.specs.declared.event.Side.{Side}
 use Rattle.domain_script.specs.declared.event.Side.TheVariants.{Client, Server}
 use Rattle.world_parts.specs.domain_laws.Lines.{Line}
-use Rattle.world_parts.specs.port_model.NetEndStep.{Frame}
-use Rattle.world_parts.specs.port_model.NetEvent.{Steps}
+use Rattle.world_parts.specs.lane_models.NetEndStep.{Frame}
+use Rattle.world_parts.specs.lane_models.NetEvent.{Steps}
 use Rattle.domain_script.specs.declared.event.EndName.{EndName}
 use Rattle.domain_script.specs.declared.fields.LaneKind.{LaneKind}
 use Rattle.domain_script.specs.declared.fields.LaneKind.TheVariants as kinds

@@ -3,9 +3,9 @@ use Rattle.std.proofs.Common.{◌≡◌, ℕ, ◌+◌, ◌-◌, ◌^◌, ◌<◌
 use Rattle.std.proofs.lemmas.Bool.{and_parts}
 use Rattle.std.specs.Prelude.{◌&&◌, if◌then◌else◌}
 use Rattle.world_parts.proofs.domain_laws.Running.{ports_many}
-use Rattle.world_parts.specs.domain_laws.Domain.{IsOwn, PortsStep}
+use Rattle.world_parts.specs.domain_laws.Domain.{IsOwnEvent, PortsStep}
 use Rattle.world_parts.specs.domain_laws.Lines.{Line, Nothing}
-use Rattle.world_parts.specs.port_model.PortState.{PortState}
+use Rattle.world_parts.specs.lane_models.PortState.{PortState}
 use Rattle.ldc_queue.specs.declared.end.End.{End}
 use Rattle.ldc_queue.specs.declared.end.End.TheVariants.{A, B}
 use Rattle.ldom_entries.specs.JournalState.{JournalState}
@@ -15,7 +15,7 @@ use Rattle.lane_kinds.specs.Lanes.{EntryOf}
 use Rattle.switched_ports.specs.net_lane.Stepping.{net_answer}
 use Rattle.switched_ports.specs.net_lane.net_out.NetOut.{NetOut}
 use Rattle.switched_ports.specs.net_lane.net_out.NetOut.TheVariants as out
-use Rattle.world_parts.specs.port_model.NetEndStep.{Frame, NetAnswer}
+use Rattle.world_parts.specs.lane_models.NetEndStep.{Frame, NetAnswer}
 use Rattle.world_parts.specs.switch_laws.Events.{SwitchEvent}
 use Rattle.world_parts.specs.switch_laws.Ports.{IsStepOf, is_silent, ports as kind}
 use Rattle.switched_ports.proofs.Entries.{below_later}
@@ -38,7 +38,7 @@ step_of_end A answer sets = refl
 step_of_end B (Frame frame) (Some sets) = tt
 step_of_end B answer sets = refl
 
-own_event : (e : End) (answer : NetAnswer) (sets : Option Sets) → IsOwn (step_event e answer sets)
+own_event : (e : End) (answer : NetAnswer) (sets : Option Sets) → IsOwnEvent (step_event e answer sets)
 own_event A answer sets = tt
 own_event B (Frame frame) (Some sets) = tt
 own_event B answer sets = tt

@@ -1,8 +1,8 @@
 -- Whether an entry of one lane's event tells that a request was accepted: by what it means.
 use Rattle.std.proofs.Common.{◌≡◌, ℕ, ◌+◌, Bool, true, false, cond, Some, refl, sym, subst, arith}
 use Rattle.std.specs.Prelude.{⊤}
-use Rattle.world_parts.specs.disk_model.DiskEvent.{Asks, DiskEvent}
-use Rattle.world_parts.specs.disk_model.DiskEvent as disk
+use Rattle.world_parts.specs.lane_models.DiskEvent.{Asks, DiskEvent}
+use Rattle.world_parts.specs.lane_models.DiskEvent as disk
 use Rattle.world_parts.specs.world_laws.Settle.{OfLane, SettleEntry}
 use Rattle.world_parts.specs.domain_laws.Lines.{Line}
 use Rattle.ldom_report.specs.LaneEvents.{AtLane, AtPort, AtServer, AtWire, ChangesNothing, LeavesNothing, LeavesOver, Meaning, NoRoomFor, Publishes, Refuses, Switches, TakesFrame, meaning}

@@ -2,8 +2,8 @@
 use Rattle.std.specs.Prelude.{◌≡◌, ℕ, Bool, true, false, ◌&&◌, Some}
 use Rattle.ldc_queue.specs.declared.end.End.{End}
 use Rattle.disk_law.specs.ListState.{ImageState}
-use Rattle.world_parts.specs.disk_model.DiskEvent.{DiskEvent}
-use Rattle.world_parts.specs.disk_model.LaneState.{LaneState}
+use Rattle.world_parts.specs.lane_models.DiskEvent.{DiskEvent}
+use Rattle.world_parts.specs.lane_models.LaneState.{LaneState}
 use Rattle.world_parts.specs.lane_laws.CalmEnds.{IsStep}
 use Rattle.world_parts.specs.world_laws.DiskKind.{is_calm}
 use Rattle.world_parts.specs.world_laws.Settle.{OfLane}

@@ -4,7 +4,7 @@ use Rattle.ldc_queue.specs.declared.end.End.{End}
 use Rattle.switched_ports.specs.net_lane.net_out.NetOut.{NetOut}
 use Rattle.switched_ports.specs.net_lane.net_out.NetOut.TheVariants as out
 use Rattle.world_parts.specs.domain_laws.Domain.{PortsStep}
-use Rattle.world_parts.specs.port_model.PortState.{PortState}
+use Rattle.world_parts.specs.lane_models.PortState.{PortState}
 use Rattle.world_parts.specs.domain_laws.Lines.{Line}
 use Rattle.world_parts.specs.switch_laws.Events.{SwitchEvent}
 use Rattle.world_parts.specs.switch_laws.Ports.{IsStepOf, is_calm, is_silent}

@@ -1,7 +1,7 @@
 -- Which answers of an end's step rest, and which find no room; and which events a settle leaves out.
 use Rattle.std.specs.Prelude.{Bool, true, false}
-use Rattle.world_parts.specs.disk_model.DiskEvent.{DiskEvent, Off, OnWire, Switches}
-use Rattle.world_parts.specs.channel_laws.WireEvent.{Idle}
+use Rattle.world_parts.specs.lane_models.DiskEvent.{DiskEvent, Off, OnWire, Switches}
+use Rattle.world_parts.specs.lane_models.WireEvent.{Idle}
 use Rattle.disk_lane.specs.vdisk_client.declared.answers.ClientOut.{ClientOut}
 use Rattle.disk_lane.specs.vdisk_client.declared.answers.ClientOut.TheVariants as client_out
 use Rattle.disk_lane.specs.answers.ServerOut.{ServerOut}

@@ -2,7 +2,7 @@
 
 ghost use Rattle.std.specs.Prelude.{◌≡◌, ◌≤◌, ◌<◌, ◌||◌, [], length, true};
 ghost use Rattle.disk_lane.specs.Events.{answered, served_event};
-ghost use Rattle.world_parts.specs.disk_model.DiskEvent.{Off, Switches};
+ghost use Rattle.world_parts.specs.lane_models.DiskEvent.{Off, Switches};
 ghost use Rattle.domain_script.specs.declared.event.Side.TheVariants.{Client, Server};
 ghost use Rattle.domain_script.specs.LaneKinds.{disk_lane};
 ghost use Rattle.ldom_report.specs.LaneEvents.{end_of};

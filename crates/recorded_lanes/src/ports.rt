@@ -16,7 +16,7 @@ pub struct PortLanes {
 
 impl Model for PortLanes {
     ghost use Rattle.std.specs.Prelude.{List};
-    ghost use Rattle.world_parts.specs.port_model.PortState.{PortState};
+    ghost use Rattle.world_parts.specs.lane_models.PortState.{PortState};
 
     ghost Value = { List PortState };
 

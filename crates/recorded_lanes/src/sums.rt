@@ -1,7 +1,7 @@
 // What is left to do on the lanes of disks.
 
 ghost use Rattle.std.specs.Prelude.{◌≡◌, ◌*◌, ◌<◌, ◌≤◌, ◌^◌, length, slice_get, Some};
-ghost use Rattle.world_parts.specs.disk_model.LaneState.{LaneState};
+ghost use Rattle.world_parts.specs.lane_models.LaneState.{LaneState};
 ghost use Rattle.world_parts.specs.world_laws.DiskKind.{waits_on};
 ghost use Rattle.world_parts.specs.world_laws.Settle.{pending_on};
 

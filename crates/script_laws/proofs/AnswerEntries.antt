@@ -2,11 +2,11 @@
 -- before it are entries of lanes, and no part of a line begins with a name.
 use Rattle.std.proofs.Common.{◌≡◌, ◌⊎◌, inl, inr, ◌≤◌, Bool, true, false, Some, List, [], ◌∷◌, ◌++◌, length, map, refl, sym, ap, ◌∙◌, subst, arith}
 use Rattle.std.specs.Prelude.{⊤}
-use Rattle.world_parts.specs.disk_model.DiskEvent.{DiskEvent}
+use Rattle.world_parts.specs.lane_models.DiskEvent.{DiskEvent}
 use Rattle.ldom_entries.specs.declared.entry.Entry.{Entry}
 use Rattle.ldom_report.specs.LaneEvents.{AtLane, AtPort, AtServer, AtWire, ChangesNothing, LeavesNothing, LeavesOver, Meaning, NoRoomFor, Publishes, Refuses, Switches, TakesFrame, meaning}
 use Rattle.lane_kinds.specs.Settles.{SettlePart}
-use Rattle.world_parts.specs.port_model.PortState.{OnLane, Receives}
+use Rattle.world_parts.specs.lane_models.PortState.{OnLane, Receives}
 use Rattle.world_parts.specs.switch_laws.Events.{OnPort, Switched}
 use Rattle.world_parts.specs.world_laws.Settle.{OfLane, OfPort, SettleEntry, Settled, Unsettled, UnsettledPort}
 use Rattle.world_parts.proofs.domain_laws.LineEntries.{EachEntry}

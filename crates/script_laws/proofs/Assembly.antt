@@ -20,7 +20,7 @@ use Rattle.script_laws.specs.Going.{RunAt, RunsAll, RunsLines, run_at}
 use Rattle.ldom_report.specs.Stops.{IsReaders}
 use Rattle.script_laws.specs.Attached.{AreOpening, AttachesAt, ImageStands, is_opening}
 use Rattle.script_laws.specs.Behind.{StandsBehind}
-use Rattle.script_laws.specs.Opening.{Opened, Opens, OpensAndStops}
+use Rattle.script_laws.specs.Opening.{OpensOrStops, Opens, OpensAndStops}
 use Rattle.world_parts.specs.Lines.{EventStep, line_of}
 use Rattle.world_parts.specs.Parts.{Fits, FitsSoFar}
 use Rattle.ldom_report.specs.LinesEnd.{counted_lines}
@@ -404,7 +404,7 @@ module _ {D : Type 0} (seen : D → ImageState) (start now : Option (List ℕ)) 
 
   -- one whose image couldn't be attached, or for whose lanes there was no memory
   pub replayed_refused : (fault : AttachFault) (reader : LinesState) (first : Option Event) (names : NamesState)
-      → Opened start reader now first names → Replayed seen start now gives (attach_status fault) reader.number names [] None None
+      → OpensOrStops start reader now first names → Replayed seen start now gives (attach_status fault) reader.number names [] None None
   replayed_refused fault reader None names opened =
       let parts : ScriptParts = declared_parts opened.opening in
       record {
@@ -446,7 +446,7 @@ module _ {D : Type 0} (seen : D → ImageState) (start now : Option (List ℕ)) 
 
   -- one whose image is too short
   pub replayed_short : (need have : ℕ) (reader : LinesState) (first : Option Event) (names : NamesState) (image : D) → seen image ≡ (start_of names gives).first.image
-      → Opened start reader now first names → Replayed seen start now gives (status.ImageSize need have) reader.number names [] (Some image) None
+      → OpensOrStops start reader now first names → Replayed seen start now gives (status.ImageSize need have) reader.number names [] (Some image) None
   replayed_short need have reader None names image told opened =
       let parts : ScriptParts = declared_parts opened.opening in
       record {

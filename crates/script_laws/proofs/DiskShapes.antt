@@ -1,6 +1,6 @@
 -- The shapes of declared disks.
 use Rattle.std.proofs.Common.{◌≡◌, ℕ, zero, suc, ◌+◌, ◌*◌, ◌≤◌, Option, Some, None, IfSome, List, [], ◌∷◌, length, map, slice_get, refl, ap, arith}
-use Rattle.world_parts.specs.disk_model.LaneState.{IsShape, LaneState, Shape, fresh}
+use Rattle.world_parts.specs.lane_models.LaneState.{IsShape, LaneState, Shape, fresh}
 use Rattle.domain_script.specs.declared.event.DiskDecl.{DiskDecl}
 use Rattle.domain_script.specs.Declarations.{AreDisks, IsDisk}
 use Rattle.world_parts.specs.world_laws.World.{AreShapes, blocks_in}

@@ -7,7 +7,7 @@ use Rattle.vdisk_msg.specs.declared.request.Request.{Request}
 use Rattle.disk_law.specs.ListStep as plain
 use Rattle.disk_law.specs.ListStep.{Carries}
 use Rattle.world_parts.specs.lane_laws.DiskLog.{DiskLog, after}
-use Rattle.world_parts.specs.disk_model.DiskEvent.{Accepted, Asks, Calms, Desc, DiskEvent, Done, Finished, Full, Misplaced, Moved, OnWire, Published, Refused, Stored, Switches, Works}
+use Rattle.world_parts.specs.lane_models.DiskEvent.{Accepted, Asks, Calms, Desc, DiskEvent, Done, Finished, Full, Misplaced, Moved, OnWire, Published, Refused, Stored, Switches, Works}
 use Rattle.world_parts.proofs.world_laws.Counted.{count_more}
 use Rattle.world_parts.proofs.world_laws.LawFacts.{clean_before}
 use Rattle.world_parts.specs.world_laws.Failures.{is_failed_done}

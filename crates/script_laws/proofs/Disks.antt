@@ -2,9 +2,9 @@
 use Rattle.std.proofs.Common.{◌≡◌, ℕ, ◌≤◌, false, List, ◌∷◌, ◌++◌, length, slice_get, Some, IfSome, ap, ◌∙◌, subst}
 use Rattle.runs.specs.Run.{Run, run_split}
 use Rattle.disk_law.specs.ListState.{ImageState}
-use Rattle.world_parts.specs.disk_model.DiskEvent.{Done, Works}
-use Rattle.world_parts.specs.disk_model.LaneState.{IsShape, LaneState, Shape, fresh}
-use Rattle.world_parts.specs.disk_model.LaneStep.{LaneStep}
+use Rattle.world_parts.specs.lane_models.DiskEvent.{Done, Works}
+use Rattle.world_parts.specs.lane_models.LaneState.{IsShape, LaneState, Shape, fresh}
+use Rattle.world_parts.specs.lane_models.LaneStep.{LaneStep}
 use Rattle.domain_script.specs.Declarations.{AreDisks}
 use Rattle.domain_script.specs.declared.event.DiskDecl.{DiskDecl}
 use Rattle.world_parts.specs.world_laws.Along.{happened}
@@ -16,8 +16,8 @@ use Rattle.world_parts.proofs.world_laws.Along.{lane_at, lanes_run, shape_at}
 use Rattle.world_parts.proofs.world_laws.LaneLists.{each_there}
 use Rattle.world_parts.specs.world_laws.World.{IsWorld, WorldState, WorldStep, fresh_world}
 use Rattle.world_parts.specs.domain_laws.Domain.{DomainState}
-use Rattle.world_parts.specs.port_model.NetLaneState.{NetShape}
-use Rattle.world_parts.specs.channel_laws.WireLog.{WireLog}
+use Rattle.world_parts.specs.lane_models.NetLaneState.{NetShape}
+use Rattle.world_parts.specs.lane_models.WireLog.{WireLog}
 use Rattle.world_parts.proofs.lane_laws.AgreementRuns.{run_agrees}
 use Rattle.world_parts.proofs.world_laws.Forging.{forged_by_events}
 use Rattle.script_laws.proofs.Failing.{fails_by_events}

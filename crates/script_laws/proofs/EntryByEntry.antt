@@ -5,15 +5,15 @@ use Rattle.vio_tag.specs.declared.cause.Cause.{Cause}
 use Rattle.std.specs.Prelude.{⊤}
 use Rattle.ldc_queue.specs.declared.end.End.TheVariants.{A}
 use Rattle.vdisk_msg.specs.Requests.{BadCount, BadRange}
-use Rattle.world_parts.specs.channel_laws.WireEvent.{Reset}
-use Rattle.world_parts.specs.disk_model.DiskEvent.{Asks, DiskEvent, Done, Full, OnWire, Refused, Works}
+use Rattle.world_parts.specs.lane_models.WireEvent.{Reset}
+use Rattle.world_parts.specs.lane_models.DiskEvent.{Asks, DiskEvent, Done, Full, OnWire, Refused, Works}
 use Rattle.domain_script.specs.declared.event.DiskDecl.{DiskDecl}
 use Rattle.domain_script.specs.declared.event.Lane.{Lane}
 use Rattle.domain_script.specs.declared.event.Side.{Side}
 use Rattle.domain_script.specs.declared.event.Side.TheVariants.{Client, Server}
 use Rattle.world_parts.specs.world_laws.Settle.{OfLane, OfPort, SettleEntry, UnsettledPort}
-use Rattle.world_parts.specs.port_model.NetEndStep.{Frame}
-use Rattle.world_parts.specs.port_model.NetEvent.{Steps}
+use Rattle.world_parts.specs.lane_models.NetEndStep.{Frame}
+use Rattle.world_parts.specs.lane_models.NetEvent.{Steps}
 use Rattle.world_parts.specs.switch_laws.Events.{Switched}
 use Rattle.world_parts.proofs.domain_laws.LineEntries.{EachEntry}
 use Rattle.world_parts.specs.domain_laws.Lines.{Asked, Calls, Joins, Line, Sends}

@@ -5,12 +5,12 @@ use Rattle.std.specs.Prelude.{⊤}
 use Rattle.std.proofs.lemmas.Bool.{eqb-true}
 use Rattle.vdisk_msg.specs.declared.request.Request.{Request}
 use Rattle.disk_law.specs.ListStep as plain
-use Rattle.world_parts.specs.channel_laws.WireEvent.{Declined, Declines, InjectedFull, PokeRefused}
-use Rattle.world_parts.specs.disk_model.DiskEvent.{Accepted, Asks, DiskEvent, Done, Full, OnWire, Refused, Works}
+use Rattle.world_parts.specs.lane_models.WireEvent.{Declined, Declines, InjectedFull, PokeRefused}
+use Rattle.world_parts.specs.lane_models.DiskEvent.{Accepted, Asks, DiskEvent, Done, Full, OnWire, Refused, Works}
 use Rattle.disk_law.specs.Requests.{Defect}
-use Rattle.world_parts.specs.port_model.NetEndStep.{BadLength, GroupsFull}
-use Rattle.world_parts.specs.port_model.NetEndStep as net_end
-use Rattle.world_parts.specs.port_model.NetEvent.{Gives, Joins as JoinsGroup, NetEvent}
+use Rattle.world_parts.specs.lane_models.NetEndStep.{BadLength, GroupsFull}
+use Rattle.world_parts.specs.lane_models.NetEndStep as net_end
+use Rattle.world_parts.specs.lane_models.NetEvent.{Gives, Joins as JoinsGroup, NetEvent}
 use Rattle.world_parts.specs.world_laws.Settle.{OfLane, SettleEntry}
 use Rattle.domain_script.specs.declared.event.Event.{Event}
 use Rattle.domain_script.specs.declared.event.Event.TheVariants as line

@@ -9,9 +9,9 @@ use Rattle.lane_kinds.proofs.Moving.{many_moved}
 use Rattle.lane_kinds.proofs.Places.{get_within}
 use Rattle.lane_kinds.specs.Both.{Two}
 use Rattle.lane_kinds.specs.Settles.{GoesOn, RunsOut, TicksBehind, begin, entries_of_rounds}
-use Rattle.world_parts.specs.disk_model.DiskEvent.{DiskEvent}
-use Rattle.world_parts.specs.disk_model.LaneState.{LaneState}
-use Rattle.world_parts.specs.port_model.PortState.{PortState}
+use Rattle.world_parts.specs.lane_models.DiskEvent.{DiskEvent}
+use Rattle.world_parts.specs.lane_models.LaneState.{LaneState}
+use Rattle.world_parts.specs.lane_models.PortState.{PortState}
 use Rattle.world_parts.proofs.switch_laws.PortTurns.{silent_calm}
 use Rattle.world_parts.specs.switch_laws.Events.{SwitchEvent}
 use Rattle.world_parts.specs.switch_laws.Ports.{ports, waits_on as port_waits}

@@ -1,9 +1,9 @@
 -- A disk's state says whether a call of its store failed, and so do its events.
 use Rattle.std.proofs.Common.{◌≡◌, ◌↔◌, false, List, [], ◌∷◌, sym, ap, ◌∙◌, arith}
 use Rattle.runs.specs.Run.{Run}
-use Rattle.world_parts.specs.disk_model.DiskEvent.{DiskEvent}
-use Rattle.world_parts.specs.disk_model.LaneState.{LaneState, Shape, fresh}
-use Rattle.world_parts.specs.disk_model.LaneStep.{LaneStep}
+use Rattle.world_parts.specs.lane_models.DiskEvent.{DiskEvent}
+use Rattle.world_parts.specs.lane_models.LaneState.{LaneState, Shape, fresh}
+use Rattle.world_parts.specs.lane_models.LaneStep.{LaneStep}
 use Rattle.world_parts.proofs.lane_laws.FailedRuns.{failed_before, stored_well}
 use Rattle.script_laws.specs.Contents.{NoStoreFailed}
 use Rattle.world_parts.proofs.world_laws.FailedStays.{failed_stays}

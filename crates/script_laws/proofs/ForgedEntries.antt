@@ -1,8 +1,8 @@
 -- A journal that forges a disk nowhere tells its lane of nothing that forges.
 use Rattle.std.proofs.Common.{◌≡◌, ℕ, ◌==◌, if◌then◌else◌, Bool, true, false, List, [], ◌∷◌, ◌++◌, Option, Some, None, option_map, refl}
 use Rattle.std.proofs.lemmas.Bool.{eqb-true}
-use Rattle.world_parts.specs.channel_laws.WireEvent.{Injected, Poked, WireEvent}
-use Rattle.world_parts.specs.disk_model.DiskEvent.{DiskEvent, OnWire}
+use Rattle.world_parts.specs.lane_models.WireEvent.{Injected, Poked, WireEvent}
+use Rattle.world_parts.specs.lane_models.DiskEvent.{DiskEvent, OnWire}
 use Rattle.domain_script.specs.declared.event.Lane.{Lane}
 use Rattle.domain_script.specs.LaneKinds.{disk_of, port_of}
 use Rattle.ldom_entries.specs.declared.entry.Entry.{Entry}

@@ -9,7 +9,7 @@ use Rattle.script_laws.proofs.Untold.{real_unsettled, real_unsettled_port}
 use Rattle.world_parts.proofs.world_laws.Along.{lanes_run}
 use Rattle.world_parts.specs.domain_laws.Domain.{DomainState}
 use Rattle.lane_kinds.specs.Lanes.{EachOf}
-use Rattle.world_parts.specs.port_model.NetLaneState.{IsNetShape, NetShape}
+use Rattle.world_parts.specs.lane_models.NetLaneState.{IsNetShape, NetShape}
 use Rattle.script_laws.proofs.ReachedLanes.{AreLanes}
 use Rattle.script_laws.proofs.PortsAlong.{many_ports, ports_stand}
 use Rattle.script_laws.proofs.NamedExactly.{names_exactly}

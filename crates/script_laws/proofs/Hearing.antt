@@ -3,22 +3,22 @@ use Rattle.std.proofs.Common.{◌≡◌, false, List, sym, subst, arith}
 use Rattle.runs.specs.Lawful.{log_of}
 use Rattle.runs.specs.Run.{Run}
 use Rattle.world_parts.specs.lane_laws.DiskLog.{after, nothing_yet}
-use Rattle.world_parts.specs.disk_model.DiskEvent.{DiskEvent}
-use Rattle.world_parts.specs.disk_model.LaneState.{IsShape, LaneState, Shape, fresh}
-use Rattle.world_parts.specs.disk_model.LaneStep.{LaneStep}
+use Rattle.world_parts.specs.lane_models.DiskEvent.{DiskEvent}
+use Rattle.world_parts.specs.lane_models.LaneState.{IsShape, LaneState, Shape, fresh}
+use Rattle.world_parts.specs.lane_models.LaneStep.{LaneStep}
 use Rattle.world_parts.proofs.lane_laws.LaneCores.{transcript_is}
 use Rattle.world_parts.proofs.lane_laws.HeardFront.{heard_messages, heard_packets}
-use Rattle.world_parts.specs.channel_laws.TranscriptLog.{TranscriptLog, transcript_of}
-use Rattle.world_parts.specs.channel_laws.WireAt.{IsUp}
-use Rattle.world_parts.specs.channel_laws.WireLog.{WireLog}
-use Rattle.channel_laws.proofs.ConversingRuns as core
+use Rattle.world_parts.specs.lane_models.TranscriptLog.{TranscriptLog, transcript_of}
+use Rattle.world_parts.specs.lane_models.WireAt.{IsUp}
+use Rattle.world_parts.specs.lane_models.WireLog.{WireLog}
+use Rattle.lane_models.proofs.ConversingRuns as core
 use Rattle.world_parts.proofs.port_laws.CoreLaws.{port_front, sizes_fit}
 use Rattle.world_parts.proofs.port_laws.PortRuns.{fresh_port_core, spoken_behind}
 use Rattle.world_parts.specs.port_laws.PortCore.{port_core, port_events}
-use Rattle.world_parts.specs.port_model.NetLaneState.{IsNetShape, NetShape, role_at}
-use Rattle.world_parts.specs.port_model.Offers.{port_offer}
-use Rattle.world_parts.specs.port_model.PortLog.{PortLog, after as port_after, no_events}
-use Rattle.world_parts.specs.port_model.PortState.{PortEvent, PortState, PortStep, fresh_port}
+use Rattle.world_parts.specs.lane_models.NetLaneState.{IsNetShape, NetShape, role_at}
+use Rattle.world_parts.specs.lane_models.Offers.{port_offer}
+use Rattle.world_parts.specs.lane_models.PortLog.{PortLog, after as port_after, no_events}
+use Rattle.world_parts.specs.lane_models.PortState.{PortEvent, PortState, PortStep, fresh_port}
 use Rattle.ldc_queue.specs.declared.end.End.{End}
 use Rattle.ldc_queue.specs.declared.end.End.TheVariants.{A, B}
 use Rattle.ldc_queue.specs.OneStream.{IsFront}

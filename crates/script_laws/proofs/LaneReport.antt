@@ -9,9 +9,9 @@ use Rattle.std.proofs.lemmas.List.Sums.{sum_by-append}
 use Rattle.ldc_queue.specs.declared.end.End.{End}
 use Rattle.ldc_queue.specs.declared.end.End.TheVariants.{A, B}
 use Rattle.vdisk_msg.specs.Requests.{BadCount, BadRange, Defect}
-use Rattle.world_parts.specs.channel_laws.WireEvent.{Reset}
+use Rattle.world_parts.specs.lane_models.WireEvent.{Reset}
 use Rattle.disk_law.proofs.Counted.{completed-append}
-use Rattle.world_parts.specs.disk_model.DiskEvent.{Asks, Done, Full, OnWire, Refused, Works}
+use Rattle.world_parts.specs.lane_models.DiskEvent.{Asks, Done, Full, OnWire, Refused, Works}
 use Rattle.domain_script.specs.declared.event.DiskDecl.{DiskDecl}
 use Rattle.domain_script.specs.LaneKinds.{disk_lane}
 use Rattle.domain_script.specs.declared.event.Side.{Side}

@@ -5,7 +5,7 @@ use Rattle.runs.specs.Run.{Run, run_append}
 use Rattle.disk_law.specs.ListState.{ImageState}
 use Rattle.domain_script.specs.declared.event.DiskDecl.{DiskDecl}
 use Rattle.domain_script.specs.declared.event.Event.{Event}
-use Rattle.world_parts.specs.port_model.NetLaneState.{NetShape}
+use Rattle.world_parts.specs.lane_models.NetLaneState.{NetShape}
 use Rattle.world_parts.specs.world_laws.Settle.{SettleEntry, Settled, Unsettled, UnsettledPort}
 use Rattle.world_parts.specs.world_laws.World.{WorldStep, fresh_world}
 use Rattle.world_parts.proofs.domain_laws.LineEntries.{each_in}

@@ -14,7 +14,7 @@ use Rattle.domain_script.specs.declared.fields.LaneKind.{LaneKind}
 use Rattle.domain_script.specs.declared.fields.LaneKind.TheVariants as kinds
 use Rattle.domain_script.specs.NamesState.{NamesState, count_of, noted}
 use Rattle.domain_script.specs.Spells.{IsDeclared}
-use Rattle.world_parts.specs.disk_model.LaneState.{LaneState}
+use Rattle.world_parts.specs.lane_models.LaneState.{LaneState}
 use Rattle.lane_kinds.specs.Fronts.{SettleFront}
 use Rattle.lane_kinds.specs.Settles.{begin}
 use Rattle.world_parts.specs.world_laws.Begun.{RoundFront}

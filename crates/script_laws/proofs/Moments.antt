@@ -2,11 +2,11 @@
 use Rattle.std.proofs.Common.{◌≡◌, ℕ, false, List, ◌++◌, ap, ◌∙◌, subst}
 use Rattle.runs.specs.Lawful.{log_of}
 use Rattle.runs.specs.Run.{Run, run_split}
-use Rattle.world_parts.specs.disk_model.DiskEvent.{DiskEvent}
+use Rattle.world_parts.specs.lane_models.DiskEvent.{DiskEvent}
 use Rattle.world_parts.specs.lane_laws.DiskLog.{after, nothing_yet}
-use Rattle.world_parts.specs.disk_model.LaneState.{IsShape, LaneState, Shape, fresh}
-use Rattle.world_parts.specs.disk_model.LaneStep.{LaneStep}
-use Rattle.world_parts.specs.channel_laws.WireLog.{WireLog}
+use Rattle.world_parts.specs.lane_models.LaneState.{IsShape, LaneState, Shape, fresh}
+use Rattle.world_parts.specs.lane_models.LaneStep.{LaneStep}
+use Rattle.world_parts.specs.lane_models.WireLog.{WireLog}
 use Rattle.world_parts.proofs.lane_laws.AgreementRuns.{run_agrees}
 use Rattle.world_parts.proofs.lane_laws.CountsFollow.{counts_in_turn}
 use Rattle.world_parts.proofs.lane_laws.NearOrder.{near_in_order}

@@ -12,11 +12,11 @@ use Rattle.lane_kinds.proofs.LaneFronts.{of_both}
 use Rattle.lane_kinds.proofs.Places.{map_both}
 use Rattle.lane_kinds.specs.Settles.{RunsOut, SettlePart, entries_of_rounds}
 use Rattle.world_parts.proofs.lane_laws.AgreementRuns.{run_agrees}
-use Rattle.world_parts.specs.disk_model.ClientState.{is_finished}
-use Rattle.world_parts.specs.disk_model.DiskEvent.{DiskEvent}
-use Rattle.world_parts.specs.disk_model.LaneState.{IsShape, LaneState, Shape, fresh}
-use Rattle.world_parts.specs.disk_model.LaneStep.{LaneStep}
-use Rattle.world_parts.specs.port_model.NetLaneState.{NetShape}
+use Rattle.world_parts.specs.lane_models.ClientState.{is_finished}
+use Rattle.world_parts.specs.lane_models.DiskEvent.{DiskEvent}
+use Rattle.world_parts.specs.lane_models.LaneState.{IsShape, LaneState, Shape, fresh}
+use Rattle.world_parts.specs.lane_models.LaneStep.{LaneStep}
+use Rattle.world_parts.specs.lane_models.NetLaneState.{NetShape}
 use Rattle.world_parts.specs.switch_laws.Ports.{ports}
 use Rattle.world_parts.proofs.world_laws.Along.{lane_at, lanes_run, shape_at}
 use Rattle.world_parts.specs.world_laws.Along.{happened}

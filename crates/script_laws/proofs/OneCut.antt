@@ -9,7 +9,7 @@ use Rattle.domain_script.specs.declared.event.DiskDecl.{DiskDecl}
 use Rattle.domain_script.specs.declared.event.Event.{Event}
 use Rattle.lane_kinds.specs.Lanes.{EachOf}
 use Rattle.lane_kinds.specs.Settles.{SettlePart}
-use Rattle.world_parts.specs.port_model.NetLaneState.{IsNetShape, NetShape}
+use Rattle.world_parts.specs.lane_models.NetLaneState.{IsNetShape, NetShape}
 use Rattle.world_parts.specs.world_laws.Settle.{SettleEntry}
 use Rattle.world_parts.proofs.domain_laws.LineEntries.{by_answer}
 use Rattle.world_parts.proofs.domain_laws.ScriptEntries.{fresh_many, lines_run, many_kept}

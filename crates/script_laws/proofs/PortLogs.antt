@@ -7,14 +7,14 @@ use Rattle.ldc_queue.specs.declared.end.End.TheVariants.{A}
 use Rattle.lane_kinds.specs.Lanes.{EachOf, own_or}
 use Rattle.world_parts.proofs.port_laws.EveryRun.{every_run}
 use Rattle.world_parts.proofs.port_laws.PortWire.{port_wire}
-use Rattle.world_parts.specs.port_model.FrameLaws.{IsFinished}
-use Rattle.world_parts.specs.port_model.NetEndState.{joined_net_end, unseen}
-use Rattle.world_parts.specs.port_model.NetEvent.{CalmTick, NetEvent, Ticked}
-use Rattle.world_parts.specs.port_model.NetLaneState.{IsNetShape, NetShape, role_at, with_net_end}
-use Rattle.world_parts.specs.port_model.NetLaneStep.{is_finished, net_wire}
-use Rattle.world_parts.specs.port_model.PortLog.{PortLog, after, no_events}
-use Rattle.world_parts.specs.port_model.PortMay.{PortMay}
-use Rattle.world_parts.specs.port_model.PortState.{OnLane, PortEvent, PortState, PortStep, fresh_port}
+use Rattle.world_parts.specs.lane_models.FrameLaws.{IsFinished}
+use Rattle.world_parts.specs.lane_models.NetEndState.{joined_net_end, unseen}
+use Rattle.world_parts.specs.lane_models.NetEvent.{CalmTick, NetEvent, Ticked}
+use Rattle.world_parts.specs.lane_models.NetLaneState.{IsNetShape, NetShape, role_at, with_net_end}
+use Rattle.world_parts.specs.lane_models.NetLaneStep.{is_finished, net_wire}
+use Rattle.world_parts.specs.lane_models.PortLog.{PortLog, after, no_events}
+use Rattle.world_parts.specs.lane_models.PortMay.{PortMay}
+use Rattle.world_parts.specs.lane_models.PortState.{OnLane, PortEvent, PortState, PortStep, fresh_port}
 use Rattle.world_parts.specs.switch_laws.Events.{OnPort, SwitchEvent, at_port}
 use Rattle.world_parts.specs.switch_laws.Ports.{is_calm}
 use Rattle.world_parts.specs.world_laws.Settle.{OfPort, SettleEntry}

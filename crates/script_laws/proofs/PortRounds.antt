@@ -18,10 +18,10 @@ use Rattle.lane_kinds.specs.Both.{AllRound as OneRound, AllTicks, FrontBehind, F
 use Rattle.lane_kinds.specs.Fronts.{SettleFront}
 use Rattle.lane_kinds.specs.LaneFronts.{RoundFront, TickFront, fronts_of}
 use Rattle.lane_kinds.specs.Lanes.{AllMove, CalmTurn, Calmly, are_still}
-use Rattle.lane_kinds.specs.Laws.{AnswersLead, FrontsLead, FrontsLeadWhere, Keeps, Leads, LeadsWhere}
+use Rattle.lane_kinds.specs.Laws.{AnswersLead, FrontsLead, FrontsLeadWhere, KeepsStanding, Leads, LeadsWhere}
 use Rattle.lane_kinds.specs.Settles.{GoesOn, SettlePart, Settles, begin, entries_of_rounds}
-use Rattle.world_parts.specs.port_model.NetEvent.{Ticked}
-use Rattle.world_parts.specs.port_model.PortState.{OnLane, PortState}
+use Rattle.world_parts.specs.lane_models.NetEvent.{Ticked}
+use Rattle.world_parts.specs.lane_models.PortState.{OnLane, PortState}
 use Rattle.world_parts.proofs.switch_laws.PortTurns.{calm_gives, silence}
 use Rattle.world_parts.specs.switch_laws.Events.{OnPort, SwitchEvent, SwitchStep}
 use Rattle.world_parts.specs.switch_laws.Ports.{IsStepOf, ports}
@@ -214,7 +214,7 @@ record Stretch (w : Lanes) (part : List SettleEntry) (v : Lanes) : Type 0 where
 abbrev Any : Lanes → Two (List Bool) (List Bool) → Type 0
 Any w m = ⊤
 
-keeps : Keeps lanes Any
+keeps : KeepsStanding lanes Any
 keeps = record { round = λ w m r v at made. tt; ticks = λ w m r v u at made quiet ticks. tt }
 
 all_are_ticks : (w : Lanes) (m : Two (List Bool) (List Bool)) → EachEntry IsTickOfPorts (lanes.ticks_leave w m)

@@ -5,7 +5,7 @@ use Rattle.std.specs.Prelude.{not, ⊤}
 use Rattle.std.proofs.lemmas.Bool.{eq-eqb, eqb-true}
 use Rattle.runs.specs.Lawful.{log_append, log_of}
 use Rattle.runs.specs.Run.{Run, run_append, run_push}
-use Rattle.world_parts.specs.channel_laws.WireLog.{WireLog}
+use Rattle.world_parts.specs.lane_models.WireLog.{WireLog}
 use Rattle.ldc_queue.specs.declared.end.End.{End}
 use Rattle.ldc_queue.specs.declared.end.End.TheVariants.{A, B}
 use Rattle.ldc_queue.specs.Wire.{peer_of, waiting_for}
@@ -16,14 +16,14 @@ use Rattle.lane_kinds.proofs.Places.{map_both}
 use Rattle.lane_kinds.proofs.Sums.{and_left, and_right}
 use Rattle.lane_kinds.specs.Lanes.{CalmTurn, EachOf, all_calm}
 use Rattle.world_parts.specs.port_laws.RemainingSteps.{IsCalm as IsCalmAnswer}
-use Rattle.world_parts.specs.port_model.FrameLaws.{IsFinished}
-use Rattle.world_parts.specs.port_model.NetEndStep.{Blocked, Idle, NetAnswer}
-use Rattle.world_parts.specs.port_model.NetEvent.{Steps}
-use Rattle.world_parts.specs.port_model.NetLaneState.{IsNetShape, NetShape}
-use Rattle.world_parts.specs.port_model.NetLaneStep.{is_finished}
-use Rattle.world_parts.specs.port_model.PortLog.{PortLog, after, no_events}
-use Rattle.world_parts.specs.port_model.PortMay.{PortMay}
-use Rattle.world_parts.specs.port_model.PortState.{OnLane, PortEvent, PortState, PortStep, fresh_port}
+use Rattle.world_parts.specs.lane_models.FrameLaws.{IsFinished}
+use Rattle.world_parts.specs.lane_models.NetEndStep.{Blocked, Idle, NetAnswer}
+use Rattle.world_parts.specs.lane_models.NetEvent.{Steps}
+use Rattle.world_parts.specs.lane_models.NetLaneState.{IsNetShape, NetShape}
+use Rattle.world_parts.specs.lane_models.NetLaneStep.{is_finished}
+use Rattle.world_parts.specs.lane_models.PortLog.{PortLog, after, no_events}
+use Rattle.world_parts.specs.lane_models.PortMay.{PortMay}
+use Rattle.world_parts.specs.lane_models.PortState.{OnLane, PortEvent, PortState, PortStep, fresh_port}
 use Rattle.world_parts.proofs.switch_laws.Resting.{TwoCalm, finishes, two_calm}
 use Rattle.world_parts.proofs.switch_laws.Steps.{run_on_port}
 use Rattle.world_parts.proofs.switch_laws.PortTurns.{calm_gives}

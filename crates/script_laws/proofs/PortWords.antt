@@ -7,19 +7,19 @@ use Rattle.runs.specs.Run.{Run, run_push}
 use Rattle.ldc_queue.specs.Transcript.{Utterance}
 use Rattle.ldc_queue.specs.declared.end.End.{End}
 use Rattle.vio_tag.specs.declared.cause.Cause.{Cause}
-use Rattle.world_parts.specs.channel_laws.ResetSays.{ResetSays}
-use Rattle.world_parts.specs.channel_laws.TranscriptLog.{transcript_of}
+use Rattle.world_parts.specs.lane_models.ResetSays.{ResetSays}
+use Rattle.world_parts.specs.lane_models.TranscriptLog.{transcript_of}
 use Rattle.lane_kinds.proofs.Moving.{each_there}
 use Rattle.lane_kinds.proofs.Places.{get_within}
 use Rattle.lane_kinds.specs.Lanes.{EachOf, own_or}
 use Rattle.world_parts.proofs.port_laws.EveryRun.{every_run}
-use Rattle.world_parts.specs.port_model.FrameLaws.{OwnReset}
-use Rattle.world_parts.specs.port_model.NetEndStep.{Reset}
-use Rattle.world_parts.specs.port_model.NetEvent.{Steps}
-use Rattle.world_parts.specs.port_model.PortLog.{PortLog, after, log_of_end, no_events}
-use Rattle.world_parts.specs.port_model.EndLog.{EndLog}
-use Rattle.world_parts.specs.port_model.PortMay.{PortMay}
-use Rattle.world_parts.specs.port_model.PortState.{OnLane, PortState, PortStep, fresh_port}
+use Rattle.world_parts.specs.lane_models.FrameLaws.{OwnReset}
+use Rattle.world_parts.specs.lane_models.NetEndStep.{Reset}
+use Rattle.world_parts.specs.lane_models.NetEvent.{Steps}
+use Rattle.world_parts.specs.lane_models.PortLog.{PortLog, after, log_of_end, no_events}
+use Rattle.world_parts.specs.lane_models.EndLog.{EndLog}
+use Rattle.world_parts.specs.lane_models.PortMay.{PortMay}
+use Rattle.world_parts.specs.lane_models.PortState.{OnLane, PortState, PortStep, fresh_port}
 use Rattle.world_parts.specs.switch_laws.Events.{OnPort, SwitchEvent, SwitchStep}
 use Rattle.world_parts.specs.switch_laws.Reached.{IsReached}
 use Rattle.world_parts.specs.world_laws.Settle.{OfPort, SettleEntry, UnsettledPort}

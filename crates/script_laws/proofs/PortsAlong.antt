@@ -8,13 +8,13 @@ use Rattle.lane_kinds.proofs.Places.{get_within}
 use Rattle.lane_kinds.specs.Lanes.{EachOf}
 use Rattle.ldc_queue.specs.declared.end.End.{End}
 use Rattle.ldc_queue.specs.declared.end.End.TheVariants.{A, B}
-use Rattle.world_parts.specs.channel_laws.WireAt.{IsUp}
+use Rattle.world_parts.specs.lane_models.WireAt.{IsUp}
 use Rattle.world_parts.proofs.port_laws.EveryRun.{every_run}
 use Rattle.world_parts.specs.port_laws.InOrder.{InOrder}
 use Rattle.world_parts.specs.port_laws.Lost.{frames_lost}
-use Rattle.world_parts.specs.port_model.NetLaneState.{IsNetShape, NetShape}
-use Rattle.world_parts.specs.port_model.PortLog.{PortLog, no_events}
-use Rattle.world_parts.specs.port_model.PortState.{PortState, PortStep, fresh_port}
+use Rattle.world_parts.specs.lane_models.NetLaneState.{IsNetShape, NetShape}
+use Rattle.world_parts.specs.lane_models.PortLog.{PortLog, no_events}
+use Rattle.world_parts.specs.lane_models.PortState.{PortState, PortStep, fresh_port}
 use Rattle.world_parts.proofs.switch_laws.Steps.{run_on_port}
 use Rattle.world_parts.specs.switch_laws.Events.{Switched}
 use Rattle.world_parts.specs.switch_laws.Reached.{IsUnforged}

@@ -5,7 +5,7 @@ use Rattle.std.proofs.lemmas.Option.{slice_get_within}
 use Rattle.std.specs.Prelude.{not, ⊤}
 use Rattle.runs.specs.Lawful.{log_of}
 use Rattle.runs.specs.Run.{Run, run_append, run_split}
-use Rattle.world_parts.specs.channel_laws.WireLog.{WireLog}
+use Rattle.world_parts.specs.lane_models.WireLog.{WireLog}
 use Rattle.disk_law.specs.ListState.{ImageState}
 use Rattle.domain_script.specs.declared.event.DiskDecl.{DiskDecl}
 use Rattle.domain_script.specs.declared.event.Event.{Event}
@@ -18,17 +18,17 @@ use Rattle.lane_kinds.specs.Both.{Two}
 use Rattle.lane_kinds.specs.Fronts.{SettleFront}
 use Rattle.lane_kinds.specs.LaneCounts.{once}
 use Rattle.lane_kinds.specs.Settles.{RunsOut, SettlePart, Settles, begin, entries_of_rounds}
-use Rattle.world_parts.specs.port_model.FrameLaws.{IsFinished}
-use Rattle.world_parts.specs.port_model.NetEvent.{CalmTick, NetEvent, Ticked}
-use Rattle.world_parts.specs.port_model.NetLaneState.{IsNetShape, NetShape}
-use Rattle.world_parts.specs.port_model.NetLaneStep.{is_finished}
-use Rattle.world_parts.specs.port_model.PortLog.{PortLog, after, no_events}
-use Rattle.world_parts.specs.port_model.PortState.{OnLane, PortEvent, PortState, PortStep, Receives, fresh_port}
+use Rattle.world_parts.specs.lane_models.FrameLaws.{IsFinished}
+use Rattle.world_parts.specs.lane_models.NetEvent.{CalmTick, NetEvent, Ticked}
+use Rattle.world_parts.specs.lane_models.NetLaneState.{IsNetShape, NetShape}
+use Rattle.world_parts.specs.lane_models.NetLaneStep.{is_finished}
+use Rattle.world_parts.specs.lane_models.PortLog.{PortLog, after, no_events}
+use Rattle.world_parts.specs.lane_models.PortState.{OnLane, PortEvent, PortState, PortStep, Receives, fresh_port}
 use Rattle.world_parts.proofs.switch_laws.Steps.{run_on_port}
 use Rattle.world_parts.proofs.switch_laws.PortTurns.{silent_calm}
 use Rattle.world_parts.specs.switch_laws.Events.{OnPort, SwitchEvent, SwitchStep, Switched, at_port}
 use Rattle.world_parts.specs.switch_laws.Ports.{is_calm, ports, waits_on}
-use Rattle.world_parts.specs.disk_model.LaneState.{LaneState}
+use Rattle.world_parts.specs.lane_models.LaneState.{LaneState}
 use Rattle.world_parts.specs.world_laws.DiskKind.{disk_kind}
 use Rattle.world_parts.specs.world_laws.Rounds.{LaneRound}
 use Rattle.world_parts.specs.world_laws.Settle.{OfPort, SettleEntry, Settled, Unsettled, UnsettledPort, disk_entries, disks}

@@ -1,7 +1,7 @@
 -- The lines of a quiet script are quiet lines of a lane, whose disk begins the image.
 use Rattle.std.proofs.Common.{◌≡◌, ℕ, ◌*◌, ◌≤◌, List, [], ◌∷◌, length, map, Some, arith}
 use Rattle.disk_law.specs.ListState.{ImageState}
-use Rattle.world_parts.specs.disk_model.LaneState.{IsShape}
+use Rattle.world_parts.specs.lane_models.LaneState.{IsShape}
 use Rattle.domain_script.specs.Declarations.{IsDisk}
 use Rattle.domain_script.specs.declared.event.DiskDecl.{DiskDecl}
 use Rattle.domain_script.specs.declared.event.Event.{Event}

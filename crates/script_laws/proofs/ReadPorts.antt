@@ -5,7 +5,7 @@ use Rattle.domain_script.specs.declared.event.PortDecl.{PortDecl}
 use Rattle.domain_script.specs.declared.event.Event.{Event}
 use Rattle.domain_script.specs.NamesState.{NamesState}
 use Rattle.lane_kinds.specs.Lanes.{EachOf}
-use Rattle.world_parts.specs.port_model.NetLaneState.{IsNetShape}
+use Rattle.world_parts.specs.lane_models.NetLaneState.{IsNetShape}
 use Rattle.world_parts.specs.Declared.{net_of, nets_of}
 use Rattle.script_laws.specs.Script.{ReadSoFar}
 use Rattle.script_laws.proofs.ReadLemmas.{read_declared}

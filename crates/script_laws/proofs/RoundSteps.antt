@@ -3,8 +3,8 @@ use Rattle.std.proofs.Common.{◌≡◌, ℕ, zero, suc, ◌+◌, List, [], ◌�
 use Rattle.ldc_queue.specs.declared.end.End.{End}
 use Rattle.lane_kinds.specs.Both.{Two}
 use Rattle.lane_kinds.specs.Lanes.{Entries, LaneKind, MakeTurns, round_entries, turn_entries}
-use Rattle.world_parts.specs.disk_model.LaneState.{LaneState}
-use Rattle.world_parts.specs.port_model.PortState.{PortState}
+use Rattle.world_parts.specs.lane_models.LaneState.{LaneState}
+use Rattle.world_parts.specs.lane_models.PortState.{PortState}
 use Rattle.world_parts.specs.switch_laws.Events.{SwitchEvent}
 use Rattle.world_parts.specs.switch_laws.Ports.{IsStepOf, ports}
 use Rattle.world_parts.specs.world_laws.DiskKind.{disk_kind}

@@ -11,7 +11,7 @@ use Rattle.disk_law.specs.ListStep.{Done}
 use Rattle.domain_script.specs.Declarations.{AreDisks}
 use Rattle.domain_script.specs.NamesState.{NamesState, declared_by}
 use Rattle.lane_kinds.specs.Lanes.{EachOf}
-use Rattle.world_parts.specs.port_model.NetLaneState.{IsNetShape, NetShape}
+use Rattle.world_parts.specs.lane_models.NetLaneState.{IsNetShape, NetShape}
 use Rattle.ldom_report.specs.DiskEvents.{history}
 use Rattle.ldom_report.specs.HasWords.{HasWords}
 use Rattle.ldom_entries.specs.declared.entry.Entry.{Entry}

@@ -11,13 +11,13 @@ use Rattle.vio_io.specs.Causes.{count_after}
 use Rattle.disk_law.specs.Issued.{Admission, CompletesOnceInOrder, issued}
 use Rattle.disk_law.specs.ListState.{ImageState}
 use Rattle.disk_law.specs.ListStep as plain
-use Rattle.world_parts.specs.disk_model.DiskEvent.{DiskEvent}
-use Rattle.world_parts.specs.disk_model.LaneState.{Shape, fresh}
-use Rattle.world_parts.specs.disk_model.LaneStep.{LaneStep}
+use Rattle.world_parts.specs.lane_models.DiskEvent.{DiskEvent}
+use Rattle.world_parts.specs.lane_models.LaneState.{Shape, fresh}
+use Rattle.world_parts.specs.lane_models.LaneStep.{LaneStep}
 use Rattle.world_parts.specs.lane_laws.DiskLog.{after, nothing_yet}
 use Rattle.domain_script.specs.Declarations.{AreDisks, Declared}
 use Rattle.lane_kinds.specs.Lanes.{EachOf}
-use Rattle.world_parts.specs.port_model.PortState.{fresh_port}
+use Rattle.world_parts.specs.lane_models.PortState.{fresh_port}
 use Rattle.world_parts.proofs.domain_laws.LineEntries.{EachEntry}
 use Rattle.world_parts.proofs.domain_laws.Running.{fresh_reached as fresh_ports_reached, ports_run}
 use Rattle.script_laws.proofs.PortWords.{IsPortTold, as_told, ports_told}
@@ -28,7 +28,7 @@ use Rattle.world_parts.specs.world_laws.Along.{happened}
 use Rattle.world_parts.proofs.world_laws.Along.{fresh_reached, lane_at, lanes_run, shape_at}
 use Rattle.lane_kinds.proofs.Places.{get_within}
 use Rattle.world_parts.specs.world_laws.World.{IsWorld, WorldState, WorldStep, fresh_world}
-use Rattle.world_parts.specs.port_model.NetLaneState.{IsNetShape, NetShape}
+use Rattle.world_parts.specs.lane_models.NetLaneState.{IsNetShape, NetShape}
 use Rattle.world_parts.specs.domain_laws.Domain.{DomainState}
 use Rattle.world_parts.specs.world_laws.Failures.{in_entry, is_failed_done, is_flush, is_store, is_store_that, is_write}
 use Rattle.world_parts.specs.world_laws.Forged.{NobodyForges}

@@ -7,7 +7,7 @@ use Rattle.domain_script.specs.declared.event.Event.{Event}
 use Rattle.domain_script.specs.declared.event.Event.TheVariants.{Settle}
 use Rattle.lane_kinds.specs.Fronts.{SettleFront}
 use Rattle.lane_kinds.specs.Settles.{SettlePart}
-use Rattle.world_parts.specs.port_model.NetLaneState.{NetShape}
+use Rattle.world_parts.specs.lane_models.NetLaneState.{NetShape}
 use Rattle.world_parts.specs.world_laws.Settle.{SettleEntry}
 use Rattle.world_parts.proofs.domain_laws.ScriptEntries.{cut_run, lines_run}
 use Rattle.world_parts.specs.domain_laws.Domain.{DomainState, DomainStep, Lanes, lanes, lanes_in}

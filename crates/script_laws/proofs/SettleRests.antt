@@ -2,9 +2,9 @@
 use Rattle.std.proofs.Common.{◌≡◌, ◌⊎◌, inl, inr, ℕ, suc, ◌+◌, false, List, [], ◌∷◌, ◌++◌, slice_get, Some, sym, ap, ◌∙◌, subst, arith}
 use Rattle.runs.specs.Run.{Run}
 use Rattle.disk_law.specs.ListState.{ImageState}
-use Rattle.world_parts.specs.disk_model.DiskEvent.{DiskEvent}
-use Rattle.world_parts.specs.disk_model.LaneState.{IsShape, LaneState, Shape, fresh}
-use Rattle.world_parts.specs.disk_model.LaneStep.{LaneStep}
+use Rattle.world_parts.specs.lane_models.DiskEvent.{DiskEvent}
+use Rattle.world_parts.specs.lane_models.LaneState.{IsShape, LaneState, Shape, fresh}
+use Rattle.world_parts.specs.lane_models.LaneStep.{LaneStep}
 use Rattle.domain_script.specs.declared.event.DiskDecl.{DiskDecl}
 use Rattle.domain_script.specs.declared.event.Event.{Event}
 use Rattle.domain_script.specs.declared.event.Event.TheVariants.{Settle}
@@ -13,7 +13,7 @@ use Rattle.world_parts.proofs.lane_laws.AgreementRuns.{run_agrees}
 use Rattle.world_parts.proofs.world_laws.Along.{lane_at, shape_at}
 use Rattle.lane_kinds.specs.Fronts.{SettleFront}
 use Rattle.lane_kinds.specs.Settles.{SettlePart, Settles}
-use Rattle.world_parts.specs.port_model.NetLaneState.{NetShape}
+use Rattle.world_parts.specs.lane_models.NetLaneState.{NetShape}
 use Rattle.world_parts.proofs.domain_laws.DiskParts.{part_moves_disks}
 use Rattle.world_parts.proofs.domain_laws.LineEntries.{each_in}
 use Rattle.world_parts.proofs.domain_laws.Resting.{disks_end}

@@ -5,9 +5,9 @@ use Rattle.world_parts.specs.world_laws.Rounds.{are_quiet}
 use Rattle.runs.specs.Lawful.{log_of}
 use Rattle.runs.specs.Run.{Run, run_append}
 use Rattle.world_parts.specs.lane_laws.DiskLog.{after, nothing_yet}
-use Rattle.world_parts.specs.disk_model.DiskEvent.{DiskEvent}
-use Rattle.world_parts.specs.disk_model.LaneState.{IsShape, LaneState, Shape, fresh}
-use Rattle.world_parts.specs.disk_model.LaneStep.{LaneStep}
+use Rattle.world_parts.specs.lane_models.DiskEvent.{DiskEvent}
+use Rattle.world_parts.specs.lane_models.LaneState.{IsShape, LaneState, Shape, fresh}
+use Rattle.world_parts.specs.lane_models.LaneStep.{LaneStep}
 use Rattle.lane_kinds.proofs.Lanes.{own_turns}
 use Rattle.world_parts.proofs.world_laws.DiskLaws.{gives_nothing}
 use Rattle.world_parts.specs.world_laws.DiskKind.{disk_kind}

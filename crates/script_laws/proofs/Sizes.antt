@@ -1,7 +1,7 @@
 -- How long the image of a run is, and that its disks lie within it.
 use Rattle.std.proofs.Common.{◌≡◌, ◌⊎◌, ℕ, ◌+◌, ◌*◌, ◌<◌, ◌≤◌, Bool, List, [], ◌∷◌, ◌++◌, length, map, sym, ap, subst, arith, Option, Some, None, IfSome, replicate}
 use Rattle.std.proofs.Math.ListN.{length-replicate}
-use Rattle.world_parts.specs.disk_model.LaneState.{LaneState, Shape}
+use Rattle.world_parts.specs.lane_models.LaneState.{LaneState, Shape}
 use Rattle.domain_script.specs.Declarations.{Declared}
 use Rattle.domain_script.specs.declared.event.DiskDecl.{DiskDecl}
 use Rattle.domain_script.specs.declared.event.Event.{Event}

@@ -8,9 +8,9 @@ use Rattle.world_parts.specs.lane_laws.DiskLog.{DiskLog, after, nothing_yet}
 use Rattle.world_parts.specs.lane_laws.QuietLaws.{ClientIsIdle, EndIsIdle}
 use Rattle.world_parts.specs.lane_laws.WorkLaws.{IfClient}
 use Rattle.world_parts.specs.lane_laws.WorkLog.{ClientCounts}
-use Rattle.world_parts.specs.disk_model.DiskEvent.{DiskEvent}
-use Rattle.world_parts.specs.disk_model.LaneState.{IsShape, LaneState, Shape, fresh}
-use Rattle.world_parts.specs.disk_model.LaneStep.{LaneStep}
+use Rattle.world_parts.specs.lane_models.DiskEvent.{DiskEvent}
+use Rattle.world_parts.specs.lane_models.LaneState.{IsShape, LaneState, Shape, fresh}
+use Rattle.world_parts.specs.lane_models.LaneStep.{LaneStep}
 use Rattle.world_parts.proofs.lane_laws.AgreementRuns.{run_agrees}
 use Rattle.world_parts.specs.lane_laws.CalmEnds.{AreStill, IsStill}
 use Rattle.lane_kinds.proofs.Sums.{and_left, and_right}

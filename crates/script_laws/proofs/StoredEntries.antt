@@ -1,7 +1,7 @@
 -- Which entries of a journal say that the image was called: those that mean a call of a store for the lanes.
 use Rattle.std.proofs.Common.{◌≡◌, ℕ, ◌+◌, Bool, false, cond, Some, List, [], ◌∷◌, refl, sym, ap, ◌∙◌, arith}
 use Rattle.std.specs.List.{count_by}
-use Rattle.world_parts.specs.disk_model.DiskEvent.{DiskEvent, Stored, Works}
+use Rattle.world_parts.specs.lane_models.DiskEvent.{DiskEvent, Stored, Works}
 use Rattle.domain_script.specs.declared.event.Event.{Event}
 use Rattle.ldom_entries.specs.declared.entry.Entry.{Entry}
 use Rattle.ldom_entries.specs.declared.entry.Entry.TheVariants as entry

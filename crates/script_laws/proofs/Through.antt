@@ -3,7 +3,7 @@
 use Rattle.std.proofs.Common.{◌≡◌, ℕ, suc, Option, Some, None, List, [], ◌∷◌, ◌++◌, length, map, slice_get, slice_set, sym, ap, ◌∙◌, subst, arith}
 use Rattle.runs.specs.Run.{Run, run_append}
 use Rattle.disk_law.specs.ListState.{ImageState}
-use Rattle.world_parts.specs.disk_model.LaneState.{LaneState}
+use Rattle.world_parts.specs.lane_models.LaneState.{LaneState}
 use Rattle.domain_script.specs.declared.event.DiskDecl.{DiskDecl}
 use Rattle.domain_script.specs.declared.event.Event.{Event}
 use Rattle.world_parts.proofs.lane_laws.RingPages.{same_pages}
@@ -11,7 +11,7 @@ use Rattle.world_parts.specs.world_laws.Settle.{SettleEntry}
 use Rattle.world_parts.proofs.world_laws.Along.{lane_step}
 use Rattle.world_parts.specs.world_laws.World.{WorldState, WorldStep, fresh_world}
 use Rattle.lane_kinds.proofs.Places.{map_both}
-use Rattle.world_parts.specs.port_model.NetLaneState.{NetShape}
+use Rattle.world_parts.specs.lane_models.NetLaneState.{NetShape}
 use Rattle.world_parts.proofs.domain_laws.LeftOver.{NamesBelow, cut_below, lines_below}
 use Rattle.world_parts.proofs.domain_laws.Running.{disks_run}
 use Rattle.world_parts.proofs.domain_laws.ScriptEntries.{lines_run}

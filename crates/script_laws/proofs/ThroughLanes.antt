@@ -2,13 +2,13 @@
 use Rattle.std.proofs.Common.{◌≡◌, ℕ, ◌<◌, List, [], ◌∷◌, ◌++◌, length, map, refl, ap, ◌∙◌, arith, append_assoc}
 use Rattle.std.specs.List.{flat_map}
 use Rattle.runs.specs.Run.{Run}
-use Rattle.world_parts.specs.channel_laws.WireEvent.{Reset}
-use Rattle.world_parts.specs.disk_model.DiskEvent.{Asks, Done, Full, OnWire, Refused, Works}
+use Rattle.world_parts.specs.lane_models.WireEvent.{Reset}
+use Rattle.world_parts.specs.lane_models.DiskEvent.{Asks, Done, Full, OnWire, Refused, Works}
 use Rattle.domain_script.specs.declared.event.DiskDecl.{DiskDecl}
 use Rattle.domain_script.specs.declared.event.Event.{Event}
 use Rattle.world_parts.specs.world_laws.Settle.{OfLane, OfPort, SettleEntry, UnsettledPort}
 use Rattle.disk_law.specs.ListState.{ImageState}
-use Rattle.world_parts.specs.disk_model.LaneState.{Shape}
+use Rattle.world_parts.specs.lane_models.LaneState.{Shape}
 use Rattle.world_parts.specs.switch_laws.Events.{SwitchEvent}
 use Rattle.world_parts.specs.domain_laws.Domain.{DomainState, fresh_domain}
 use Rattle.lane_kinds.proofs.EntriesEach.{first_each}

@@ -5,21 +5,21 @@ use Rattle.std.proofs.lemmas.Option.{slice_get_within}
 use Rattle.std.specs.Prelude.{if◌then◌else◌, ⊤}
 use Rattle.ldc_queue.specs.declared.end.End.{End}
 use Rattle.vio_tag.specs.declared.cause.Cause.TheVariants as the_cause
-use Rattle.world_parts.specs.channel_laws.WireEvent.{Reset}
+use Rattle.world_parts.specs.lane_models.WireEvent.{Reset}
 use Rattle.world_parts.specs.lane_laws.CalmEnds.{IsStep}
 use Rattle.runs.specs.Lawful.{log_of}
 use Rattle.runs.specs.Run.{Run, run_append}
 use Rattle.world_parts.specs.lane_laws.DiskLog.{after, nothing_yet}
-use Rattle.world_parts.specs.disk_model.DiskEvent.{DiskEvent, OnWire}
-use Rattle.world_parts.specs.disk_model.LaneState.{IsShape, LaneState, Shape, fresh}
-use Rattle.world_parts.specs.disk_model.LaneStep.{LaneStep}
-use Rattle.world_parts.specs.disk_model.Reached.{IsReached}
+use Rattle.world_parts.specs.lane_models.DiskEvent.{DiskEvent, OnWire}
+use Rattle.world_parts.specs.lane_models.LaneState.{IsShape, LaneState, Shape, fresh}
+use Rattle.world_parts.specs.lane_models.LaneStep.{LaneStep}
+use Rattle.world_parts.specs.lane_models.Reached.{IsReached}
 use Rattle.lane_kinds.proofs.Lanes.{own_turns}
 use Rattle.lane_kinds.proofs.Moving.{none_both}
 use Rattle.lane_kinds.specs.Lanes.{OwnTurns}
 use Rattle.lane_kinds.proofs.Leading as kind
 use Rattle.lane_kinds.proofs.Sums.{and_left, and_right}
-use Rattle.lane_kinds.specs.Laws.{AnswersLead, FrontsLeadWhere, Keeps, LeadsWhere}
+use Rattle.lane_kinds.specs.Laws.{AnswersLead, FrontsLeadWhere, KeepsStanding, LeadsWhere}
 use Rattle.lane_kinds.proofs.EntriesEach.{first_each}
 use Rattle.lane_kinds.proofs.EntryRuns.{names_each}
 use Rattle.lane_kinds.proofs.FirstKept.{first_ends_where, first_fronts_where, first_leads_where, kept_both}
@@ -313,7 +313,7 @@ record Stretch (lanes : List LaneState) (part : List SettleEntry) (behind : List
 abbrev Reached : List LaneState → List Bool → Type 0
 Reached lanes marks = Each IsReached lanes
 
-keeps : Keeps disks Reached
+keeps : KeepsStanding disks Reached
 keeps = record {
   round = λ w m r v at made. moved_reached 0 w (round_entries 0 r) v at (leads.round w r v made);
   ticks = λ w m r v u at made quiet ticks.

@@ -4,8 +4,8 @@ use Rattle.std.specs.Prelude.{⊤}
 use Rattle.std.proofs.lemmas.Bool.{eqb-true}
 use Rattle.std.proofs.lemmas.Option.{slice_get_within}
 use Rattle.runs.specs.Run.{Run}
-use Rattle.world_parts.specs.disk_model.DiskEvent.{DiskEvent}
-use Rattle.world_parts.specs.disk_model.Reached.{IsReached}
+use Rattle.world_parts.specs.lane_models.DiskEvent.{DiskEvent}
+use Rattle.world_parts.specs.lane_models.Reached.{IsReached}
 use Rattle.world_parts.specs.world_laws.Along.{happened}
 use Rattle.world_parts.specs.world_laws.Rounds.{Each}
 use Rattle.world_parts.specs.world_laws.Settle.{OfLane, SettleEntry, Unsettled}

@@ -2,8 +2,8 @@
 use Rattle.std.proofs.Common.{◌≡◌, inl, inr, ℕ, false, List, [], ◌∷◌, ◌∙◌, arith}
 use Rattle.runs.specs.Lawful.{log_of}
 use Rattle.world_parts.specs.lane_laws.DiskLog.{DiskLog, after}
-use Rattle.world_parts.specs.disk_model.DiskEvent.{DiskEvent}
-use Rattle.world_parts.specs.disk_model.LaneState.{Shape}
+use Rattle.world_parts.specs.lane_models.DiskEvent.{DiskEvent}
+use Rattle.world_parts.specs.lane_models.LaneState.{Shape}
 use Rattle.world_parts.specs.lane_laws.Headline.{CompletionShows, ShowsLast}
 use Rattle.world_parts.specs.world_laws.Along.{happened}
 use Rattle.world_parts.specs.world_laws.Settle.{SettleEntry}

@@ -3,14 +3,14 @@
 use Rattle.std.proofs.Common.{◌≡◌, ◌⊎◌, inl, inr, ℕ, ◌+◌, ◌≤◌, Bool, true, false, List, [], ◌∷◌, ◌++◌, map, refl, sym, ap, ◌∙◌, subst}
 use Rattle.std.specs.Prelude.{◌==◌, flat_map, if◌then◌else◌}
 use Rattle.runs.specs.Run.{Run}
-use Rattle.world_parts.specs.disk_model.DiskEvent.{DiskEvent}
+use Rattle.world_parts.specs.lane_models.DiskEvent.{DiskEvent}
 use Rattle.lane_kinds.proofs.Places.{map_both}
 use Rattle.lane_kinds.proofs.LaneFronts.{of_both}
 use Rattle.lane_kinds.specs.Lanes.{EachOf, own_or}
 use Rattle.lane_kinds.specs.Stuck.{NeverThree, sum_over}
 use Rattle.ldc_queue.specs.declared.end.End.{End}
-use Rattle.world_parts.specs.port_model.NetEvent.{CalmTick, NetEvent, Ticked}
-use Rattle.world_parts.specs.port_model.PortState.{OnLane, Receives}
+use Rattle.world_parts.specs.lane_models.NetEvent.{CalmTick, NetEvent, Ticked}
+use Rattle.world_parts.specs.lane_models.PortState.{OnLane, Receives}
 use Rattle.world_parts.specs.switch_laws.Events.{OnPort, SwitchEvent, Switched}
 use Rattle.world_parts.specs.world_laws.Along.{event_at, happened}
 use Rattle.world_parts.specs.world_laws.Forged.{NobodyForges}

@@ -4,10 +4,11 @@ use Rattle.std.specs.List.{All}
 use Rattle.std.proofs.lemmas.List.Elements.{All-cons, All-nil}
 use Rattle.std.specs.Prelude.{⊤}
 use Rattle.ldc_queue.specs.declared.end.End.{End}
-use Rattle.world_parts.specs.channel_laws.WireEvent.{Reset}
-use Rattle.world_parts.specs.disk_model.DiskEvent.{DiskEvent, Stored, Works}
+use Rattle.world_parts.specs.lane_models.WireEvent.{Reset}
+use Rattle.world_parts.specs.lane_models.DiskEvent.{DiskEvent, Stored, Works}
 use Rattle.world_parts.specs.world_laws.Settle.{OfLane, SettleEntry}
 use Rattle.world_parts.specs.domain_laws.Lines.{Line}
+use Rattle.vdisk_msg.specs.Requests.{IsOperation}
 use Rattle.vio_tag.specs.declared.cause.Cause.{Cause}
 use Rattle.vio_tag.specs.declared.cause.Cause.TheVariants as the_cause
 use Rattle.domain_script.specs.Declarations.{Declared}
@@ -15,11 +16,11 @@ use Rattle.domain_script.specs.declared.event.Lane.{Lane}
 use Rattle.ldom_entries.specs.declared.entry.Entry.{Entry}
 use Rattle.ldom_entries.specs.declared.entry.Entry.TheVariants as entry
 use Rattle.ldom_entries.specs.declared.entry.Who.TheVariants.{Lane as OfWhole, End as OfEnd}
-use Rattle.ldom_report.specs.HasWords.{HasFault, HasValues, HasWords, IsCompletion, IsLane, IsNamed}
+use Rattle.ldom_report.specs.HasWords.{HasFault, HasValues, HasWords, IsCompletion, IsLane, NamesDeclared}
 use Rattle.ldom_report.specs.LaneEvents.{AtLane, AtPort, AtServer, AtWire, ChangesNothing, LeavesNothing, LeavesOver, Meaning, NoRoomFor, Publishes, Refuses, Switches, TakesFrame, end_of, meaning}
 use Rattle.world_parts.specs.WorldEvents.{of_net, reset_of, world_event}
 use Rattle.world_parts.specs.Lines.{line_of}
-use Rattle.world_parts.specs.world_laws.Words.{IsOperation, NamesFault, ReadsBlocks}
+use Rattle.world_parts.specs.world_laws.Words.{NamesFault, ReadsBlocks}
 use Rattle.world_parts.proofs.domain_laws.LineEntries.{EachEntry}
 use Rattle.script_laws.proofs.PortWords.{IsPortTold}
 use Rattle.script_laws.proofs.Tellings.{Telling, entries_told, means_of}
@@ -42,7 +43,7 @@ lane_named : (all : Declared) (x : Meaning) → AllOf Any x → Holds (Names all
 lane_named all x any = grind (arith, by_events)
 
 abbrev IsNamedThere : Declared → Meaning → SettleEntry → Type 0
-IsNamedThere all x m = IsOfDeclared (length all.disks) (length all.ports) m → IsNamed all x
+IsNamedThere all x m = IsOfDeclared (length all.disks) (length all.ports) m → NamesDeclared all x
 
 named : (all : Declared) (x : Meaning) → Holds (IsNamedThere all x) x
 named all (AtWire e event) = lane_named all (AtWire e event) tt
@@ -66,8 +67,7 @@ named all LeavesNothing = λ told. tt
 completion : (operation status : ℕ) (bytes : List ℕ) → IsOperation operation × ReadsBlocks operation status bytes
     → IsCompletion operation status bytes
 completion operation status bytes has = record {
-  least = has.0.0;
-  most = has.0.1;
+  one = has.0;
   some = λ reads well. (has.1 reads well).0;
   blocks = λ reads well. (has.1 reads well).1;
 }
@@ -92,7 +92,7 @@ module _ (disks ports : ℕ) where
       (entry.Stored e operation block count failed) m
       (lane_has (λ lane. Worded (HasValues (entry.Stored e operation block count failed)))
       (λ k. OfLane k (Works (Stored operation block count failed))) e.lane
-      (λ k at. record { least = at.0.1.0; most = at.0.1.1 })) is told
+      (λ k at. at.0.1)) is told
   values asked (entry.Reset e cause packet lost) m is told =
       entry_has (Worded (HasFault cause)) asked (entry.Reset e cause packet lost) m
       (wire_has (λ lane. Worded (HasFault cause)) (Reset (end_of e.side) cause packet lost) e.lane

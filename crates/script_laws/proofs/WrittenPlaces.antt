@@ -3,7 +3,7 @@ use Rattle.std.proofs.Common.{inl, inr, ℕ, List, [], ◌∷◌, arith}
 use Rattle.vdisk_msg.specs.declared.request.Request.{Request}
 use Rattle.vdisk_msg.specs.declared.request.Request.TheVariants.{Flush, Read, Write}
 use Rattle.disk_law.specs.Issued.{issued}
-use Rattle.world_parts.specs.disk_model.DiskEvent.{Accepted, Asks, Calms, Desc, DiskEvent, Done, Finished, Full, Misplaced, Moved, OnWire, Published, Refused, Stored, Switches, Works}
+use Rattle.world_parts.specs.lane_models.DiskEvent.{Accepted, Asks, Calms, Desc, DiskEvent, Done, Finished, Full, Misplaced, Moved, OnWire, Published, Refused, Stored, Switches, Works}
 use Rattle.world_parts.specs.world_laws.NamesNo.{IsApart, NamesNo}
 use Rattle.world_parts.specs.world_laws.Requests.{requests_of}
 use Rattle.script_laws.specs.Outside.{IsOutside, IsOutsideAll}

@@ -1,12 +1,12 @@
 -- What the reads of a disk show, and what its part of an image holds, over an image that tells its bytes.
 use Rattle.std.specs.Prelude.{◌≡◌, ℕ, ◌+◌, ◌*◌, ◌<◌, Bool, true, false, List, [], ◌∷◌, ◌++◌, length, take, Some, slice_get, ⊤}
 use Rattle.world_parts.specs.lane_laws.DiskLog.{DiskLog}
-use Rattle.world_parts.specs.disk_model.DiskEvent.{DiskEvent, Done, OnWire, Stopped, Switches, Works}
-use Rattle.world_parts.specs.disk_model.LaneState.{Shape}
+use Rattle.world_parts.specs.lane_models.DiskEvent.{DiskEvent, Done, OnWire, Stopped, Switches, Works}
+use Rattle.world_parts.specs.lane_models.LaneState.{Shape}
 use Rattle.world_parts.specs.lane_laws.Blocks.{after_requests, block_at}
 use Rattle.world_parts.specs.lane_laws.Headline.{CompletionShows, HoldsDone, LastWrite}
 use Rattle.world_parts.specs.lane_laws.ImageStep.{region_of}
-use Rattle.world_parts.specs.channel_laws.WireEvent.{Reset}
+use Rattle.world_parts.specs.lane_models.WireEvent.{Reset}
 use Rattle.world_parts.specs.world_laws.Along.{happened}
 use Rattle.world_parts.specs.world_laws.Settle.{OfLane, SettleEntry}
 use Rattle.script_laws.specs.Told.{log_at}

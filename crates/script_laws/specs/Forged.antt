@@ -1,6 +1,6 @@
 -- Which disks a journal says somebody forged: a packet was injected before an end, or bytes were written into its memory.
 use Rattle.std.specs.Prelude.{◌≢◌, ℕ, List, [], ◌∷◌, Option, Some, None, ⊤}
-use Rattle.world_parts.specs.channel_laws.WireEvent.{Injected, Poked}
+use Rattle.world_parts.specs.lane_models.WireEvent.{Injected, Poked}
 use Rattle.domain_script.specs.LaneKinds.{disk_of}
 use Rattle.ldom_entries.specs.declared.entry.Entry.{Entry}
 use Rattle.ldom_report.specs.LaneEvents.{AtWire, Meaning, meaning}

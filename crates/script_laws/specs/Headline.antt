@@ -1,10 +1,10 @@
 -- THE HEADLINE: what holds of the disks of every script, whatever it resets, stops, restarts and loses.
 use Rattle.std.specs.Prelude.{◌≡◌, ◌↔◌, ℕ, false, List, ◌++◌, length, Some, IfSome, slice_get}
 use Rattle.disk_law.specs.ListState.{ImageState}
-use Rattle.world_parts.specs.disk_model.LaneState.{LaneState, Shape}
+use Rattle.world_parts.specs.lane_models.LaneState.{LaneState, Shape}
 use Rattle.domain_script.specs.declared.event.DiskDecl.{DiskDecl}
 use Rattle.world_parts.specs.domain_laws.Domain.{DomainState}
-use Rattle.world_parts.specs.port_model.NetLaneState.{NetShape}
+use Rattle.world_parts.specs.lane_models.NetLaneState.{NetShape}
 use Rattle.world_parts.specs.world_laws.Along.{happened}
 use Rattle.world_parts.specs.world_laws.Settle.{SettleEntry}
 use Rattle.world_parts.specs.world_laws.Stays.{StaysBehind}

@@ -3,13 +3,13 @@ use Rattle.std.specs.Prelude.{◌≡◌, ◌↔◌, ℕ, true, false, List, ◌+
 use Rattle.runs.specs.Run.{Run}
 use Rattle.world_parts.specs.lane_laws.Agreement.{AgreesWithLog}
 use Rattle.world_parts.specs.lane_laws.DiskLog.{DiskLog}
-use Rattle.world_parts.specs.disk_model.LaneState.{LaneState, Shape, fresh}
-use Rattle.world_parts.specs.disk_model.LaneStep.{LaneStep}
+use Rattle.world_parts.specs.lane_models.LaneState.{LaneState, Shape, fresh}
+use Rattle.world_parts.specs.lane_models.LaneStep.{LaneStep}
 use Rattle.world_parts.specs.lane_laws.May.{IsLawful}
 use Rattle.world_parts.specs.lane_laws.NearLaws.{NearInOrder}
-use Rattle.world_parts.specs.channel_laws.Sayings.{heard, said}
-use Rattle.world_parts.specs.channel_laws.TranscriptLog.{TranscriptLog, transcript_of}
-use Rattle.world_parts.specs.channel_laws.WireAt.{IsUp}
+use Rattle.world_parts.specs.lane_models.Sayings.{heard, said}
+use Rattle.world_parts.specs.lane_models.TranscriptLog.{TranscriptLog, transcript_of}
+use Rattle.world_parts.specs.lane_models.WireAt.{IsUp}
 use Rattle.world_parts.specs.lane_laws.WorkLog.{ClientCounts, ServerCounts}
 use Rattle.world_parts.specs.lane_laws.CountsOrdered.{CountsOrdered}
 use Rattle.world_parts.specs.lane_laws.OneSession.{AreOneSession}

@@ -8,9 +8,9 @@ use Rattle.domain_script.specs.declared.event.Event.TheVariants.{Settle}
 use Rattle.ldom_entries.specs.declared.entry.Entry.{Entry}
 use Rattle.lane_kinds.specs.Lanes.{EachOf}
 use Rattle.lane_kinds.specs.Settles.{RunsOut, entries_of_rounds}
-use Rattle.world_parts.specs.disk_model.LaneState.{Shape}
-use Rattle.world_parts.specs.port_model.FrameLaws.{IsFinished}
-use Rattle.world_parts.specs.port_model.NetLaneState.{NetShape}
+use Rattle.world_parts.specs.lane_models.LaneState.{Shape}
+use Rattle.world_parts.specs.lane_models.FrameLaws.{IsFinished}
+use Rattle.world_parts.specs.lane_models.NetLaneState.{NetShape}
 use Rattle.world_parts.specs.switch_laws.Ports as port
 use Rattle.world_parts.specs.world_laws.DiskKind as disk
 use Rattle.world_parts.specs.world_laws.Moves.{MovedIn, is_tick}

@@ -31,6 +31,6 @@ pub record OpensAndStops (start now : Option (List ℕ)) (why : Status) (names :
   pub stopped : Stopped start now why opening names 0 lines
 
 -- after such lines came this event, or the end; so the reader stands, and the source has `now` left
-abbrev pub Opened : Option (List ℕ) → LinesState → Option (List ℕ) → Option Event → NamesState → Type 0
-Opened start reader now None names = OpensAndStops start now status.Done names reader.number
-Opened start reader now (Some event) names = Opens start reader now event names
+abbrev pub OpensOrStops : Option (List ℕ) → LinesState → Option (List ℕ) → Option Event → NamesState → Type 0
+OpensOrStops start reader now None names = OpensAndStops start now status.Done names reader.number
+OpensOrStops start reader now (Some event) names = Opens start reader now event names

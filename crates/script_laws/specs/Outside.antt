@@ -5,7 +5,7 @@ use Rattle.vdisk_msg.specs.declared.request.Request.TheVariants.{Read, Write, Fl
 use Rattle.domain_script.specs.declared.event.DiskDecl.{DiskDecl}
 use Rattle.disk_law.specs.Issued.{issued}
 use Rattle.disk_law.specs.ListStep.{block_place}
-use Rattle.world_parts.specs.disk_model.LaneState.{Shape}
+use Rattle.world_parts.specs.lane_models.LaneState.{Shape}
 use Rattle.ldom_report.specs.DiskEvents.{history}
 use Rattle.ldom_entries.specs.declared.entry.Entry.{Entry}
 use Rattle.world_parts.specs.world_laws.NamesNo.{IsOutOf}

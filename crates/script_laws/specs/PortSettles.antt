@@ -3,11 +3,11 @@ use Rattle.std.specs.Prelude.{◌≡◌, ◌⊎◌, ℕ, Bool, true, false, List
 use Rattle.domain_script.specs.declared.event.Event.{Event}
 use Rattle.domain_script.specs.declared.event.Event.TheVariants.{Settle}
 use Rattle.ldom_entries.specs.declared.entry.Entry.{Entry}
-use Rattle.world_parts.specs.port_model.FrameLaws.{IsFinished}
-use Rattle.world_parts.specs.port_model.NetEvent.{Ticked}
-use Rattle.world_parts.specs.port_model.NetLaneState.{NetShape}
-use Rattle.world_parts.specs.port_model.PortLog.{PortLog}
-use Rattle.world_parts.specs.port_model.PortState.{OnLane}
+use Rattle.world_parts.specs.lane_models.FrameLaws.{IsFinished}
+use Rattle.world_parts.specs.lane_models.NetEvent.{Ticked}
+use Rattle.world_parts.specs.lane_models.NetLaneState.{NetShape}
+use Rattle.world_parts.specs.lane_models.PortLog.{PortLog}
+use Rattle.world_parts.specs.lane_models.PortState.{OnLane}
 use Rattle.world_parts.specs.switch_laws.Events.{OnPort, SwitchEvent}
 use Rattle.world_parts.specs.switch_laws.Ports.{is_calm}
 use Rattle.world_parts.specs.world_laws.Settle.{OfPort, SettleEntry, Settled, UnsettledPort}

@@ -3,12 +3,12 @@ use Rattle.std.specs.Prelude.{◌≡◌, ◌↔◌, ℕ, List, [], ◌∷◌, �
 use Rattle.runs.specs.Run.{Run}
 use Rattle.ldc_queue.specs.declared.end.End.{End}
 use Rattle.ldc_queue.specs.declared.end.End.TheVariants.{A, B}
-use Rattle.world_parts.specs.channel_laws.WireAt.{IsUp}
+use Rattle.world_parts.specs.lane_models.WireAt.{IsUp}
 use Rattle.world_parts.specs.port_laws.InOrder.{InOrder}
 use Rattle.world_parts.specs.port_laws.Lost.{frames_lost}
-use Rattle.world_parts.specs.port_model.NetLaneState.{NetShape}
-use Rattle.world_parts.specs.port_model.PortMay.{IsLawfulPort}
-use Rattle.world_parts.specs.port_model.PortState.{PortState, PortStep, fresh_port}
+use Rattle.world_parts.specs.lane_models.NetLaneState.{NetShape}
+use Rattle.world_parts.specs.lane_models.PortMay.{IsLawfulPort}
+use Rattle.world_parts.specs.lane_models.PortState.{PortState, PortStep, fresh_port}
 use Rattle.world_parts.specs.switch_laws.Events.{Switched}
 use Rattle.world_parts.specs.switch_laws.Forwards.{Forwards}
 use Rattle.world_parts.specs.switch_laws.Reached.{IsUnforged}

@@ -1,8 +1,8 @@
 -- What a settle comes to in a script.
 use Rattle.std.specs.Prelude.{◌≡◌, ◌⊎◌, ℕ, ◌+◌, ◌*◌, ◌≤◌, true, false, is_some, List, [], ◌∷◌, ◌++◌, length, map}
 use Rattle.world_parts.specs.lane_laws.DiskLog.{DiskLog}
-use Rattle.world_parts.specs.disk_model.DiskEvent.{DiskEvent}
-use Rattle.world_parts.specs.disk_model.LaneState.{Shape}
+use Rattle.world_parts.specs.lane_models.DiskEvent.{DiskEvent}
+use Rattle.world_parts.specs.lane_models.LaneState.{Shape}
 use Rattle.domain_script.specs.declared.event.Event.{Event}
 use Rattle.domain_script.specs.declared.event.Event.TheVariants.{Settle}
 use Rattle.world_parts.specs.world_laws.Forged.{NobodyForgesAny}
@@ -13,7 +13,7 @@ use Rattle.disk_law.specs.ListState.{ImageState}
 use Rattle.domain_script.specs.declared.event.DiskDecl.{DiskDecl}
 use Rattle.lane_kinds.specs.Lanes.{sum_of}
 use Rattle.lane_kinds.specs.Stuck.{NeverThree}
-use Rattle.world_parts.specs.port_model.NetLaneState.{NetShape}
+use Rattle.world_parts.specs.lane_models.NetLaneState.{NetShape}
 use Rattle.runs.specs.Run.{Run}
 use Rattle.world_parts.specs.switch_laws.Ports.{pending}
 use Rattle.world_parts.specs.domain_laws.Along.{port_happened}

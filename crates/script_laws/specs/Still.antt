@@ -2,10 +2,10 @@
 use Rattle.std.specs.Prelude.{◌≡◌, ◌⊎◌, ◌+◌, ◌≤◌, true, [], length}
 use Rattle.world_parts.specs.lane_laws.DiskLog.{DiskLog}
 use Rattle.world_parts.specs.lane_laws.QuietLaws.{EndIsIdle}
-use Rattle.world_parts.specs.channel_laws.WireAt.{IsUp}
-use Rattle.world_parts.specs.port_model.FrameLaws.{IfSession}
-use Rattle.world_parts.specs.port_model.PortLog.{PortLog, log_of_end}
-use Rattle.world_parts.specs.port_model.RestLaws.{IsIdle}
+use Rattle.world_parts.specs.lane_models.WireAt.{IsUp}
+use Rattle.world_parts.specs.lane_models.FrameLaws.{IfSession}
+use Rattle.world_parts.specs.lane_models.PortLog.{PortLog, log_of_end}
+use Rattle.world_parts.specs.lane_models.RestLaws.{IsIdle}
 use Rattle.ldc_queue.specs.Wire.{peer_of, waiting_for}
 use Rattle.ldc_queue.specs.declared.end.End.{End}
 use Rattle.ldc_queue.specs.declared.end.End.TheVariants.{A, B}

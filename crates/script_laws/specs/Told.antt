@@ -2,10 +2,10 @@
 use Rattle.std.specs.List.{filter_map, flat_map}
 use Rattle.std.specs.Prelude.{ℕ, List}
 use Rattle.world_parts.specs.lane_laws.DiskLog.{DiskLog, after, nothing_yet}
-use Rattle.world_parts.specs.disk_model.LaneState.{Shape}
+use Rattle.world_parts.specs.lane_models.LaneState.{Shape}
 use Rattle.domain_script.specs.declared.event.Event.{Event}
-use Rattle.world_parts.specs.port_model.NetLaneState.{NetShape}
-use Rattle.world_parts.specs.port_model.PortLog.{PortLog, after as port_after, no_events}
+use Rattle.world_parts.specs.lane_models.NetLaneState.{NetShape}
+use Rattle.world_parts.specs.lane_models.PortLog.{PortLog, after as port_after, no_events}
 use Rattle.world_parts.specs.world_laws.Along.{happened}
 use Rattle.world_parts.specs.world_laws.Settle.{SettleEntry}
 use Rattle.world_parts.specs.domain_laws.Frames.{port_events}

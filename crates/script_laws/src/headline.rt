@@ -6,7 +6,7 @@ ghost use Rattle.domain_script.specs.Declarations.{AreDisks};
 ghost use Rattle.domain_script.specs.declared.event.DiskDecl.{DiskDecl};
 ghost use Rattle.world_parts.specs.domain_laws.Domain.{DomainState};
 ghost use Rattle.lane_kinds.specs.Lanes.{EachOf};
-ghost use Rattle.world_parts.specs.port_model.NetLaneState.{IsNetShape, NetShape};
+ghost use Rattle.world_parts.specs.lane_models.NetLaneState.{IsNetShape, NetShape};
 ghost use Rattle.script_laws.specs.Headline.{Headline};
 ghost use Rattle.world_parts.specs.Declared.{bytes_needed, world_of};
 ghost use Rattle.world_parts.specs.Script.{FitsScript, ScriptParts};

@@ -3,7 +3,7 @@
 ghost use Rattle.std.specs.Prelude.{◌≡◌, ◌≤◌, ℕ, List, length, Some, slice_get};
 ghost use Rattle.runs.specs.Run.{Run};
 ghost use Rattle.disk_law.specs.ListState.{ImageState};
-ghost use Rattle.world_parts.specs.disk_model.LaneState.{Shape};
+ghost use Rattle.world_parts.specs.lane_models.LaneState.{Shape};
 ghost use Rattle.world_parts.specs.domain_laws.Along.{OnlyDisk};
 ghost use Rattle.world_parts.specs.domain_laws.Domain.{DomainState};
 ghost use Rattle.world_parts.specs.domain_laws.Isolation.{IsFor, OnlyPortPart};
@@ -12,7 +12,7 @@ ghost use Rattle.domain_script.specs.Declarations.{AreDisks};
 ghost use Rattle.domain_script.specs.declared.event.DiskDecl.{DiskDecl};
 ghost use Rattle.domain_script.specs.declared.event.Event.{Event};
 ghost use Rattle.ldom_entries.specs.declared.entry.Entry.{Entry};
-ghost use Rattle.world_parts.specs.port_model.NetLaneState.{NetShape};
+ghost use Rattle.world_parts.specs.lane_models.NetLaneState.{NetShape};
 ghost use Rattle.world_parts.specs.world_laws.Stays.{StaysAround};
 ghost use Rattle.script_laws.specs.Told.{told_by};
 ghost use Rattle.world_parts.specs.Declared.{bytes_needed, shapes_of, world_of};

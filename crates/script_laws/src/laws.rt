@@ -8,7 +8,7 @@ ghost use Rattle.domain_script.specs.Declarations.{AreDisks, Declared};
 ghost use Rattle.domain_script.specs.declared.event.DiskDecl.{DiskDecl};
 ghost use Rattle.world_parts.specs.domain_laws.Domain.{DomainState};
 ghost use Rattle.lane_kinds.specs.Lanes.{EachOf};
-ghost use Rattle.world_parts.specs.port_model.NetLaneState.{IsNetShape, NetShape};
+ghost use Rattle.world_parts.specs.lane_models.NetLaneState.{IsNetShape, NetShape};
 ghost use Rattle.ldom_report.specs.DiskEvents.{history};
 ghost use Rattle.ldom_report.specs.HasWords.{HasWords};
 ghost use Rattle.script_laws.specs.Admitting.{AdmitsAll};

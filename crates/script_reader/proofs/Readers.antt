@@ -5,7 +5,7 @@ use Rattle.std.specs.Io.KnownBytes.{Keeps, IsAtEnd, prepend_known}
 use Rattle.script_reader.specs.declared.lines.Lines.TheInside.{Inside}
 use Rattle.script_reader.specs.declared.lines.LinesStop.{LinesStop}
 use Rattle.script_reader.specs.declared.lines.LinesStop.TheVariants.{Ended, TooLong, TooMany}
-use Rattle.script_reader.specs.LinesState.{LinesState, to_come, GivesNone, GoesFrom, GoesOn, Reads}
+use Rattle.script_reader.specs.LinesState.{LinesState, to_come, GivesNone, GoesFrom, GoesOn, ReaderAnswers}
 use Rattle.script_reader.specs.Reader.{reader_state}
 
 held_by : (given : Bool) (line piece : List ℕ) → (cond given line []) ≡ [] → line ++ piece ≡ (cond given [] line) ++ piece
@@ -54,7 +54,7 @@ gives_none reader s held left after why is forgotten told = record {
 
 -- a reader that ended answers the end, and gives what it held no more
 pub ended_reads : (s new : LinesState) (left : Option (List ℕ)) → s.stop ≡ Ended → new ≡ record s { line = [] } → GoesOn s left
-    → Reads (to_come s left) (to_come new left) s (Ok false) new
+    → ReaderAnswers (to_come s left) (to_come new left) s (Ok false) new
 ended_reads s new left is emptied goes = (
   record {
     told = subst (λ (held : List ℕ). Keeps (to_come s left) (prepend_known held left)) (sym (ap (λ (t : LinesState). t.held) emptied)) (Keeps-refl (to_come s left));

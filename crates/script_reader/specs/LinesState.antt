@@ -67,16 +67,16 @@ pub record GivesNone (rest left : Option (List ℕ)) (before after : LinesState)
 
 -- An answer of a reader that goes on: `rest` is to come before the call, `left` after it. Where the source failed, no
 -- line is whole in what is held, and no limit is met.
-abbrev pub Reads : Option (List ℕ) → Option (List ℕ) → LinesState → Result Bool LinesFault → LinesState → Type 0
-Reads rest left before (Ok true) after = GivesLine rest left before after
-Reads rest left before (Ok false) after = GivesNone rest left before after Ended × IsAtEnd rest
-Reads rest left before (Err Source) after = GivesNone rest left before after Going × DecidesNothing before.number after.held
-Reads rest left before (Err Long) after = GivesNone rest left before after TooLong × (before.number < most_lines) × IfSome rest (BeginsWithLonger most_line_bytes)
-Reads rest left before (Err Many) after = GivesNone rest left before after TooMany × (before.number ≡ most_lines) × IfSome rest (λ bytes. bytes ≢ [])
+abbrev pub ReaderAnswers : Option (List ℕ) → Option (List ℕ) → LinesState → Result Bool LinesFault → LinesState → Type 0
+ReaderAnswers rest left before (Ok true) after = GivesLine rest left before after
+ReaderAnswers rest left before (Ok false) after = GivesNone rest left before after Ended × IsAtEnd rest
+ReaderAnswers rest left before (Err Source) after = GivesNone rest left before after Going × DecidesNothing before.number after.held
+ReaderAnswers rest left before (Err Long) after = GivesNone rest left before after TooLong × (before.number < most_lines) × IfSome rest (BeginsWithLonger most_line_bytes)
+ReaderAnswers rest left before (Err Many) after = GivesNone rest left before after TooMany × (before.number ≡ most_lines) × IfSome rest (λ bytes. bytes ≢ [])
 
 -- an answer of a reader: where it stopped before, the same again; behind a last line that is the end
 abbrev pub AdvancesFrom : LinesStop → Option (List ℕ) → Option (List ℕ) → LinesState → Result Bool LinesFault → LinesState → Type 0
-AdvancesFrom Going rest left before result after = Reads rest left before result after
+AdvancesFrom Going rest left before result after = ReaderAnswers rest left before result after
 AdvancesFrom Ended rest left before result after = (result ≡ Ok false) × (after ≡ record before { line = [] })
 AdvancesFrom TooLong rest left before result after = (result ≡ Err Long) × (after ≡ before)
 AdvancesFrom TooMany rest left before result after = (result ≡ Err Many) × (after ≡ before)

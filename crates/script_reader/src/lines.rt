@@ -81,7 +81,7 @@ impl Model for Lines {
 impl Lines {
     ghost use Rattle.std.specs.Prelude.{◌≡◌, ◌≢◌, ℕ, ◌<◌, ◌≤◌, [], true, length, IfOk};
     ghost use Rattle.vio_io.specs.Causes.{Rose};
-    ghost use Rattle.script_reader.specs.LinesState.{Advances, EndsNow, GoesOn, Reads, to_come};
+    ghost use Rattle.script_reader.specs.LinesState.{Advances, EndsNow, GoesOn, ReaderAnswers, to_come};
 
     /// Nothing was read. No other call takes memory: the room of a line of the most bytes is taken here.
     pub fn new(alloc: Global) -> Result<Self, NoMemory>
@@ -101,7 +101,7 @@ impl Lines {
         ensures advances { Advances (to_come self.old (S.left source.old)) (to_come self.new (S.left source.new)) self.old result self.new }
         // Where the reader may be asked further, that is one reading: also behind a last line at the source's end.
         ensures reads { GoesOn self.old (S.left source.old)
-            → Reads (to_come self.old (S.left source.old)) (to_come self.new (S.left source.new)) self.old result self.new }
+            → ReaderAnswers (to_come self.old (S.left source.old)) (to_come self.new (S.left source.new)) self.old result self.new }
         ensures empty { result ≢ Ok true → self.new.line ≡ [] }
 
         // Once the source was at its end, and after each other stop, it isn't asked.
@@ -138,7 +138,7 @@ impl Lines {
     /// Reads the next line of a script that goes on.
     fn go_on<S: Source>(&mut self, source: &mut S) -> Result<bool, LinesFault>
         requires { self.old.stop ≡ LinesStop.Going }
-        ensures reads { Reads (to_come self.old (S.left source.old)) (to_come self.new (S.left source.new)) self.old result self.new }
+        ensures reads { ReaderAnswers (to_come self.old (S.left source.old)) (to_come self.new (S.left source.new)) self.old result self.new }
         ensures faults { Fails (result ≡ Err LinesFault.Source) (S.faults source.old) (S.faults source.new) }
         ensures ends { SaysEnd (self.new.stop ≡ LinesStop.Ended) (S.ends source.old) (S.ends source.new) }
     {
@@ -165,7 +165,7 @@ impl Lines {
         requires going { self.old.stop ≡ LinesStop.Going }
         requires forgotten { self.old.line ≡ [] }
         requires few { self.old.number < most_lines }
-        ensures reads { Reads (to_come self.old (S.left source.old)) (to_come self.new (S.left source.new)) self.old result self.new }
+        ensures reads { ReaderAnswers (to_come self.old (S.left source.old)) (to_come self.new (S.left source.new)) self.old result self.new }
         ensures faults { Fails (result ≡ Err LinesFault.Source) (S.faults source.old) (S.faults source.new) }
         ensures ends { SaysEnd (self.new.stop ≡ LinesStop.Ended) (S.ends source.old) (S.ends source.new) }
     {
@@ -198,7 +198,7 @@ impl Lines {
         requires going { self.old.stop ≡ LinesStop.Going }
         requires forgotten { self.old.line ≡ [] }
         requires all { self.old.number ≡ most_lines }
-        ensures reads { Reads (to_come self.old (S.left source.old)) (to_come self.new (S.left source.new)) self.old result self.new }
+        ensures reads { ReaderAnswers (to_come self.old (S.left source.old)) (to_come self.new (S.left source.new)) self.old result self.new }
         ensures faults { Fails (result ≡ Err LinesFault.Source) (S.faults source.old) (S.faults source.new) }
         ensures ends { SaysEnd (self.new.stop ≡ LinesStop.Ended) (S.ends source.old) (S.ends source.new) }
     {

@@ -6,7 +6,8 @@ use Rattle.std.proofs.lemmas.Bool.{and_from, and_left, and_parts, eq-eqb, eqb-tr
 use Rattle.std.proofs.lemmas.Slice.Eq.{bytes_eq-Decides}
 use Rattle.hex.specs.Hex.{IsBytes}
 use Rattle.hex.proofs.HexLemmas.{decode_of-ok}
-use Rattle.script_words.specs.Addresses.{IsAddress, IsGroup, broadcast, is_group, is_own}
+use Rattle.vio_bytes.specs.Ethernet.{broadcast}
+use Rattle.script_words.specs.Addresses.{IsAddress, IsGroupAddress, is_group, is_own}
 use Rattle.script_words.specs.Words.{SpellsExactly, bytes_of, is_exactly}
 use Rattle.script_words.proofs.HexWords.{one_exactly}
 use Rattle.script_words.proofs.WordTests.{exactly_spelled, is_exactly_from}
@@ -41,7 +42,7 @@ pub true_not_false : (b : Bool) → b ≡ true → b ≡ false → ⊥
 true_not_false true is other = cc other
 true_not_false false is other = cc is
 
-pub group_from_test : (address : List ℕ) → length address ≡ 6 → is_group address ≡ true → IsGroup address
+pub group_from_test : (address : List ℕ) → length address ≡ 6 → is_group address ≡ true → IsGroupAddress address
 group_from_test address long is =
     let parts = and_parts _ _ is in
     record {
@@ -50,7 +51,7 @@ group_from_test address long is =
       not_all = λ same. true_not_false (bytes_eq address broadcast) ((bytes_eq-Decides address broadcast).1 same) (from_not (bytes_eq address broadcast) parts.1);
     }
 
-pub group_test : (address : List ℕ) → IsGroup address → is_group address ≡ true
+pub group_test : (address : List ℕ) → IsGroupAddress address → is_group address ≡ true
 group_test address is =
     and_from _ _ (eq-eqb (slice_index address 0 % 2) 1 is.odd)
     (ap not (false_from_ne_true (bytes_eq address broadcast) (λ same. is.not_all ((bytes_eq-Decides address broadcast).0 same))))
@@ -65,8 +66,8 @@ same_test false true P tells from_test to_test = tells.1 (from_test refl)
 pub own_told : (word address : List ℕ) → SpellsExactly 6 word address → (said : Bool) → IsTrue said ↔ IsAddress address → not said ≡ not (is_own address)
 own_told word address spells said tells = ap not (same_test said (is_own address) (IsAddress address) tells (own_from_word word address spells) (own_test address))
 
-pub group_told : (address : List ℕ) → length address ≡ 6 → (said : Bool) → IsTrue said ↔ IsGroup address → not said ≡ not (is_group address)
-group_told address long said tells = ap not (same_test said (is_group address) (IsGroup address) tells (group_from_test address long) (group_test address))
+pub group_told : (address : List ℕ) → length address ≡ 6 → (said : Bool) → IsTrue said ↔ IsGroupAddress address → not said ≡ not (is_group address)
+group_told address long said tells = ap not (same_test said (is_group address) (IsGroupAddress address) tells (group_from_test address long) (group_test address))
 
 -- A TEST OF THE BYTES that a word of six spells
 pub exactly_is : (size : ℕ) (word bytes : List ℕ) → SpellsExactly size word bytes → bytes_of word ≡ bytes

@@ -1,11 +1,8 @@
 -- Addresses on a network: six bytes. The first byte is even in a port's own address, and odd in that of a group.
-use Rattle.std.specs.Prelude.{◌≡◌, ◌≢◌, ℕ, ◌%◌, ◌<◌, ◌==◌, ◌&&◌, not, Bool, List, [], ◌∷◌, length, slice_index}
+use Rattle.std.specs.Prelude.{◌≡◌, ◌≢◌, ℕ, ◌%◌, ◌<◌, ◌==◌, ◌&&◌, not, Bool, List, length, slice_index}
 use Rattle.std.specs.List.{AllByRecursion, list_any}
+use Rattle.vio_bytes.specs.Ethernet.{broadcast}
 use Rattle.std.specs.Str.{bytes_eq}
-
--- the address of all ports
-abbrev pub broadcast : List ℕ
-broadcast = 255 ∷ 255 ∷ 255 ∷ 255 ∷ 255 ∷ 255 ∷ []
 
 -- a port's own
 pub record IsAddress (address : List ℕ) : Type 0 where
@@ -14,7 +11,7 @@ pub record IsAddress (address : List ℕ) : Type 0 where
   pub even : slice_index address 0 % 2 ≡ 0
 
 -- a group's, which isn't that of all ports
-pub record IsGroup (address : List ℕ) : Type 0 where
+pub record IsGroupAddress (address : List ℕ) : Type 0 where
   pub long : length address ≡ 6
   pub odd : slice_index address 0 % 2 ≡ 1
   pub not_all : address ≢ broadcast

@@ -1,6 +1,6 @@
 // The addresses that words spell, and of which kind they are.
 ghost use Rattle.std.specs.Prelude.{◌≡◌, ◌↔◌, ◌&&◌, ℕ, not, List, IfNone, IfSome, IsTrue};
-ghost use Rattle.script_words.specs.Addresses.{is_group, is_own, IsAddress, IsGroup};
+ghost use Rattle.script_words.specs.Addresses.{is_group, is_own, IsAddress, IsGroupAddress};
 ghost use Rattle.script_words.specs.Words.{bytes_of, is_exactly, SpellsExactly};
 
 use crate::spellings::address;
@@ -11,8 +11,8 @@ const BROADCAST: [u8; 6] = [255; 6];
 /// The address of a group that a word spells.
 pub fn group(word: &[u8]) -> Option<[u8; 6]>
     ensures some { IfSome result (SpellsExactly 6 word.now) }
-    ensures group { IfSome result IsGroup }
-    ensures none { IfNone result ((address : List ℕ) → SpellsExactly 6 word.now address → IsGroup address → ⊥) }
+    ensures group { IfSome result IsGroupAddress }
+    ensures none { IfNone result ((address : List ℕ) → SpellsExactly 6 word.now address → IsGroupAddress address → ⊥) }
 {
     let address = address(word)?;
     if is_group(&address) {
@@ -31,7 +31,7 @@ pub fn is_own(address: &[u8; 6]) -> bool
 
 /// Whether an address is that of a group: its first byte is odd, and it isn't that of all ports.
 fn is_group(address: &[u8; 6]) -> bool
-    ensures { IsTrue result ↔ IsGroup address.now }
+    ensures { IsTrue result ↔ IsGroupAddress address.now }
 {
     address[0] % 2 == 1 && *address != BROADCAST
 }

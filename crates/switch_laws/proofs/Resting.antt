@@ -3,7 +3,7 @@ use Rattle.std.proofs.Common.{◌≡◌, true, false, List, [], ◌∷◌, lengt
 use Rattle.std.specs.Prelude.{not}
 use Rattle.lane_kinds.proofs.Sums.{and_left, and_right}
 use Rattle.lane_kinds.specs.LaneCounts.{TickWaits}
-use Rattle.lane_kinds.specs.Lanes.{CalmTurn, LaneRests, all_calm}
+use Rattle.lane_kinds.specs.Lanes.{CalmTurn, ComesToRest, all_calm}
 use Rattle.ldc_queue.specs.declared.end.ChannelState.TheVariants.{Up}
 use Rattle.ldc_queue.specs.declared.end.End.{End}
 use Rattle.ldc_queue.specs.declared.end.End.TheVariants.{A, B}
@@ -73,7 +73,7 @@ finishes s events t at clean whole turn =
 tick_whole : (s : PortState) (events : List SwitchEvent) (t u : PortState) → CalmTurn ports s events t → SwitchStep t (tick t) u → IsLossless u
 tick_whole s events t u turn step = tick_lossless t (length t.queue) (unseen t.lane.guest.session) u step.1 (turn_up s t (two_calm s events t turn))
 
-pub port_rests : LaneRests ports IsReached IsUnforged IsLossless
+pub port_rests : ComesToRest ports IsReached IsUnforged IsLossless
 port_rests = record {
   turn_steps = turn_steps;
   reached = reached_step_of;

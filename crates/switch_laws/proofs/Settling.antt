@@ -7,8 +7,8 @@ use Rattle.lane_kinds.proofs.LaneCounts.{lanes_name}
 use Rattle.lane_kinds.proofs.Lanes.{lanes_fall}
 use Rattle.lane_kinds.proofs.Naming.{out_names}
 use Rattle.lane_kinds.proofs.Standing.{ends_with}
-use Rattle.lane_kinds.specs.Lanes.{AreClean, EachMarked, EachOf, IsAtRest, sum_of}
-use Rattle.lane_kinds.specs.Laws.{Keeps}
+use Rattle.lane_kinds.specs.Lanes.{AreClean, EachMarked, EachOf, IsLaneAtRest, sum_of}
+use Rattle.lane_kinds.specs.Laws.{KeepsStanding}
 use Rattle.lane_kinds.specs.Settles.{RunsOut, SettlePart, Settles}
 use Rattle.port_laws.specs.PortState.{PortState}
 use Rattle.switch_laws.specs.Ports.{SwitchEntry, of_ports, pending, ports, switch}
@@ -38,11 +38,11 @@ switch_settles start part behind at settle =
     (within (sum_of port_remaining start) (length start) (sum_of pending start) (ports_bound start at.clean) at.few) settle
 
 -- BEHIND IT
-keeps : Keeps switch (EachMarked Whole)
+keeps : KeepsStanding switch (EachMarked Whole)
 keeps = lanes_keep ports IsReached IsUnforged IsLossless port_rests of_ports
 
 pub switch_rests : (start : List PortState) (part : List SwitchEntry) (behind : List PortState) (at : Settles switch start part behind) → EachOf IsReached start
-    → EachMarked (IsAtRest ports IsUnforged) behind at.now.marks
+    → EachMarked (IsLaneAtRest ports IsUnforged) behind at.now.marks
 switch_rests start part behind at reached =
     all_rest ports IsReached IsUnforged IsLossless port_rests of_ports behind at.now.marks
     (ends_with switch (EachMarked Whole) keeps start part behind at (whole_fresh ports IsReached IsUnforged IsLossless port_rests start reached))

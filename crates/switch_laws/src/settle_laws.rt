@@ -2,7 +2,7 @@
 
 ghost use Rattle.std.specs.Prelude.{ℕ, ◌*◌, ◌+◌, ◌≤◌, length, List};
 ghost use Rattle.ldc_queue.specs.declared.end.End.{End};
-ghost use Rattle.lane_kinds.specs.Lanes.{AllMove, AreClean, EachMarked, EachOf, IsAtRest, LaneFalls, sum_of};
+ghost use Rattle.lane_kinds.specs.Lanes.{AllMove, AreClean, EachMarked, EachOf, IsLaneAtRest, LaneFalls, sum_of};
 ghost use Rattle.lane_kinds.specs.Settles.{most_rounds, RunsOut, SettlePart, Settles};
 ghost use Rattle.lane_kinds.specs.Stuck.{NeverThree, sum_over};
 ghost use Rattle.port_laws.specs.PortState.{PortState};
@@ -51,5 +51,5 @@ pub fn a_settle_of_an_unforged_switch_ends_settled()
 /// finished, also beside ports that somebody forged: its guest is in session and told its groups, and no frame is held.
 pub fn ports_are_finished_behind_a_settle()
     ensures { (start : List PortState) (part : List SwitchEntry) (behind : List PortState) (at : Settles switch start part behind)
-        → EachOf IsReached start → EachMarked (IsAtRest ports IsUnforged) behind at.now.marks }
+        → EachOf IsReached start → EachMarked (IsLaneAtRest ports IsUnforged) behind at.now.marks }
 {}

@@ -6,11 +6,11 @@ use Rattle.ldc_queue.specs.declared.end.End.TheVariants.{A, B}
 use Rattle.ldc_queue.specs.declared.end.PutFault.{PutFault}
 use Rattle.ldc_queue.specs.declared.end.PutFault.TheVariants as put
 use Rattle.net_lane.specs.Events.{injected_event, lost_event, next_behind, poked_event, ticked_event}
-use Rattle.port_model.specs.NetEndState.{NetEndState}
-use Rattle.port_model.specs.NetEvent.{Asked, CalmTick, Declines, Gives, Injects, Joins, Loses, NetEvent, Pokes, Steps, Ticked}
-use Rattle.port_model.specs.NetLaneState.{NetLaneState, NetShape}
-use Rattle.port_model.specs.NetLaneStep.{NetLaneStep}
-use Rattle.port_model.specs.PortState.{OnLane, PortState, PortStep}
+use Rattle.lane_models.specs.NetEndState.{NetEndState}
+use Rattle.lane_models.specs.NetEvent.{Asked, CalmTick, Declines, Gives, Injects, Joins, Loses, NetEvent, Pokes, Steps, Ticked}
+use Rattle.lane_models.specs.NetLaneState.{NetLaneState, NetShape}
+use Rattle.lane_models.specs.NetLaneStep.{NetLaneStep}
+use Rattle.lane_models.specs.PortState.{OnLane, PortState, PortStep}
 use Rattle.switch_laws.specs.Events.{IsAlone}
 use Rattle.switched_ports.specs.States.{state_of}
 

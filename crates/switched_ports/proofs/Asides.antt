@@ -4,12 +4,12 @@ use Rattle.std.specs.Option.{option_map_or}
 use Rattle.std.proofs.lemmas.Option.{slice_get-map, slice_get_read}
 use Rattle.lane_kinds.specs.Lanes.{EachOf, EntryOf}
 use Rattle.net_lane.specs.Events.{SameIds}
-use Rattle.port_model.specs.NetEndState.{NetEndState}
-use Rattle.port_model.specs.NetEvent.{NetEvent}
+use Rattle.lane_models.specs.NetEndState.{NetEndState}
+use Rattle.lane_models.specs.NetEvent.{NetEvent}
 use Rattle.ldc_queue.specs.declared.end.End.{End}
-use Rattle.port_model.specs.NetLaneState.{NetLaneState, NetShape, net_end}
-use Rattle.port_model.specs.NetLaneStep.{NetLaneStep}
-use Rattle.port_model.specs.PortState.{OnLane, PortState, PortStep}
+use Rattle.lane_models.specs.NetLaneState.{NetLaneState, NetShape, net_end}
+use Rattle.lane_models.specs.NetLaneStep.{NetLaneStep}
+use Rattle.lane_models.specs.PortState.{OnLane, PortState, PortStep}
 use Rattle.switch_laws.proofs.Steps.{as_on_switch}
 use Rattle.switch_laws.specs.Events.{OnPort, SwitchEvent}
 use Rattle.switch_laws.specs.Forwards.{address_in, port_view}

@@ -7,7 +7,7 @@ use Rattle.lane_kinds.proofs.Lanes.{other_test}
 use Rattle.lane_kinds.proofs.Places.{get_other, get_set}
 use Rattle.lane_kinds.specs.Lanes.{AllStep, EachOf, own_or}
 use Rattle.net_lane.specs.NetLaneState.{NetLaneState, NetShape}
-use Rattle.port_model.specs.PortState.{PortState}
+use Rattle.lane_models.specs.PortState.{PortState}
 use Rattle.runs.specs.Run.{Run}
 use Rattle.switch_laws.specs.Events.{OnPort, SwitchEvent, SwitchStep, Switched}
 use Rattle.switch_laws.specs.Forwards.{port_view, views}

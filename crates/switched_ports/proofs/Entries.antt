@@ -10,7 +10,7 @@ use Rattle.net_lane.specs.Frames.{IsFrame}
 use Rattle.ldc_queue.specs.declared.end.End.{End}
 use Rattle.std.specs.Option.{option_map_or}
 use Rattle.net_lane.specs.NetLaneState.{NetLaneState, NetShape, net_end}
-use Rattle.port_model.specs.PortState.{PortState}
+use Rattle.lane_models.specs.PortState.{PortState}
 use Rattle.runs.specs.Run.{Run, run_keeps}
 use Rattle.switch_laws.proofs.Steps.{reached_step}
 use Rattle.switch_laws.specs.Events.{OnPort, SwitchEvent, SwitchStep, Switched}

@@ -3,7 +3,7 @@ use Rattle.std.proofs.Common.{◌≡◌, ℕ, zero, suc, ◌+◌, ◌<◌, ◌�
 use Rattle.std.proofs.lemmas.List.{length-map}
 use Rattle.lane_kinds.specs.Lanes.{EachOf}
 use Rattle.net_lane.specs.NetLaneState.{IsNetShape, NetLaneState, NetShape, fresh_net}
-use Rattle.port_model.specs.PortState.{PortState, fresh_port}
+use Rattle.lane_models.specs.PortState.{PortState, fresh_port}
 use Rattle.switch_laws.specs.Forwards.{views}
 use Rattle.switch_laws.specs.Reached.{IsReached}
 use Rattle.vnet_switch.specs.PortView.{PortView}

@@ -9,12 +9,12 @@ use Rattle.net_lane.specs.Events.{SameIds}
 use Rattle.net_lane.specs.Stepping.{net_answer}
 use Rattle.net_lane.specs.net_out.NetOut.{NetOut}
 use Rattle.net_lane.specs.net_out.NetOut.TheVariants as out
-use Rattle.port_model.specs.NetEndState.{NetSession}
-use Rattle.port_model.specs.NetEndStep.{Frame, NetAnswer}
-use Rattle.port_model.specs.NetEvent.{Asked, NetEvent, Steps}
-use Rattle.port_model.specs.NetLaneState.{NetLaneState, NetShape, net_end}
-use Rattle.port_model.specs.NetLaneStep.{NetLaneStep}
-use Rattle.port_model.specs.PortState.{OnLane, PortState, PortStep}
+use Rattle.lane_models.specs.NetEndState.{NetSession}
+use Rattle.lane_models.specs.NetEndStep.{Frame, NetAnswer}
+use Rattle.lane_models.specs.NetEvent.{Asked, NetEvent, Steps}
+use Rattle.lane_models.specs.NetLaneState.{NetLaneState, NetShape, net_end}
+use Rattle.lane_models.specs.NetLaneStep.{NetLaneStep}
+use Rattle.lane_models.specs.PortState.{OnLane, PortState, PortStep}
 use Rattle.switch_laws.proofs.Steps.{as_on_switch}
 use Rattle.switch_laws.specs.Events.{OnPort, SwitchEvent, SwitchStep, Switched}
 use Rattle.switch_laws.specs.Forwards.{SeesSwitch, address_in, port_view, views}

@@ -1,7 +1,7 @@
 -- What a frame that moves to the switch's end of a port leaves as it is: the port's shape, the guest's ids, and how
 -- many frames the switch's end was given with those that wait for it.
 use Rattle.std.proofs.Common.{◌≡◌, ℕ, suc, ◌+◌, Bool, true, false, List, [], ◌∷◌, length, refl, sym, ap, arith}
-use Rattle.port_model.specs.PortState.{PortState, moved, moves_first, takes_more}
+use Rattle.lane_models.specs.PortState.{PortState, moved, moves_first, takes_more}
 
 moved_shape : (b : Bool) (queue : List (List ℕ)) (s : PortState) → (moves_first b queue s).lane.shape ≡ s.lane.shape
 moved_shape true [] s = refl

@@ -1,7 +1,7 @@
 -- A step of a port's end, in an entry of all: the cause for which it resets itself is its own, and the frame that it
 -- takes has its length.
 use Rattle.std.proofs.Common.{◌≡◌, ℕ, List, Option, Some, slice_get, arith}
-use Rattle.channel_laws.specs.WireEvent.{ByStep, giver}
+use Rattle.lane_models.specs.WireEvent.{ByStep, giver}
 use Rattle.lane_kinds.proofs.Places.{get_within}
 use Rattle.lane_kinds.specs.Lanes.{EachOf, EntryOf}
 use Rattle.ldc_queue.specs.declared.end.End.{End}
@@ -9,12 +9,12 @@ use Rattle.ldc_queue.specs.declared.end.End.TheVariants.{A, B}
 use Rattle.net_lane.specs.Stepping.{net_answer}
 use Rattle.net_lane.specs.net_out.NetOut.{NetOut}
 use Rattle.net_lane.specs.net_out.NetOut.TheVariants as out
-use Rattle.port_model.proofs.OwnResets.{net_resets_own}
-use Rattle.port_model.specs.NetEndRule.{port_rule}
-use Rattle.port_model.specs.NetEndStep.{Frame, NetAnswer}
-use Rattle.port_model.specs.NetEvent.{Steps}
-use Rattle.port_model.specs.NetLaneState.{NetLaneState, memory_of, net_end, reach_of, role_at, seen_at}
-use Rattle.port_model.specs.PortState.{OnLane, PortState, PortStep, before}
+use Rattle.lane_models.proofs.OwnResets.{net_resets_own}
+use Rattle.lane_models.specs.NetEndRule.{port_rule}
+use Rattle.lane_models.specs.NetEndStep.{Frame, NetAnswer}
+use Rattle.lane_models.specs.NetEvent.{Steps}
+use Rattle.lane_models.specs.NetLaneState.{NetLaneState, memory_of, net_end, reach_of, role_at, seen_at}
+use Rattle.lane_models.specs.PortState.{OnLane, PortState, PortStep, before}
 use Rattle.switch_laws.proofs.Forwarding.{leaves_others}
 use Rattle.switch_laws.specs.Events.{SwitchStep}
 use Rattle.switch_laws.specs.Ports.{ports as kind}

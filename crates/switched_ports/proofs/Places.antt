@@ -5,7 +5,7 @@ use Rattle.std.proofs.lemmas.Bool.{cases_eq}
 use Rattle.std.proofs.lemmas.List.{length-map}
 use Rattle.std.proofs.lemmas.Option.{same_Some, slice_get-map, slice_get_read}
 use Rattle.net_lane.specs.NetLaneState.{NetLaneState}
-use Rattle.port_model.specs.PortState.{PortState}
+use Rattle.lane_models.specs.PortState.{PortState}
 use Rattle.switch_laws.specs.Forwards.{port_view, views}
 use Rattle.vnet_switch.proofs.Changes.{option_map_some}
 use Rattle.vnet_switch.specs.PortView.{PortView}

@@ -11,14 +11,14 @@ use Rattle.net_lane.specs.Stepping.{net_answer}
 use Rattle.net_lane.specs.net_out.NetOut.{NetOut}
 use Rattle.net_lane.specs.net_out.NetOut.TheVariants as out
 use Rattle.port_laws.proofs.RuleFrames.{port_takes}
-use Rattle.port_model.specs.FrameLaws.{TakingAt}
-use Rattle.port_model.specs.NetEndState.{NetEndState, NetSession}
-use Rattle.port_model.specs.NetEndStep.{Frame, NetAnswer}
-use Rattle.port_model.specs.NetEvent.{Steps}
-use Rattle.port_model.specs.NetLaneState.{NetLaneState, NetShape}
-use Rattle.port_model.specs.NetLaneStep.{NetLaneStep}
-use Rattle.port_model.specs.PortLog.{after, no_events}
-use Rattle.port_model.specs.PortState.{OnLane, PortState, PortStep, fresh_port, moved}
+use Rattle.lane_models.specs.FrameLaws.{TakingAt}
+use Rattle.lane_models.specs.NetEndState.{NetEndState, NetSession}
+use Rattle.lane_models.specs.NetEndStep.{Frame, NetAnswer}
+use Rattle.lane_models.specs.NetEvent.{Steps}
+use Rattle.lane_models.specs.NetLaneState.{NetLaneState, NetShape}
+use Rattle.lane_models.specs.NetLaneStep.{NetLaneStep}
+use Rattle.lane_models.specs.PortLog.{after, no_events}
+use Rattle.lane_models.specs.PortState.{OnLane, PortState, PortStep, fresh_port, moved}
 use Rattle.runs.specs.Lawful.{lawful_split}
 use Rattle.runs.specs.Run.{run_push}
 use Rattle.switch_laws.specs.Forwards.{address_in, port_view}

@@ -1,6 +1,6 @@
 -- What a step of an end is for the ports of a switch, by its answer.
 use Rattle.std.specs.Prelude.{◌≡◌, Bool, true, false, List, Option, Some, ⊤}
-use Rattle.channel_laws.specs.WireEvent.{ByStep, giver}
+use Rattle.lane_models.specs.WireEvent.{ByStep, giver}
 use Rattle.ldc_queue.specs.declared.end.End.{End}
 use Rattle.ldc_queue.specs.declared.end.End.TheVariants.{B}
 use Rattle.net_lane.specs.net_out.NetOut.{NetOut}

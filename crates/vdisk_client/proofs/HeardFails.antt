@@ -12,10 +12,10 @@ use Rattle.ldc_queue.specs.declared.end.ChannelState.TheVariants.{Up}
 use Rattle.ldc_queue.specs.declared.end.End.TheVariants.{A}
 use Rattle.vio_handshake.specs.declared.handshake.Phase.TheVariants.{Down}
 use Rattle.vio_tag.specs.declared.cause.Cause.{Cause}
-use Rattle.disk_model.specs.ClientRule.{ClientRule, Takes, puts_first, takes_first}
-use Rattle.disk_model.specs.ClientState.{ClientState, joined_client}
-use Rattle.disk_model.specs.ClientStep.{ClientFails}
-use Rattle.disk_model.specs.ClientTaking.{ClientTakes, HearsWhole, Resets}
+use Rattle.lane_models.specs.ClientRule.{ClientRule, Takes, puts_first, takes_first}
+use Rattle.lane_models.specs.ClientState.{ClientState, joined_client}
+use Rattle.lane_models.specs.ClientStep.{ClientFails}
+use Rattle.lane_models.specs.ClientTaking.{ClientTakes, HearsWhole, Resets}
 use Rattle.vdisk_client.proofs.Linking.{LinkTook, bytes_took}
 use Rattle.vdisk_client.specs.Calls.{Steps, rule_of, sees}
 use Rattle.vdisk_client.specs.declared.answers.ClientOut.{ClientOut}

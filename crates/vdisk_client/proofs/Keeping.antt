@@ -4,13 +4,13 @@ use Rattle.std.specs.Prelude.{max}
 use Rattle.ldc_queue.specs.ChannelView.{ChannelView}
 use Rattle.ldc_queue.specs.declared.end.End.TheVariants.{A}
 use Rattle.vdisk_msg.specs.declared.request.Request.{Request}
-use Rattle.channel_laws.specs.WireEvent.{Blocked, Idle, Joined, Reset, Sent, Took}
-use Rattle.disk_model.specs.ClientPutting.{announcement, announcing, client_holds, holding, is_announcing}
-use Rattle.disk_model.specs.ClientRule.{Announces, ClientRule, Completes, Joins, Publishes, Puts, Idles, Says, Takes, client_rule}
-use Rattle.disk_model.specs.ClientState.{ClientSession, ClientState}
-use Rattle.disk_model.specs.ClientStep.{ClientCompletes, ClientPublishes, ClientStep}
-use Rattle.disk_model.specs.DiskEvent.{DiskEvent, Done, OnWire, Published, Works}
-use Rattle.channel_laws.specs.Seeing.{Seen}
+use Rattle.lane_models.specs.WireEvent.{Blocked, Idle, Joined, Reset, Sent, Took}
+use Rattle.lane_models.specs.ClientPutting.{announcement, announcing, client_holds, holding, is_announcing}
+use Rattle.lane_models.specs.ClientRule.{Announces, ClientRule, Completes, Joins, Publishes, Puts, Idles, Says, Takes, client_rule}
+use Rattle.lane_models.specs.ClientState.{ClientSession, ClientState}
+use Rattle.lane_models.specs.ClientStep.{ClientCompletes, ClientPublishes, ClientStep}
+use Rattle.lane_models.specs.DiskEvent.{DiskEvent, Done, OnWire, Published, Works}
+use Rattle.lane_models.specs.Seeing.{Seen}
 use Rattle.vdisk_client.proofs.KeptPuts.{held_stands, put_stands}
 use Rattle.vdisk_client.proofs.KeptTakes.{takes_stands}
 use Rattle.vdisk_client.proofs.Requests.{sound_rest}

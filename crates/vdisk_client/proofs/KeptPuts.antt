@@ -18,11 +18,11 @@ use Rattle.vio_handshake.specs.State.{handshake_up}
 use Rattle.vio_tag.proofs.Canonical.{length_canonical}
 use Rattle.vio_tag.specs.declared.message.Message.{Message}
 use Rattle.vio_tag.specs.Spelling.{canonical}
-use Rattle.disk_model.specs.ClientPutting.{announced, announcement, announcing, client_holds, client_put, holding, is_announcing, opened_if, session_behind}
-use Rattle.disk_model.specs.ClientRule.{Announces, ClientRule, Completes, Joins, Publishes, Puts, Idles, Says, Takes, client_rule}
-use Rattle.disk_model.specs.ClientState.{ClientSession, ClientState}
-use Rattle.channel_laws.specs.EndPuts.{ending, kind_in, handshake_behind}
-use Rattle.channel_laws.specs.Seeing.{Seen}
+use Rattle.lane_models.specs.ClientPutting.{announced, announcement, announcing, client_holds, client_put, holding, is_announcing, opened_if, session_behind}
+use Rattle.lane_models.specs.ClientRule.{Announces, ClientRule, Completes, Joins, Publishes, Puts, Idles, Says, Takes, client_rule}
+use Rattle.lane_models.specs.ClientState.{ClientSession, ClientState}
+use Rattle.lane_models.specs.EndPuts.{ending, kind_in, handshake_behind}
+use Rattle.lane_models.specs.Seeing.{Seen}
 use Rattle.vdisk_client.proofs.Rules.{Known, Unannounced, rule_known}
 use Rattle.vdisk_client.proofs.Handshaking.{HandshakeKeeps, begun_keeps, sent_keeps, up_begins}
 use Rattle.vdisk_client.proofs.Standing.{not_true}

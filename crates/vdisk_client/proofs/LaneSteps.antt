@@ -4,17 +4,17 @@ use Rattle.ldc_queue.specs.ChannelView.{ChannelView}
 use Rattle.ldc_queue.specs.declared.end.End.TheVariants.{A, B}
 use Rattle.ldc_queue.specs.Wire.{Wire, configured, put_for, taken_for}
 use Rattle.vio_tag.specs.declared.cause.Cause.{Cause}
-use Rattle.channel_laws.specs.WireEvent as wire
-use Rattle.channel_laws.specs.WireEvent.{ByStep, Giver, giver}
-use Rattle.disk_model.proofs.OwnSteps.{client_resets_own}
-use Rattle.disk_model.specs.ClientRule.{client_rule}
-use Rattle.disk_model.specs.ClientState.{ClientState}
-use Rattle.disk_model.specs.ClientStep.{ClientStep}
-use Rattle.disk_model.specs.DiskEvent.{DiskEvent, Done, OnWire, Published, Works}
-use Rattle.disk_model.specs.LaneState.{LaneState}
-use Rattle.disk_model.specs.OnChannel.{IsChannelOf}
-use Rattle.disk_model.specs.LaneStep.{ClientOnWire, LaneStep, ResetBy}
-use Rattle.channel_laws.specs.Seeing.{Seen, seen}
+use Rattle.lane_models.specs.WireEvent as wire
+use Rattle.lane_models.specs.WireEvent.{ByStep, Giver, giver}
+use Rattle.lane_models.proofs.OwnSteps.{client_resets_own}
+use Rattle.lane_models.specs.ClientRule.{client_rule}
+use Rattle.lane_models.specs.ClientState.{ClientState}
+use Rattle.lane_models.specs.ClientStep.{ClientStep}
+use Rattle.lane_models.specs.DiskEvent.{DiskEvent, Done, OnWire, Published, Works}
+use Rattle.lane_models.specs.LaneState.{LaneState}
+use Rattle.lane_models.specs.OnChannel.{IsChannelOf}
+use Rattle.lane_models.specs.LaneStep.{ClientOnWire, LaneStep, ResetBy}
+use Rattle.lane_models.specs.Seeing.{Seen, seen}
 use Rattle.vdisk_client.specs.Calls.{Steps, channel_after, client_event, sees}
 use Rattle.vdisk_client.specs.OnLane.{client_moved}
 use Rattle.vdisk_client.specs.declared.answers.ClientOut.{ClientOut}

@@ -6,9 +6,9 @@ use Rattle.cookie_copy.specs.Faults.{is_up}
 use Rattle.ldc_link.specs.Putting.{owes}
 use Rattle.vdisk_msg.specs.declared.request.Request.{Request}
 use Rattle.vio_tag.specs.declared.message.Message.{Message}
-use Rattle.disk_model.specs.ClientRule.{Announces, ClientRule, Completes, Joins, Publishes, Puts, Idles, Says, Takes, announces, client_rule, completes_first, in_session, is_urgent, publishes, puts_first, puts_or_takes, says, takes_first}
-use Rattle.disk_model.specs.ClientState.{ClientSession, ClientState}
-use Rattle.channel_laws.specs.Seeing.{Seen}
+use Rattle.lane_models.specs.ClientRule.{Announces, ClientRule, Completes, Joins, Publishes, Puts, Idles, Says, Takes, announces, client_rule, completes_first, in_session, is_urgent, publishes, puts_first, puts_or_takes, says, takes_first}
+use Rattle.lane_models.specs.ClientState.{ClientSession, ClientState}
+use Rattle.lane_models.specs.Seeing.{Seen}
 
 pub record Unannounced (s : ClientState) (session : ClientSession) : Type 0 where
   pub is_open : s.session ≡ Some session

@@ -8,10 +8,10 @@ use Rattle.vdisk_msg.specs.Fills.{IsRequest}
 use Rattle.vdisk_msg.specs.Requests.{defect}
 use Rattle.vio_handshake.proofs.WellFormed.{joined_owes}
 use Rattle.vio_tag.specs.Form.{AreCookies}
-use Rattle.disk_model.specs.ClientState.{ClientSession, ClientState, fresh_client, joined_client}
-use Rattle.disk_model.specs.ClientStep.{ClientAdmits}
-use Rattle.disk_model.specs.DiskEvent.{Accepted, Admitted, Full, Refused}
-use Rattle.disk_model.specs.Offering.{client_offer}
+use Rattle.lane_models.specs.ClientState.{ClientSession, ClientState, fresh_client, joined_client}
+use Rattle.lane_models.specs.ClientStep.{ClientAdmits}
+use Rattle.lane_models.specs.DiskEvent.{Accepted, Admitted, Full, Refused}
+use Rattle.lane_models.specs.Offering.{client_offer}
 use Rattle.vdisk_client.proofs.Requests.{sound_push}
 use Rattle.vdisk_client.specs.Standing.{CountsStand, IsInitiators, SessionStands, Stands, TranscriptStands}
 

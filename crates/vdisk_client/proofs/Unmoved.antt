@@ -1,6 +1,6 @@
 -- What no step of a client changes: the ring's slots and the next id.
 use Rattle.std.proofs.Common.{ℕ}
-use Rattle.disk_model.specs.ClientState.{ClientState}
+use Rattle.lane_models.specs.ClientState.{ClientState}
 
 pub record Fixed : Type 0 where
   pub slots : ℕ

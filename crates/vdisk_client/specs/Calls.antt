@@ -4,12 +4,12 @@ use Rattle.ldc_queue.specs.ChannelView.{ChannelView, channel_with, channel_witho
 use Rattle.ldc_queue.specs.declared.end.End.TheVariants.{A, B}
 use Rattle.vdisk_msg.specs.declared.request.Request.{Request}
 use Rattle.vdisk_msg.specs.Requests.{BadCount, BadRange, given_count}
-use Rattle.channel_laws.specs.WireEvent as wire
-use Rattle.disk_model.specs.ClientRule.{ClientRule, client_rule}
-use Rattle.disk_model.specs.ClientState.{ClientState}
-use Rattle.disk_model.specs.ClientStep.{ClientStep}
-use Rattle.disk_model.specs.DiskEvent.{Accepted, Admitted, DiskEvent, Done, Full, OnWire, Published, Refused, Works}
-use Rattle.channel_laws.specs.Seeing.{Seen, seen}
+use Rattle.lane_models.specs.WireEvent as wire
+use Rattle.lane_models.specs.ClientRule.{ClientRule, client_rule}
+use Rattle.lane_models.specs.ClientState.{ClientState}
+use Rattle.lane_models.specs.ClientStep.{ClientStep}
+use Rattle.lane_models.specs.DiskEvent.{Accepted, Admitted, DiskEvent, Done, Full, OnWire, Published, Refused, Works}
+use Rattle.lane_models.specs.Seeing.{Seen, seen}
 use Rattle.vdisk_client.specs.declared.answers.ClientOut.{ClientOut}
 use Rattle.vdisk_client.specs.declared.answers.ClientOut.TheVariants as out
 use Rattle.vdisk_client.specs.declared.answers.IssueFault.{IssueFault}

@@ -4,8 +4,8 @@ use Rattle.std.specs.Prelude.{◌≡◌, length, Option, Some, None, Result, Ok,
 use Rattle.vio_handshake.specs.declared.handshake.Handshake.{Handshake}
 use Rattle.vio_handshake.specs.declared.handshake.Phase.TheVariants.{Open}
 use Rattle.vio_tag.specs.declared.cause.Cause.{Cause}
-use Rattle.disk_model.specs.ClientState.{ClientSession, ClientState}
-use Rattle.disk_model.specs.ClientTaking.{ClientTake, GoesOn, Resets}
+use Rattle.lane_models.specs.ClientState.{ClientSession, ClientState}
+use Rattle.lane_models.specs.ClientTaking.{ClientTake, GoesOn, Resets}
 use Rattle.vdisk_client.specs.Standing.{RequestsStand, SessionStands}
 
 abbrev pub take_of : {U : Type 0} → Result U Cause → ClientState → ClientTake

@@ -1,10 +1,10 @@
 -- A client's step as a step of a disk's lane, over the lane's channel and memory.
 use Rattle.std.specs.Prelude.{ℕ, List}
-use Rattle.channel_laws.specs.WireLog.{wire_moved}
-use Rattle.disk_model.specs.ClientState.{ClientState}
-use Rattle.disk_model.specs.DiskEvent.{Asks, DiskEvent, OnWire, Calms, Switches, Works}
-use Rattle.disk_model.specs.LaneState.{LaneState}
-use Rattle.disk_model.specs.LaneStep.{near_on_wire, near_worked}
+use Rattle.lane_models.specs.WireLog.{wire_moved}
+use Rattle.lane_models.specs.ClientState.{ClientState}
+use Rattle.lane_models.specs.DiskEvent.{Asks, DiskEvent, OnWire, Calms, Switches, Works}
+use Rattle.lane_models.specs.LaneState.{LaneState}
+use Rattle.lane_models.specs.LaneStep.{near_on_wire, near_worked}
 
 -- the lane after an event of its client, which left the client and the memory so
 abbrev pub client_moved : LaneState → DiskEvent → ClientState → List ℕ → LaneState

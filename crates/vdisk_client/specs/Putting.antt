@@ -5,9 +5,9 @@ use Rattle.vio_bytes.specs.Place.{put_at}
 use Rattle.ldc_link.specs.Calls.{Puts as PutsPacket}
 use Rattle.ldc_link.specs.LinkState.{LinkState, is_up}
 use Rattle.ldc_link.specs.Putting.{owes}
-use Rattle.disk_model.specs.ClientPutting.{client_opens, client_put, is_announcing, memory_put, session_behind}
-use Rattle.disk_model.specs.ClientState.{ClientSession, ClientState}
-use Rattle.channel_laws.specs.EndPuts.{ComesUp, EndsOwn, EndsHandshake, Goes, PutKind, handshake_behind}
+use Rattle.lane_models.specs.ClientPutting.{client_opens, client_put, is_announcing, memory_put, session_behind}
+use Rattle.lane_models.specs.ClientState.{ClientSession, ClientState}
+use Rattle.lane_models.specs.EndPuts.{ComesUp, EndsOwn, EndsHandshake, Goes, PutKind, handshake_behind}
 use Rattle.ldc_queue.specs.ChannelView.{ChannelView}
 use Rattle.vdisk_client.specs.Calls.{channel_after, sees}
 use Rattle.vdisk_client.specs.declared.answers.ClientOut.{ClientOut}

@@ -10,8 +10,8 @@ use Rattle.vdisk_msg.specs.Requests.{AreSound}
 use Rattle.vio_handshake.specs.declared.handshake.Handshake.{Handshake}
 use Rattle.vio_handshake.specs.declared.handshake.Phase.TheVariants.{Down, Open}
 use Rattle.vio_handshake.specs.State.{OwesWell}
-use Rattle.disk_model.specs.ClientPutting.{is_announcing}
-use Rattle.disk_model.specs.ClientState.{ClientSession, ClientState}
+use Rattle.lane_models.specs.ClientPutting.{is_announcing}
+use Rattle.lane_models.specs.ClientState.{ClientSession, ClientState}
 
 -- the phases of the end that begins the link's handshake
 abbrev pub IsInitiators : LinkPhase → Type 0
@@ -69,7 +69,7 @@ TranscriptStands s = Transcripts s.link s.handshake s.session
 
 -- THE REQUESTS: at most as many as the ring has slots, all within the disk, and the last of them with the id before
 -- the next
-pub record Waits (blocks slots next_id ever_published : ℕ) (pending : List Request) : Type 0 where
+pub record RequestsWait (blocks slots next_id ever_published : ℕ) (pending : List Request) : Type 0 where
   pub some_slots : 2 ≤ slots
   pub most_slots : slots ≤ 256
   pub few_blocks : blocks ≤ 65536
@@ -80,7 +80,7 @@ pub record Waits (blocks slots next_id ever_published : ℕ) (pending : List Req
   pub ever : ever_published ≤ next_id
 
 abbrev pub RequestsStand : ClientState → Type 0
-RequestsStand s = Waits s.blocks s.slots s.next_id s.ever_published s.pending
+RequestsStand s = RequestsWait s.blocks s.slots s.next_id s.ever_published s.pending
 
 pub record Stands (s : ClientState) : Type 0 where
   pub transcript : TranscriptStands s

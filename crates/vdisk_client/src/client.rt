@@ -20,7 +20,7 @@ pub struct Client {
 }
 
 impl Model for Client {
-    ghost use Rattle.disk_model.specs.ClientState.{ClientState};
+    ghost use Rattle.lane_models.specs.ClientState.{ClientState};
     ghost use Rattle.vdisk_client.specs.Standing.{Stands};
 
     ghost Value = { ClientState };
@@ -31,8 +31,8 @@ impl Model for Client {
 }
 
 impl Client {
-    ghost use Rattle.disk_model.specs.ClientState.{ever_published_count, fresh_client, is_finished, joined_client};
-    ghost use Rattle.disk_model.specs.ClientStep.{ClientAdmits};
+    ghost use Rattle.lane_models.specs.ClientState.{ever_published_count, fresh_client, is_finished, joined_client};
+    ghost use Rattle.lane_models.specs.ClientStep.{ClientAdmits};
     ghost use Rattle.vdisk_client.specs.Calls.{Steps, admitted, front_count};
     ghost use Rattle.disk_requests.specs.Room.{HoldsRing};
 

@@ -19,8 +19,8 @@ use vdisk_msg::{BLOCK, Request, decode};
 use vio_tag::Cause;
 
 impl ClientEnd {
-    ghost use Rattle.disk_model.specs.ClientRule.{Completes};
-    ghost use Rattle.disk_model.specs.ClientStep.{completed_descriptor, completed_slot};
+    ghost use Rattle.lane_models.specs.ClientRule.{Completes};
+    ghost use Rattle.lane_models.specs.ClientStep.{completed_descriptor, completed_slot};
     ghost use Rattle.vdisk_client.specs.Calls.{Steps, rule_of};
     ghost use Rattle.disk_requests.specs.Room.{HoldsRing};
     ghost use Rattle.vdisk_client.specs.Standing.{CountsStand, RequestsStand};

@@ -42,7 +42,7 @@ pub(crate) struct ClientEnd {
 
 impl Model for ClientEnd {
     ghost use Rattle.std.specs.Prelude.{◌≡◌, ◌≤◌, length, take};
-    ghost use Rattle.disk_model.specs.ClientState.{ClientState};
+    ghost use Rattle.lane_models.specs.ClientState.{ClientState};
     ghost use Rattle.vdisk_msg.specs.Check.{most_bytes};
 
     ghost Value = { ClientState };
@@ -68,8 +68,8 @@ impl Model for ClientEnd {
 }
 
 impl ClientEnd {
-    ghost use Rattle.disk_model.specs.ClientState.{ever_published_count, first_id, fresh_client, is_finished, joined_client};
-    ghost use Rattle.disk_model.specs.ClientStep.{ClientAdmits};
+    ghost use Rattle.lane_models.specs.ClientState.{ever_published_count, first_id, fresh_client, is_finished, joined_client};
+    ghost use Rattle.lane_models.specs.ClientStep.{ClientAdmits};
     ghost use Rattle.vdisk_client.specs.Calls.{admitted, front_count};
 
     /// A client that isn't configured.

@@ -16,9 +16,9 @@ use vio_handshake::HsOut;
 use vio_tag::{Cause, Message, MsgBody, decode};
 
 impl ClientEnd {
-    ghost use Rattle.disk_model.specs.ClientRule.{is_urgent, puts_first, takes_first};
-    ghost use Rattle.disk_model.specs.ClientState.{joined_client};
-    ghost use Rattle.disk_model.specs.ClientTaking.{HearsWhole, by_handshake, hears_message, takes_ack};
+    ghost use Rattle.lane_models.specs.ClientRule.{is_urgent, puts_first, takes_first};
+    ghost use Rattle.lane_models.specs.ClientState.{joined_client};
+    ghost use Rattle.lane_models.specs.ClientTaking.{HearsWhole, by_handshake, hears_message, takes_ack};
     ghost use Rattle.vdisk_client.specs.Calls.{Steps, rule_of, sees};
     ghost use Rattle.vdisk_client.specs.Hearing.{IsAgreed, MayHear, take_of};
     ghost use Rattle.vdisk_client.specs.Standing.{CountsStand, RequestsStand, Stands};

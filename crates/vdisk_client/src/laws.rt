@@ -2,10 +2,10 @@
 
 ghost use Rattle.std.specs.Prelude.{◌≡◌, ℕ, List};
 ghost use Rattle.ldc_queue.specs.ChannelView.{ChannelView};
-ghost use Rattle.disk_model.specs.ClientState.{ClientState};
-ghost use Rattle.disk_model.specs.LaneState.{LaneState};
-ghost use Rattle.disk_model.specs.LaneStep.{LaneStep};
-ghost use Rattle.disk_model.specs.OnChannel.{IsChannelOf};
+ghost use Rattle.lane_models.specs.ClientState.{ClientState};
+ghost use Rattle.lane_models.specs.LaneState.{LaneState};
+ghost use Rattle.lane_models.specs.LaneStep.{LaneStep};
+ghost use Rattle.lane_models.specs.OnChannel.{IsChannelOf};
 ghost use Rattle.vdisk_client.specs.Calls.{Steps, client_event};
 ghost use Rattle.vdisk_client.specs.OnLane.{client_moved};
 ghost use Rattle.vdisk_client.specs.declared.answers.ClientOut.{ClientOut};

@@ -18,10 +18,7 @@ use dom_memory::Memory;
 use ldc_link::SendOut;
 use ldc_packet::Subtype;
 use ldc_queue::{Channel, End};
-use vio_tag::{Message, MsgBody, encode};
-
-/// The ring goes on to be worked (`VIO_DRING_ACTIVE` of Linux's vio.h).
-const VIO_DRING_ACTIVE: u8 = 1;
+use vio_tag::{Message, MsgBody, VIO_DRING_ACTIVE, encode};
 
 /// What a packet is that is put.
 #[derive(Clone, Copy)]
@@ -35,10 +32,10 @@ pub(crate) enum PutOf {
 }
 
 impl ClientEnd {
-    ghost use Rattle.disk_model.specs.ClientPutting.{announcement, holding, is_announcing};
-    ghost use Rattle.disk_model.specs.ClientRule.{Announces, Says, announces, in_session, publishes, puts_first, says};
-    ghost use Rattle.disk_model.specs.ClientState.{first_id, opened_session};
-    ghost use Rattle.channel_laws.specs.EndPuts.{EndsHandshake, put_opens};
+    ghost use Rattle.lane_models.specs.ClientPutting.{announcement, holding, is_announcing};
+    ghost use Rattle.lane_models.specs.ClientRule.{Announces, Says, announces, in_session, publishes, puts_first, says};
+    ghost use Rattle.lane_models.specs.ClientState.{first_id, opened_session};
+    ghost use Rattle.lane_models.specs.EndPuts.{EndsHandshake, put_opens};
     ghost use Rattle.vdisk_client.specs.Calls.{Steps, rule_of};
     ghost use Rattle.vdisk_client.specs.Putting.{CountsMore, HoldsOwn, PutsHeld, cleared_if, kind_of, noted, put_of};
     ghost use Rattle.disk_requests.specs.Room.{HoldsRing};

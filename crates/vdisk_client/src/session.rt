@@ -1,8 +1,8 @@
 // The counts of an open session.
 
 ghost use Rattle.std.specs.Prelude.{◌≡◌, ◌≢◌, ◌+◌, ◌-◌, ◌%◌, ◌^◌, ◌<◌, ◌≤◌, nat_le, nat_lt, true, false};
-ghost use Rattle.channel_laws.specs.Ranges.{wrapped};
-ghost use Rattle.disk_model.specs.ClientState.{opened_session};
+ghost use Rattle.lane_models.specs.Ranges.{wrapped};
+ghost use Rattle.lane_models.specs.ClientState.{opened_session};
 
 use dring::slot_of;
 use std::marker::Model;
@@ -25,7 +25,7 @@ pub(crate) struct OpenSession {
 }
 
 impl Model for OpenSession {
-    ghost use Rattle.disk_model.specs.ClientState.{ClientSession};
+    ghost use Rattle.lane_models.specs.ClientState.{ClientSession};
 
     ghost Value = { ClientSession };
 

@@ -9,7 +9,7 @@ use dom_memory::Memory;
 use ldc_queue::{Channel, ChannelState, End};
 
 impl ClientEnd {
-    ghost use Rattle.disk_model.specs.ClientRule.{ClientRule, Completes, completes_first, is_urgent};
+    ghost use Rattle.lane_models.specs.ClientRule.{ClientRule, Completes, completes_first, is_urgent};
     ghost use Rattle.vdisk_client.specs.Calls.{Steps};
     ghost use Rattle.disk_requests.specs.Room.{HoldsRing};
     ghost use Rattle.vdisk_client.specs.Standing.{Stands};

@@ -1,5 +1,5 @@
 -- What a guest may ask of a disk, and the bytes that a request names.
-use Rattle.std.specs.Prelude.{◌≡◌, ℕ, ◌+◌, ◌*◌, ◌%◌, List, [], ◌∷◌, map, Option, Some, None, nat_le, ◌&&◌, if◌then◌else◌, slice_index}
+use Rattle.std.specs.Prelude.{◌≡◌, ℕ, ◌+◌, ◌*◌, ◌%◌, ◌≤◌, List, [], ◌∷◌, map, Option, Some, None, nat_le, ◌&&◌, if◌then◌else◌, slice_index}
 use Rattle.std.specs.List.{range_with_len}
 use Rattle.vio_bytes.specs.Place.{put_at}
 use Rattle.vdisk_msg.specs.Fills.{IsRequest}
@@ -27,6 +27,10 @@ abbrev pub operation_of : Request → ℕ
 operation_of (Read block count) = 1
 operation_of (Write block count fill) = 2
 operation_of Flush = 3
+
+-- it is one of the three
+abbrev pub IsOperation : ℕ → Type 0
+IsOperation operation = (1 ≤ operation) × (operation ≤ 3)
 
 -- n bytes of a word repeated, from the place `at` of the repetition on
 unfoldable pub repeated : Fill → ℕ → ℕ → List ℕ

@@ -16,11 +16,11 @@ use Rattle.vio_handshake.specs.State.{begun, joined_handshake, handshake_up}
 use Rattle.vio_tag.specs.declared.cause.Cause.{Cause}
 use Rattle.vio_tag.specs.declared.message.Message.{Message}
 use Rattle.vio_tag.specs.declared.message.TagFault.{TagFault}
-use Rattle.channel_laws.specs.EndPuts.{handshake_risen}
-use Rattle.disk_model.specs.ServerRule.{ServerRule, Takes, server_rule, takes_first}
-use Rattle.disk_model.specs.ServerState.{ServerState, joined_server}
-use Rattle.disk_model.specs.ServerStep.{ServerFails}
-use Rattle.disk_model.specs.ServerTaking.{GoesOn, HearsWhole, Resets, ServerTake, ServerTakes, reads}
+use Rattle.lane_models.specs.EndPuts.{handshake_risen}
+use Rattle.lane_models.specs.ServerRule.{ServerRule, Takes, server_rule, takes_first}
+use Rattle.lane_models.specs.ServerState.{ServerState, joined_server}
+use Rattle.lane_models.specs.ServerStep.{ServerFails}
+use Rattle.lane_models.specs.ServerTaking.{GoesOn, HearsWhole, Resets, ServerTake, ServerTakes, reads}
 use Rattle.cookie_copy.specs.Reach.{Reach}
 use Rattle.vdisk_server.specs.declared.answers.ServerOut.{ServerOut}
 use Rattle.vdisk_server.specs.declared.answers.ServerOut.TheVariants as out

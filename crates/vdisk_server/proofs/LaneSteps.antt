@@ -4,15 +4,15 @@ use Rattle.ldc_queue.specs.ChannelView.{ChannelView}
 use Rattle.ldc_queue.specs.declared.end.End.TheVariants.{A, B}
 use Rattle.ldc_queue.specs.Wire.{Wire, configured, put_for, taken_for}
 use Rattle.cookie_copy.specs.Faults.{both_up}
-use Rattle.channel_laws.specs.WireEvent as wire
-use Rattle.disk_model.specs.DiskEvent.{Desc, DiskEvent, Finished, Moved, OnWire, Stored, Worked, Works}
-use Rattle.disk_model.specs.LaneState.{LaneState}
-use Rattle.disk_model.specs.OnChannel.{IsChannelOf}
-use Rattle.disk_model.specs.LaneStep.{ServerOnWire, ServerWorks, reach}
-use Rattle.channel_laws.specs.Seeing.{Seen, seen}
-use Rattle.disk_model.specs.Served.{Served, ServedStep, StoreDid}
-use Rattle.disk_model.specs.ServerState.{ServerState}
-use Rattle.disk_model.specs.ServerStep.{ServerStep}
+use Rattle.lane_models.specs.WireEvent as wire
+use Rattle.lane_models.specs.DiskEvent.{Desc, DiskEvent, Finished, Moved, OnWire, Stored, Worked, Works}
+use Rattle.lane_models.specs.LaneState.{LaneState}
+use Rattle.lane_models.specs.OnChannel.{IsChannelOf}
+use Rattle.lane_models.specs.LaneStep.{ServerOnWire, ServerWorks, reach}
+use Rattle.lane_models.specs.Seeing.{Seen, seen}
+use Rattle.lane_models.specs.Served.{Served, ServedStep, StoreDid}
+use Rattle.lane_models.specs.ServerState.{ServerState}
+use Rattle.lane_models.specs.ServerStep.{ServerStep}
 use Rattle.cookie_copy.specs.Reach.{Reach}
 use Rattle.vdisk_server.specs.declared.answers.ServerOut.{ServerOut}
 use Rattle.vdisk_server.specs.declared.answers.ServerOut.TheVariants as out

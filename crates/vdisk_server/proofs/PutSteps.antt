@@ -16,10 +16,10 @@ use Rattle.ldc_queue.specs.ChannelView.{ChannelView}
 use Rattle.vio_handshake.specs.declared.handshake.Handshake.{Handshake}
 use Rattle.vio_handshake.specs.Rules.{opens_by_put}
 use Rattle.vio_tag.specs.declared.message.Message.{Message}
-use Rattle.channel_laws.specs.EndPuts.{ComesUp, EndsOwn, EndsHandshake, Goes, PutKind, ending, kind_in, put_opens, handshake_behind}
-use Rattle.disk_model.specs.ServerPutting.{server_holds, server_kind, server_opens, server_put, session_behind}
-use Rattle.disk_model.specs.ServerRule.{server_rule}
-use Rattle.disk_model.specs.ServerState.{ServerState}
+use Rattle.lane_models.specs.EndPuts.{ComesUp, EndsOwn, EndsHandshake, Goes, PutKind, ending, kind_in, put_opens, handshake_behind}
+use Rattle.lane_models.specs.ServerPutting.{server_holds, server_kind, server_opens, server_put, session_behind}
+use Rattle.lane_models.specs.ServerRule.{server_rule}
+use Rattle.lane_models.specs.ServerState.{ServerState}
 use Rattle.vdisk_server.specs.declared.answers.ServerOut.{ServerOut}
 use Rattle.vdisk_server.specs.declared.answers.ServerOut.TheVariants as out
 use Rattle.vdisk_server.specs.Answering.{StepsAlone, sees}

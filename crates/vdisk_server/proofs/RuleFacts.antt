@@ -5,9 +5,9 @@ use Rattle.std.specs.Prelude.{◌==◌, if◌then◌else◌, ⊤}
 use Rattle.cookie_copy.specs.Faults.{is_up as is_configured}
 use Rattle.ldc_link.specs.Putting.{owes}
 use Rattle.vio_tag.specs.declared.message.Message.{Message}
-use Rattle.channel_laws.specs.Seeing.{Seen}
-use Rattle.disk_model.specs.ServerRule.{Fetches, Joins, Puts, Idles, Says, ServerRule, Serves, Takes, answer, in_range, in_session, says, server_rule, serves, takes_first}
-use Rattle.disk_model.specs.ServerState.{ServerSession, ServerState, SlotRange, Work}
+use Rattle.lane_models.specs.Seeing.{Seen}
+use Rattle.lane_models.specs.ServerRule.{Fetches, Joins, Puts, Idles, Says, ServerRule, Serves, Takes, answer, in_range, in_session, says, server_rule, serves, takes_first}
+use Rattle.lane_models.specs.ServerState.{ServerSession, ServerState, SlotRange, Work}
 use Rattle.vdisk_server.specs.Rules.{answer_owed, first_owed, in_hand, owed_message, ranged, session_owes}
 use Rattle.vdisk_server.specs.Standing.{IsUnfinished}
 

@@ -6,9 +6,9 @@ use Rattle.ldc_link.specs.Putting.{owes}
 use Rattle.ldc_queue.specs.declared.end.ChannelState.{ChannelState}
 use Rattle.ldc_queue.specs.declared.end.ChannelState.TheVariants as channel
 use Rattle.vio_tag.specs.declared.message.Message.{Message}
-use Rattle.channel_laws.specs.Seeing.{Seen}
-use Rattle.disk_model.specs.ServerRule.{Joins, Puts, Says, answer, in_range, in_session, says, server_rule, serves, takes_first}
-use Rattle.disk_model.specs.ServerState.{ServerSession, ServerState, SlotRange}
+use Rattle.lane_models.specs.Seeing.{Seen}
+use Rattle.lane_models.specs.ServerRule.{Joins, Puts, Says, answer, in_range, in_session, says, server_rule, serves, takes_first}
+use Rattle.lane_models.specs.ServerState.{ServerSession, ServerState, SlotRange}
 use Rattle.vdisk_server.specs.Rules.{answer_owed, first_owed, in_hand, owed_message, ranged, session_owes}
 
 -- THE RULES, in their order

@@ -12,11 +12,11 @@ use Rattle.ldc_queue.specs.ChannelView.{ChannelView}
 use Rattle.map_table.specs.declared.table.Entry.{Entry}
 use Rattle.vio_tag.specs.declared.cause.Cause.{Cause}
 use Rattle.vio_tag.specs.declared.cause.Cause.TheVariants as the_cause
-use Rattle.disk_model.specs.ServerRule.{Fetches, ServerRule, server_rule, serves}
-use Rattle.disk_model.specs.ServerState.{Progress, ServerSession, ServerState, Work, joined_server, peer_ring}
-use Rattle.disk_model.specs.ServerStep.{ServerFails, WorkFails}
+use Rattle.lane_models.specs.ServerRule.{Fetches, ServerRule, server_rule, serves}
+use Rattle.lane_models.specs.ServerState.{Progress, ServerSession, ServerState, Work, joined_server, peer_ring}
+use Rattle.lane_models.specs.ServerStep.{ServerFails, WorkFails}
 use Rattle.cookie_copy.specs.Reach.{Reach, copy_number}
-use Rattle.disk_model.specs.ServerWork.{CanFetch, EndFails, FetchFails, header_of, slot_at, slot_fetched, with_word, word_fault}
+use Rattle.lane_models.specs.ServerWork.{CanFetch, EndFails, FetchFails, header_of, slot_at, slot_fetched, with_word, word_fault}
 use Rattle.vdisk_server.specs.declared.answers.ServerOut.{ServerOut}
 use Rattle.vdisk_server.specs.declared.answers.ServerOut.TheVariants as out
 use Rattle.descriptor_work.specs.Calling.{reach_over}

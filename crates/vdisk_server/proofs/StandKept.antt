@@ -20,10 +20,10 @@ use Rattle.vio_tag.specs.declared.message.MsgBody.TheVariants.{DringData}
 use Rattle.vio_tag.specs.declared.message.TagFault.{TagFault}
 use Rattle.vio_tag.specs.Decoding.{Decodes}
 use Rattle.vio_tag.specs.Form.{IsWellFormed}
-use Rattle.channel_laws.specs.EndPuts.{handshake_risen}
-use Rattle.channel_laws.specs.Ranges.{is_other}
-use Rattle.disk_model.specs.ServerState.{ServerSession, ServerState, SlotRange, Work, joined_server, opened_server}
-use Rattle.disk_model.specs.ServerTaking.{GoesOn, HearsLink, HearsWhole, Resets, ServerTake, ServerTakes, asked, by_handshake, hears_message, in_session, place_of, reads, sid_first, takes_info}
+use Rattle.lane_models.specs.EndPuts.{handshake_risen}
+use Rattle.lane_models.specs.Ranges.{is_other}
+use Rattle.lane_models.specs.ServerState.{ServerSession, ServerState, SlotRange, Work, joined_server, opened_server}
+use Rattle.lane_models.specs.ServerTaking.{GoesOn, HearsLink, HearsWhole, Resets, ServerTake, ServerTakes, asked, by_handshake, hears_message, in_session, place_of, reads, sid_first, takes_info}
 use Rattle.vdisk_server.specs.Standing.{AnswersLink, Began, IsDisk, IsOpen, IsQuiet, HandshakeStands, Stands, WorkIn}
 use Rattle.vdisk_server.proofs.LinkSteps.{LinkTook, link_took}
 use Rattle.vdisk_server.proofs.HandshakeSteps.{HandshakeWent, goes_open, goes_stands, opens_open, opens_stands, handshake_joined, handshake_rises, up_is}

@@ -11,10 +11,10 @@ use Rattle.vio_handshake.specs.declared.handshake.Handshake.{Handshake}
 use Rattle.vio_handshake.specs.declared.handshake.Phase.{Phase}
 use Rattle.vio_handshake.specs.Rules.{handshake_sent}
 use Rattle.vio_tag.specs.declared.message.Message.{Message}
-use Rattle.channel_laws.specs.EndPuts.{EndsOwn, EndsHandshake, Goes, PutKind, ending, handshake_behind}
-use Rattle.disk_model.specs.ServerPutting.{answered, server_put, session_behind}
-use Rattle.disk_model.specs.ServerRule.{answer}
-use Rattle.disk_model.specs.ServerState.{ServerSession, ServerState, SlotRange, Work}
+use Rattle.lane_models.specs.EndPuts.{EndsOwn, EndsHandshake, Goes, PutKind, ending, handshake_behind}
+use Rattle.lane_models.specs.ServerPutting.{answered, server_put, session_behind}
+use Rattle.lane_models.specs.ServerRule.{answer}
+use Rattle.lane_models.specs.ServerState.{ServerSession, ServerState, SlotRange, Work}
 use Rattle.vdisk_server.specs.Rules.{answer_owed, first_owed, owed_message, session_owes}
 use Rattle.vdisk_server.specs.Standing.{AnswersLink, HasRange, IsOpen, IsQuiet, IsUnfinished, Stands, WorkIn}
 use Rattle.vdisk_server.proofs.HandshakeSteps.{sent_keeps, sent_open, handshake_sends}

@@ -5,16 +5,16 @@ use Rattle.ldc_link.specs.LinkState.{is_up, offered}
 use Rattle.ldc_queue.specs.declared.end.End.TheVariants.{B}
 use Rattle.vdisk_msg.specs.Descriptor.{disk_desc_of}
 use Rattle.vio_tag.specs.Spelling.{canonical}
-use Rattle.channel_laws.specs.WireEvent.{Blocked, Idle, Joined, Reset, Sent, Took}
-use Rattle.disk_model.specs.DiskEvent.{Desc, DiskEvent, Finished, Moved, OnWire, Stored, Works}
-use Rattle.channel_laws.specs.Ranges.{wrapped}
-use Rattle.channel_laws.specs.Seeing.{Seen}
-use Rattle.disk_model.specs.ServerPutting.{server_holds}
-use Rattle.disk_model.specs.ServerRule.{Fetches, Puts, Says, ServerRule, Serves, Takes, server_rule}
-use Rattle.disk_model.specs.ServerState.{Ends, Flushes, Gathers, Gives, Progress, Reads, ServerSession, ServerState, SlotRange, Work, Writes, joined_server}
-use Rattle.disk_model.specs.ServerStep.{ServerFetches, ServerFinishes, ServerMoves, ServerStep, ServerStores, with_progress}
+use Rattle.lane_models.specs.WireEvent.{Blocked, Idle, Joined, Reset, Sent, Took}
+use Rattle.lane_models.specs.DiskEvent.{Desc, DiskEvent, Finished, Moved, OnWire, Stored, Works}
+use Rattle.lane_models.specs.Ranges.{wrapped}
+use Rattle.lane_models.specs.Seeing.{Seen}
+use Rattle.lane_models.specs.ServerPutting.{server_holds}
+use Rattle.lane_models.specs.ServerRule.{Fetches, Puts, Says, ServerRule, Serves, Takes, server_rule}
+use Rattle.lane_models.specs.ServerState.{Ends, Flushes, Gathers, Gives, Progress, Reads, ServerSession, ServerState, SlotRange, Work, Writes, joined_server}
+use Rattle.lane_models.specs.ServerStep.{ServerFetches, ServerFinishes, ServerMoves, ServerStep, ServerStores, with_progress}
 use Rattle.cookie_copy.specs.Reach.{Reach}
-use Rattle.disk_model.specs.ServerWork.{first_progress}
+use Rattle.lane_models.specs.ServerWork.{first_progress}
 use Rattle.vdisk_server.specs.Rules.{in_hand, ranged}
 use Rattle.vdisk_server.specs.Standing.{HasRange, IsOpen, IsQuiet, IsUnfinished, Stands, WorkIn, WorkStands, WorksRightly}
 use Rattle.vdisk_server.proofs.LinkSteps.{none_to_send}

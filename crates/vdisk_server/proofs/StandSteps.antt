@@ -10,8 +10,8 @@ use Rattle.vio_handshake.specs.declared.session.Offer.{Offer}
 use Rattle.vio_handshake.specs.State.{OwedHasForm, joined_handshake, handshake_up}
 use Rattle.vio_tag.specs.declared.message.Message.{Message}
 use Rattle.vio_tag.specs.Form.{IsWellFormed}
-use Rattle.disk_model.specs.ServerRule.{answer}
-use Rattle.disk_model.specs.ServerState.{ServerSession, ServerState, SlotRange}
+use Rattle.lane_models.specs.ServerRule.{answer}
+use Rattle.lane_models.specs.ServerState.{ServerSession, ServerState, SlotRange}
 use Rattle.vdisk_server.specs.Hearing.{CanHear, CanHearWhole, SessionKnows, risen}
 use Rattle.vdisk_server.specs.Putting.{PutsRightly}
 use Rattle.vdisk_server.specs.Rules.{answer_owed, first_owed, owed_message, session_owes}

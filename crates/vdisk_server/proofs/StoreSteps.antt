@@ -2,11 +2,11 @@
 use Rattle.std.proofs.Common.{◌≡◌, ℕ, ◌+◌, ◌≤◌, Bool, List, [], Option, Some, option_map, refl, sym, ap, subst, ◌∙◌}
 use Rattle.ldc_queue.specs.ChannelView.{ChannelView}
 use Rattle.map_table.specs.declared.table.Entry.{Entry}
-use Rattle.disk_model.specs.Served.{StoreDoes, StoreDoesIn}
-use Rattle.disk_model.specs.ServerRule.{Serves as ServesWork, answer, server_rule, serves}
-use Rattle.disk_model.specs.ServerState.{Ends, Flushes, Gathers, Gives, Progress, Reads, ServerSession, ServerState, Work, Writes}
-use Rattle.disk_model.specs.ServerStep.{ServerStep, with_progress}
-use Rattle.disk_model.specs.ServerWork.{MovesIn}
+use Rattle.lane_models.specs.Served.{StoreDoes, StoreDoesIn}
+use Rattle.lane_models.specs.ServerRule.{Serves as ServesWork, answer, server_rule, serves}
+use Rattle.lane_models.specs.ServerState.{Ends, Flushes, Gathers, Gives, Progress, Reads, ServerSession, ServerState, Work, Writes}
+use Rattle.lane_models.specs.ServerStep.{ServerStep, with_progress}
+use Rattle.lane_models.specs.ServerWork.{MovesIn}
 use Rattle.cookie_copy.specs.Reach.{Reach}
 use Rattle.descriptor_work.specs.Fields.{work_with}
 use Rattle.descriptor_work.specs.declared.work.Work.{Work as KeptWork}

@@ -16,9 +16,9 @@ use Rattle.vdisk_msg.specs.declared.desc.DescFault.{DescFault}
 use Rattle.vdisk_msg.specs.declared.desc.DescFault.TheVariants as defect
 use Rattle.vdisk_msg.specs.declared.desc.DiskDesc.{DiskDesc}
 use Rattle.vdisk_msg.specs.Pieces.{unit_count}
-use Rattle.disk_model.specs.ServerState.{Ends, Flushes, Gathers, Gives, Progress, Reads, Work, Writes}
+use Rattle.lane_models.specs.ServerState.{Ends, Flushes, Gathers, Gives, Progress, Reads, Work, Writes}
 use Rattle.cookie_copy.specs.Reach.{Reach}
-use Rattle.disk_model.specs.ServerWork.{GaveUnit, MovesIn, StoresIn, checked_progress, data_cookies, desc_of, first_progress, gathered, gathers_next, given, in_fault, length_of, or_ends, reads_next}
+use Rattle.lane_models.specs.ServerWork.{GaveUnit, MovesIn, StoresIn, checked_progress, data_cookies, desc_of, first_progress, gathered, gathers_next, given, in_fault, length_of, or_ends, reads_next}
 use Rattle.descriptor_work.specs.Units.{IsUnit}
 use Rattle.vdisk_server.specs.Standing.{WorksRightly}
 

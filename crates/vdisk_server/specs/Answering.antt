@@ -4,12 +4,12 @@ use Rattle.std.specs.Prelude.{◌≡◌, ℕ, List, [], Option, ⊤}
 use Rattle.ldc_queue.specs.ChannelView.{ChannelView, channel_with, channel_without_first, configured_channel}
 use Rattle.ldc_queue.specs.declared.end.End.TheVariants.{A, B}
 use Rattle.map_table.specs.declared.table.Entry.{Entry}
-use Rattle.channel_laws.specs.WireEvent as wire
-use Rattle.disk_model.specs.DiskEvent.{Desc, DiskEvent, Finished, Moved, OnWire, Stored, Works}
-use Rattle.channel_laws.specs.Seeing.{Seen, seen}
-use Rattle.disk_model.specs.Served.{StoreDoes}
-use Rattle.disk_model.specs.ServerState.{ServerState}
-use Rattle.disk_model.specs.ServerStep.{ServerStep}
+use Rattle.lane_models.specs.WireEvent as wire
+use Rattle.lane_models.specs.DiskEvent.{Desc, DiskEvent, Finished, Moved, OnWire, Stored, Works}
+use Rattle.lane_models.specs.Seeing.{Seen, seen}
+use Rattle.lane_models.specs.Served.{StoreDoes}
+use Rattle.lane_models.specs.ServerState.{ServerState}
+use Rattle.lane_models.specs.ServerStep.{ServerStep}
 use Rattle.cookie_copy.specs.Reach.{Reach}
 use Rattle.descriptor_work.specs.Calling.{reach_over}
 use Rattle.vdisk_server.specs.declared.answers.ServerOut.{ServerOut}

@@ -8,8 +8,8 @@ use Rattle.vio_tag.specs.declared.cause.Cause.{Cause}
 use Rattle.vio_tag.specs.declared.message.Message.{Message}
 use Rattle.vio_tag.specs.declared.message.TagFault.{TagFault}
 use Rattle.vio_tag.specs.Decoding.{Decodes}
-use Rattle.disk_model.specs.ServerState.{ServerSession, ServerState}
-use Rattle.disk_model.specs.ServerTaking.{GoesOn, Resets, ServerTake}
+use Rattle.lane_models.specs.ServerState.{ServerSession, ServerState}
+use Rattle.lane_models.specs.ServerTaking.{GoesOn, Resets, ServerTake}
 
 -- the server goes on as it is left, or resets itself
 abbrev pub took : Result Bool Cause → ServerState → ServerTake

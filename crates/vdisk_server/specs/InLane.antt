@@ -1,10 +1,10 @@
 -- A server in the lane of its disk.
 use Rattle.std.specs.Prelude.{ℕ, List, ◌||◌}
-use Rattle.channel_laws.specs.WireLog.{wire_moved}
-use Rattle.disk_model.specs.DiskEvent.{DiskEvent, OnWire, Works}
-use Rattle.disk_model.specs.LaneState.{LaneState}
-use Rattle.disk_model.specs.LaneStep.{failed_worked, near_on_wire, near_worked}
-use Rattle.disk_model.specs.ServerState.{ServerState}
+use Rattle.lane_models.specs.WireLog.{wire_moved}
+use Rattle.lane_models.specs.DiskEvent.{DiskEvent, OnWire, Works}
+use Rattle.lane_models.specs.LaneState.{LaneState}
+use Rattle.lane_models.specs.LaneStep.{failed_worked, near_on_wire, near_worked}
+use Rattle.lane_models.specs.ServerState.{ServerState}
 
 -- the lane after a step of its server, with the server and the client's memory as the step left them
 abbrev pub lane_after : LaneState → DiskEvent → ServerState → List ℕ → LaneState

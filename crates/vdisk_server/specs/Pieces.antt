@@ -1,9 +1,9 @@
 -- A descriptor is fetched, and gets its status at the end.
 use Rattle.std.specs.Prelude.{◌≡◌, ℕ, List, Option, Some, None, Result, Ok, Err}
 use Rattle.vio_tag.specs.declared.cause.Cause.{Cause}
-use Rattle.disk_model.specs.ServerState.{Ends, ServerState, Work}
+use Rattle.lane_models.specs.ServerState.{Ends, ServerState, Work}
 use Rattle.cookie_copy.specs.Reach.{Reach}
-use Rattle.disk_model.specs.ServerWork.{CanFetch, EndFails, FetchFails, header_of, slot_fetched, with_done, with_word, word_fault}
+use Rattle.lane_models.specs.ServerWork.{CanFetch, EndFails, FetchFails, header_of, slot_fetched, with_done, with_word, word_fault}
 
 -- a descriptor is fetched and marked, or why not
 pub record Fetched (s : ServerState) (reach : Reach) (slot : ℕ) (bytes : List ℕ) (new : List ℕ) : Type 0 where

@@ -6,8 +6,8 @@ use Rattle.ldc_queue.specs.declared.end.End.TheVariants.{A}
 use Rattle.ldc_link.specs.declared.phase.Role.TheVariants.{Responder}
 use Rattle.vio_tag.specs.declared.message.Message.{Message}
 use Rattle.vio_handshake.specs.Rules.{handshake_sent}
-use Rattle.disk_model.specs.ServerPutting.{answered, server_opens, server_put}
-use Rattle.disk_model.specs.ServerState.{ServerState}
+use Rattle.lane_models.specs.ServerPutting.{answered, server_opens, server_put}
+use Rattle.lane_models.specs.ServerState.{ServerState}
 use Rattle.vdisk_server.specs.declared.answers.ServerOut.{ServerOut}
 use Rattle.vdisk_server.specs.declared.answers.ServerOut.TheVariants as out
 use Rattle.vdisk_server.specs.declared.putting.PutOf.{PutOf}

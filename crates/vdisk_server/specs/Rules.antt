@@ -2,10 +2,10 @@
 use Rattle.std.specs.Prelude.{ℕ, ◌+◌, ◌==◌, if◌then◌else◌, List, Option, Some, None}
 use Rattle.vdisk_msg.specs.Descriptor.{disk_desc_of}
 use Rattle.vio_tag.specs.declared.message.Message.{Message}
-use Rattle.channel_laws.specs.Ranges.{wrapped}
-use Rattle.disk_model.specs.ServerRule.{answer}
-use Rattle.disk_model.specs.ServerState.{ServerSession, ServerState, SlotRange, Work}
-use Rattle.disk_model.specs.ServerWork.{first_progress}
+use Rattle.lane_models.specs.Ranges.{wrapped}
+use Rattle.lane_models.specs.ServerRule.{answer}
+use Rattle.lane_models.specs.ServerState.{ServerSession, ServerState, SlotRange, Work}
+use Rattle.lane_models.specs.ServerWork.{first_progress}
 
 -- the answer to a range, once each of its descriptors is finished
 abbrev pub answer_owed : ServerState → ServerSession → Option SlotRange → Option Message

@@ -9,9 +9,9 @@ use Rattle.vio_handshake.specs.declared.handshake.Phase.{Phase}
 use Rattle.vio_handshake.specs.declared.handshake.Phase.TheVariants as handshake
 use Rattle.vio_handshake.specs.declared.session.Session.{Session}
 use Rattle.vio_handshake.specs.State.{OwesWell}
-use Rattle.disk_model.specs.Offering.{server_offer}
-use Rattle.disk_model.specs.ServerState.{Ends, Flushes, Gathers, Gives, Progress, Reads, ServerSession, ServerState, SlotRange, Work, Writes}
-use Rattle.disk_model.specs.ServerWork.{desc_of, length_of}
+use Rattle.lane_models.specs.Offering.{server_offer}
+use Rattle.lane_models.specs.ServerState.{Ends, Flushes, Gathers, Gives, Progress, Reads, ServerSession, ServerState, SlotRange, Work, Writes}
+use Rattle.lane_models.specs.ServerWork.{desc_of, length_of}
 use Rattle.descriptor_work.specs.Units.{IsUnit}
 
 -- it is the responder of its link and of its handshake

@@ -6,9 +6,9 @@ ghost use Rattle.ldc_queue.specs.ChannelView.{configured_channel};
 ghost use Rattle.ldc_queue.specs.declared.end.End.TheVariants.{B};
 ghost use Rattle.vio_handshake.specs.declared.handshake.Phase.TheVariants.{Open};
 ghost use Rattle.vio_tag.specs.Form.{IsWellFormed};
-ghost use Rattle.disk_model.specs.Offering.{server_offer};
-ghost use Rattle.disk_model.specs.ServerState.{fresh_server, joined_server, peer_ring, restarted_server};
-ghost use Rattle.disk_model.specs.ServerWork.{slot_at};
+ghost use Rattle.lane_models.specs.Offering.{server_offer};
+ghost use Rattle.lane_models.specs.ServerState.{fresh_server, joined_server, peer_ring, restarted_server};
+ghost use Rattle.lane_models.specs.ServerWork.{slot_at};
 ghost use Rattle.vdisk_server.specs.Answering.{channel_after};
 ghost use Rattle.vdisk_server.specs.Rules.{in_hand, owed_message, session_owes};
 ghost use Rattle.vdisk_server.specs.Standing.{IsOpen};
@@ -67,7 +67,7 @@ pub(crate) struct ServerEnd {
 impl Model for ServerEnd {
     ghost use Rattle.std.specs.Prelude.{option_map};
     ghost use Rattle.descriptor_work.specs.Fields.{work_with};
-    ghost use Rattle.disk_model.specs.ServerState.{ServerState};
+    ghost use Rattle.lane_models.specs.ServerState.{ServerState};
 
     ghost Value = { ServerState };
 

@@ -3,9 +3,9 @@
 ghost use Rattle.std.specs.Prelude.{◌≡◌, ◌≤◌, ◌<◌, length, None, Some};
 ghost use Rattle.cookie_copy.specs.Faults.{PagesWithin};
 ghost use Rattle.vio_handshake.specs.declared.handshake.Phase.TheVariants.{Open};
-ghost use Rattle.disk_model.specs.ServerRule.{Fetches, server_rule};
+ghost use Rattle.lane_models.specs.ServerRule.{Fetches, server_rule};
 ghost use Rattle.cookie_copy.specs.Reach.{copy_number};
-ghost use Rattle.disk_model.specs.ServerWork.{cause_of, slot_at};
+ghost use Rattle.lane_models.specs.ServerWork.{cause_of, slot_at};
 ghost use Rattle.descriptor_work.specs.Calling.{reach_over};
 ghost use Rattle.vdisk_server.specs.Answering.{SameDisk, StepsIn, channel_after, sees};
 ghost use Rattle.vdisk_server.specs.Pieces.{FetchedOr};

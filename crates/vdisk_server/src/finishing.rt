@@ -3,7 +3,7 @@
 ghost use Rattle.std.specs.Prelude.{◌≡◌, ◌≤◌, ◌<◌, length, None, Some};
 ghost use Rattle.cookie_copy.specs.Faults.{PagesWithin};
 ghost use Rattle.vdisk_msg.specs.Requested.{status_word};
-ghost use Rattle.disk_model.specs.ServerRule.{server_rule, serves};
+ghost use Rattle.lane_models.specs.ServerRule.{server_rule, serves};
 ghost use Rattle.descriptor_work.specs.Calling.{reach_over};
 ghost use Rattle.vdisk_server.specs.Answering.{SameDisk, StepsIn, channel_after, sees};
 ghost use Rattle.vdisk_server.specs.Pieces.{EndedFor, IsEnding};

@@ -2,10 +2,10 @@
 
 ghost use Rattle.std.specs.Prelude.{◌≡◌, ℕ, List, Option, false};
 ghost use Rattle.ldc_queue.specs.ChannelView.{ChannelView};
-ghost use Rattle.disk_model.specs.LaneState.{LaneState};
-ghost use Rattle.disk_model.specs.OnChannel.{IsChannelOf};
-ghost use Rattle.disk_model.specs.Served.{Served};
-ghost use Rattle.disk_model.specs.ServerState.{ServerState};
+ghost use Rattle.lane_models.specs.LaneState.{LaneState};
+ghost use Rattle.lane_models.specs.OnChannel.{IsChannelOf};
+ghost use Rattle.lane_models.specs.Served.{Served};
+ghost use Rattle.lane_models.specs.ServerState.{ServerState};
 ghost use Rattle.vdisk_server.specs.Answering.{Serves, channel_after, server_event};
 ghost use Rattle.vdisk_server.specs.InLane.{lane_after};
 ghost use Rattle.vdisk_server.specs.declared.answers.ServerOut.{ServerOut};

@@ -8,7 +8,7 @@ ghost use Rattle.ldc_queue.specs.declared.end.ChannelState.TheVariants.{Up};
 ghost use Rattle.ldc_queue.specs.declared.end.End.TheVariants.{B};
 ghost use Rattle.vio_tag.specs.Form.{IsWellFormed};
 ghost use Rattle.vio_tag.specs.Spelling.{canonical};
-ghost use Rattle.disk_model.specs.ServerPutting.{answered};
+ghost use Rattle.lane_models.specs.ServerPutting.{answered};
 ghost use Rattle.vdisk_server.specs.Answering.{SameDisk, StepsAlone, channel_after};
 ghost use Rattle.vdisk_server.specs.Putting.{PutsNext, PutsRightly, noted, put_of};
 ghost use Rattle.vdisk_server.specs.Rules.{owed_message, session_owes};

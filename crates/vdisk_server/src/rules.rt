@@ -7,7 +7,7 @@ ghost use Rattle.ldc_link.specs.Putting.{owes};
 ghost use Rattle.ldc_queue.specs.Wire.{state_of as state_in};
 ghost use Rattle.ldc_queue.specs.declared.end.ChannelState.TheVariants.{Up};
 ghost use Rattle.ldc_queue.specs.declared.end.End.TheVariants.{B};
-ghost use Rattle.disk_model.specs.ServerRule.{Joins, server_rule, serves, takes_first};
+ghost use Rattle.lane_models.specs.ServerRule.{Joins, server_rule, serves, takes_first};
 ghost use Rattle.vdisk_server.specs.OnStore.{StoreAfter, WithinDisk};
 ghost use Rattle.vdisk_server.specs.Answering.{SameDisk, Serves, StepsAlone, channel_after, sees};
 ghost use Rattle.vdisk_server.specs.Standing.{Stands};

@@ -2,7 +2,7 @@ ghost use Rattle.std.specs.Prelude.{◌≡◌, ◌+◌, ◌*◌, ◌≤◌, leng
 ghost use Rattle.cookie_copy.specs.Faults.{PagesWithin};
 ghost use Rattle.ldc_queue.specs.ChannelView.{closed_channel, configured_channel};
 ghost use Rattle.ldc_queue.specs.declared.end.End.TheVariants.{B};
-ghost use Rattle.disk_model.specs.ServerState.{fresh_server, joined_server, restarted_server};
+ghost use Rattle.lane_models.specs.ServerState.{fresh_server, joined_server, restarted_server};
 ghost use Rattle.vdisk_server.specs.OnStore.{StoreAfter, WithinDisk};
 ghost use Rattle.vdisk_server.specs.Answering.{SameDisk, Serves, channel_after};
 
@@ -25,7 +25,7 @@ pub struct Server {
 }
 
 impl Model for Server {
-    ghost use Rattle.disk_model.specs.ServerState.{ServerState};
+    ghost use Rattle.lane_models.specs.ServerState.{ServerState};
     ghost use Rattle.vdisk_server.specs.Standing.{Stands};
 
     ghost Value = { ServerState };

@@ -2,7 +2,7 @@
 
 ghost use Rattle.std.specs.Prelude.{◌≡◌, ◌<◌};
 ghost use Rattle.dring.specs.Slots.{range_length};
-ghost use Rattle.disk_model.specs.ServerState.{opened_server};
+ghost use Rattle.lane_models.specs.ServerState.{opened_server};
 
 use dring::range_length;
 use std::marker::Model;
@@ -17,7 +17,7 @@ pub(crate) struct SlotRange {
 }
 
 impl Model for SlotRange {
-    ghost use Rattle.disk_model.specs.ServerState.{SlotRange as Range};
+    ghost use Rattle.lane_models.specs.ServerState.{SlotRange as Range};
 
     ghost Value = { Range };
 
@@ -42,7 +42,7 @@ pub(crate) struct RingSession {
 }
 
 impl Model for RingSession {
-    ghost use Rattle.disk_model.specs.ServerState.{ServerSession};
+    ghost use Rattle.lane_models.specs.ServerState.{ServerSession};
 
     ghost Value = { ServerSession };
 

@@ -16,10 +16,7 @@ use crate::session::{HsOut, Offer};
 use ldc_link::Role;
 use ldc_packet::Subtype;
 use map_table::Cookie;
-use vio_tag::{Message, MsgBody};
-
-/// The most cookies of a ring.
-const MOST_COOKIES: u32 = 14;
+use vio_tag::{MOST_RING_COOKIES, Message, MsgBody};
 
 impl Handshake {
     pub(crate) fn say_own_ring(&mut self, sid: u32)
@@ -149,7 +146,7 @@ fn accepts_ring(
         && slot_size == offer.slot_size
         && options & VIO_TX_DRING == VIO_TX_DRING
         && count >= 1
-        && count <= MOST_COOKIES
+        && count <= MOST_RING_COOKIES
         && hold_ring(&cookies[..count as usize], slots as u64 * slot_size as u64)
 }
 

@@ -17,6 +17,6 @@ pub use host::{AttachFault, Host};
 pub use laws::{a_given_disk_changes_the_count, a_plan_of_no_call_never_fails};
 pub use sink::{ListSink, Sink};
 pub use source::{Failed, ListSource, Source};
-pub use std_streams::{StdSink, StdSource};
+pub use std_streams::{MOST_TRIES, StdSink, StdSource};
 pub use store::Store;
 pub use vio_bytes::NoMemory;

@@ -7,8 +7,8 @@ use crate::source::count_end;
 use crate::{Failed, Sink, Source};
 use std::io::{ErrorKind, Read, Write};
 
-/// How often in a row a read or a write is tried before its interruptions are a fault.
-const MOST_TRIES: u32 = 10_000;
+/// How often in a row a call of the system is tried before its interruptions are a fault.
+pub const MOST_TRIES: u32 = 10_000;
 
 /// A reader of std as a source: the trusted edge. Of the bytes it tells what std tells. A read that the system
 /// interrupted is tried again, up to 10,000 times in a row, and is no fault.

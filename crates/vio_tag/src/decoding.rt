@@ -15,11 +15,11 @@ ghost use Rattle.vio_tag.specs.declared.message.TagFault.TheVariants.{Length, Co
 use crate::layout::{
     ATTR_LENGTH, COUNT, DATA_IDENT, DATA_STATE, DESCR_SIZE, DEV_CLASS, DRING_DATA, DRING_IDENT,
     DRING_REG, DRING_REG_HEAD, DRING_UNREG, END_IDX, ETH_ALEN, FIXED_LENGTH, MAJOR, MCAST_ADDR,
-    MCAST_INFO, MINOR, MOST_COOKIES, NUM_COOKIES, NUM_DESCR, OPTIONS, SEQ, SET, SID, START_IDX,
-    STYPE, STYPE_ENV, TAG, TAG_LENGTH, TYPE, UNREG_IDENT, VER_INFO, VIO_ATTR_INFO, VIO_DESC_DATA,
-    VIO_DRING_DATA, VIO_DRING_REG, VIO_DRING_UNREG, VIO_PKT_DATA, VIO_RDX, VIO_SUBTYPE_ACK,
-    VIO_SUBTYPE_INFO, VIO_SUBTYPE_NACK, VIO_TYPE_CTRL, VIO_TYPE_DATA, VIO_VER_INFO,
-    VNET_MCAST_INFO,
+    MCAST_INFO, MINOR, MOST_RING_COOKIES, NUM_COOKIES, NUM_DESCR, OPTIONS, SEQ, SET, SID,
+    START_IDX, STYPE, STYPE_ENV, TAG, TAG_LENGTH, TYPE, UNREG_IDENT, VER_INFO, VIO_ATTR_INFO,
+    VIO_DESC_DATA, VIO_DRING_DATA, VIO_DRING_REG, VIO_DRING_UNREG, VIO_PKT_DATA, VIO_RDX,
+    VIO_SUBTYPE_ACK, VIO_SUBTYPE_INFO, VIO_SUBTYPE_NACK, VIO_TYPE_CTRL, VIO_TYPE_DATA,
+    VIO_VER_INFO, VNET_MCAST_INFO,
 };
 use crate::message::{Message, MsgBody, TagFault};
 use ldc_packet::Subtype;
@@ -232,7 +232,7 @@ fn dring_reg(bytes: &[u8]) -> Result<MsgBody, TagFault>
         return Err(TagFault::Length);
     }
     let count = get_field!(get_u32, DRING_REG, bytes, NUM_COOKIES);
-    if count > MOST_COOKIES || bytes.len() != DRING_REG_HEAD + 16 * count as usize {
+    if count > MOST_RING_COOKIES || bytes.len() != DRING_REG_HEAD + 16 * count as usize {
         return Err(TagFault::Cookies);
     }
     Ok(MsgBody::DringReg {

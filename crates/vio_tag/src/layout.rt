@@ -98,8 +98,14 @@ pub(crate) const OPTIONS: usize = 3;
 
 pub(crate) const NUM_COOKIES: usize = 4;
 
-/// The most cookies of a registration.
-pub(crate) const MOST_COOKIES: u32 = 14;
+/// The most cookies of a ring that is registered.
+pub const MOST_RING_COOKIES: u32 = 14;
+
+/// A ring goes on to be worked: a state of `struct vio_dring_data`.
+pub const VIO_DRING_ACTIVE: u8 = 1;
+
+/// A ring isn't worked any more: the other state.
+pub const VIO_DRING_STOPPED: u8 = 2;
 
 /// The end of a ring's registration: `struct vio_dring_unregister`.
 pub(crate) const DRING_UNREG: Table<1> = Table {

@@ -21,5 +21,5 @@ pub use cause::{Cause, packet_word, tag_word};
 pub use decoding::decode;
 pub use encoding::encode;
 pub use laws::{attributes_read_back, bytes_decode_once, spellings_are_unique};
-pub use layout::layouts_are_sound;
+pub use layout::{MOST_RING_COOKIES, VIO_DRING_ACTIVE, VIO_DRING_STOPPED, layouts_are_sound};
 pub use message::{Message, MsgBody, TagFault};

@@ -50,7 +50,7 @@ pub enum MsgBody {
     Rdx,
 
     /// The descriptors from `start` to `end` of a ring are ready, or done (`struct vio_dring_data`).
-    /// State: ACTIVE 1, STOPPED 2.
+    /// State: `VIO_DRING_ACTIVE` or `VIO_DRING_STOPPED`.
     DringData {
         seq: u64,
         ident: u64,

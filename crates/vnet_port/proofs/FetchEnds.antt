@@ -5,10 +5,10 @@ use Rattle.map_table.specs.declared.table.Entry.{Entry}
 use Rattle.port_frames.specs.declared.fetching.SlotFault.{SlotFault}
 use Rattle.port_frames.specs.Fetches.{FrameOf}
 use Rattle.port_frames.specs.Memories.{reach_over}
-use Rattle.port_model.specs.Fetching.{Fetched, IsFrame, NotReady, Refuses, fetched}
-use Rattle.port_model.specs.NetEndRule.{Fetches, NetRule}
-use Rattle.port_model.specs.NetEndState.{Activity, NetEndState, NetSession, joined_net_end, unseen}
-use Rattle.port_model.specs.NetEndStep.{FetchFails, NetFails, taken}
+use Rattle.lane_models.specs.Fetching.{Fetched, IsFrame, NotReady, Refuses, fetched}
+use Rattle.lane_models.specs.NetEndRule.{Fetches, NetRule}
+use Rattle.lane_models.specs.NetEndState.{Activity, NetEndState, NetSession, joined_net_end, unseen}
+use Rattle.lane_models.specs.NetEndStep.{FetchFails, NetFails, taken}
 use Rattle.vio_tag.specs.declared.cause.Cause.{Cause}
 use Rattle.vnet_port.specs.Calls.{end_of, role_of}
 use Rattle.vnet_port.specs.declared.net_out.NetOut.{NetOut}

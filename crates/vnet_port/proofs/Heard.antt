@@ -16,19 +16,19 @@ use Rattle.map_table.specs.declared.table.Entry.{Entry}
 use Rattle.vio_handshake.specs.declared.handshake.Handshake.{Handshake}
 use Rattle.vio_handshake.specs.State.{begun, handshake_up, joined_handshake}
 use Rattle.vio_tag.specs.declared.cause.Cause.{Cause}
-use Rattle.port_model.specs.NetEndRule.{NetRule, Takes}
-use Rattle.port_model.specs.NetEndState.{NetEndState, NetSession, joined_net_end, unseen}
-use Rattle.port_model.specs.NetEndStep.{NetFails}
-use Rattle.port_model.specs.NetEndTaking.{GoesOn, HearsWhole, NetTake, NetTakes, Resets, risen}
+use Rattle.lane_models.specs.NetEndRule.{NetRule, Takes}
+use Rattle.lane_models.specs.NetEndState.{NetEndState, NetSession, joined_net_end, unseen}
+use Rattle.lane_models.specs.NetEndStep.{NetFails}
+use Rattle.lane_models.specs.NetEndTaking.{GoesOn, HearsWhole, NetTake, NetTakes, Resets, risen}
 use Rattle.vnet_port.proofs.LinkTakes.{bytes_took, whole_up}
 use Rattle.vnet_port.specs.Calls.{end_at, role_of}
 use Rattle.vnet_port.specs.declared.net_out.NetOut.{NetOut}
 use Rattle.vnet_port.specs.declared.net_out.NetOut.TheVariants as out
 use Rattle.vnet_port.specs.Hearing.{AgreedIn, MayHear, MayHearWhole, looked_at, rose}
 use Rattle.vio_handshake.specs.declared.handshake.Phase.{Phase}
-use Rattle.port_model.specs.FramesStand.{CountsStand, FramesStand}
-use Rattle.port_model.specs.RuleFacts.{IfOpen}
-use Rattle.port_model.proofs.Refuting.{none_some}
+use Rattle.lane_models.specs.FramesStand.{CountsStand, FramesStand}
+use Rattle.lane_models.specs.RuleFacts.{IfOpen}
+use Rattle.lane_models.proofs.Refuting.{none_some}
 use Rattle.vnet_port.specs.Standing.{Knows, KnowsRing, SessionStands, Stands}
 use Rattle.port_frames.specs.Memories.{reach_over}
 use Rattle.vnet_port.specs.Stepping.{Steps, StepsAlone, rule_of}

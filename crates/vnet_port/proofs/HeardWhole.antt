@@ -8,8 +8,8 @@ use Rattle.vio_handshake.specs.State.{handshake_up}
 use Rattle.vio_tag.specs.declared.message.Message.{Message}
 use Rattle.vio_tag.specs.declared.message.TagFault.{TagFault}
 use Rattle.vio_tag.specs.Decoding.{Decodes}
-use Rattle.port_model.specs.NetEndState.{NetEndState}
-use Rattle.port_model.specs.NetEndTaking.{HearsWhole, NetTake, reads}
+use Rattle.lane_models.specs.NetEndState.{NetEndState}
+use Rattle.lane_models.specs.NetEndTaking.{HearsWhole, NetTake, reads}
 use Rattle.vnet_port.proofs.Heard.{may_cleared}
 use Rattle.vnet_port.specs.Hearing.{MayHear, MayHearWhole, rose}
 

@@ -5,13 +5,13 @@ use Rattle.cookie_copy.specs.Reach.{Reach}
 use Rattle.ldc_queue.specs.ChannelView.{ChannelView}
 use Rattle.map_table.specs.declared.table.Entry.{Entry}
 use Rattle.vio_handshake.specs.declared.handshake.Phase.{Phase}
-use Rattle.channel_laws.specs.Seeing.{Seen}
-use Rattle.port_model.proofs.FramesKept.{step_stands as frames_stand}
-use Rattle.port_model.proofs.Ruling.{says_of}
-use Rattle.port_model.specs.FramesStand.{FramesStand}
-use Rattle.port_model.specs.NetEndRule.{Fetches, Publishes, port_rule}
-use Rattle.port_model.specs.NetEndState.{Activity, NetEndState, NetSession, joined_net_end}
-use Rattle.port_model.specs.NetEndStep.{Blocked, Frame, Idle, Joined, NetAnswer, NetEndStep, NetLeft, Published, Reset, Sent, Took, published, taken}
+use Rattle.lane_models.specs.Seeing.{Seen}
+use Rattle.lane_models.proofs.FramesKept.{step_stands as frames_stand}
+use Rattle.lane_models.proofs.Ruling.{says_of}
+use Rattle.lane_models.specs.FramesStand.{FramesStand}
+use Rattle.lane_models.specs.NetEndRule.{Fetches, Publishes, port_rule}
+use Rattle.lane_models.specs.NetEndState.{Activity, NetEndState, NetSession, joined_net_end}
+use Rattle.lane_models.specs.NetEndStep.{Blocked, Frame, Idle, Joined, NetAnswer, NetEndStep, NetLeft, Published, Reset, Sent, Took, published, taken}
 use Rattle.vnet_port.proofs.KeptPuts.{Core, Stays, core_of, fixed_of, held_stays, put_stays, through, with_core, within}
 use Rattle.vnet_port.proofs.KeptTakes.{taken_stays}
 use Rattle.vnet_port.proofs.Standing.{joined_stands}

@@ -14,15 +14,15 @@ use Rattle.vio_handshake.specs.declared.handshake.Phase.TheVariants as handshake
 use Rattle.vio_handshake.specs.Rules.{handshake_sent}
 use Rattle.vio_handshake.specs.State.{handshake_up}
 use Rattle.vio_tag.specs.declared.message.Message.{Message}
-use Rattle.channel_laws.specs.EndPuts.{ComesUp, EndsHandshake, EndsOwn, Goes, PutKind, ending, handshake_behind, kind_in, put_opens}
-use Rattle.channel_laws.specs.Seeing.{Seen}
-use Rattle.port_model.specs.Fetching.{Fetched, IsFrame, NotReady, Refuses, fetched}
-use Rattle.port_model.specs.Groups.{membership}
-use Rattle.port_model.specs.NetEndPutting.{answer, announcement, answers, groups_answer, holding, holding_own, net_holds, net_kind, net_opens, net_put, opened_by_put}
-use Rattle.port_model.specs.NetEndRule.{Announces, Fetches, Idles, Joins, NetRule, Publishes, Puts, Replies, Says, Takes, Tells, port_rule}
-use Rattle.port_model.specs.NetEndState.{Activity, NetEndState, NetSession}
-use Rattle.port_model.proofs.Refuting.{none_some}
-use Rattle.port_model.proofs.Ruling.{says_of}
+use Rattle.lane_models.specs.EndPuts.{ComesUp, EndsHandshake, EndsOwn, Goes, PutKind, ending, handshake_behind, kind_in, put_opens}
+use Rattle.lane_models.specs.Seeing.{Seen}
+use Rattle.lane_models.specs.Fetching.{Fetched, IsFrame, NotReady, Refuses, fetched}
+use Rattle.lane_models.specs.Groups.{membership}
+use Rattle.lane_models.specs.NetEndPutting.{answer, announcement, answers, groups_answer, holding, holding_own, net_holds, net_kind, net_opens, net_put, opened_by_put}
+use Rattle.lane_models.specs.NetEndRule.{Announces, Fetches, Idles, Joins, NetRule, Publishes, Puts, Replies, Says, Takes, Tells, port_rule}
+use Rattle.lane_models.specs.NetEndState.{Activity, NetEndState, NetSession}
+use Rattle.lane_models.proofs.Refuting.{none_some}
+use Rattle.lane_models.proofs.Ruling.{says_of}
 use Rattle.vnet_port.proofs.HandshakeKept.{HandshakeWent, put_open, sent_open, sent_went, up_version, up_went}
 use Rattle.vnet_port.specs.Standing.{Began, Begins, HandshakeStands, IsPhaseOf, IsQuiet, IsSized, LinkStands, SessionStands, Stands}
 

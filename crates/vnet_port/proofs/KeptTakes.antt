@@ -21,12 +21,12 @@ use Rattle.vio_tag.specs.declared.message.MsgBody.TheVariants.{DringData, Mcast}
 use Rattle.vio_tag.specs.declared.message.TagFault.{TagFault}
 use Rattle.vio_tag.specs.Decoding.{Decodes}
 use Rattle.vio_tag.specs.Form.{IsWellFormed}
-use Rattle.channel_laws.specs.EndPuts.{handshake_risen}
-use Rattle.channel_laws.specs.Ranges.{is_other}
+use Rattle.lane_models.specs.EndPuts.{handshake_risen}
+use Rattle.lane_models.specs.Ranges.{is_other}
 use Rattle.dring.specs.Slots.{range_length}
-use Rattle.port_model.specs.Groups.{at_most_seven, groups_after, set_groups, with_groups, without_groups}
-use Rattle.port_model.specs.NetEndState.{NetEndState, NetSession, with_session}
-use Rattle.port_model.specs.NetEndTaking.{GoesOn, HearsLink, HearsWhole, NetTake, NetTakes, Resets, active, by_handshake, ends_outside, first_undone, hears_message, in_session, opens_by_take, reads, refused, replying, risen, sid_first, takes_ack, takes_done, takes_groups, takes_info, takes_range, told}
+use Rattle.lane_models.specs.Groups.{at_most_seven, groups_after, set_groups, with_groups, without_groups}
+use Rattle.lane_models.specs.NetEndState.{NetEndState, NetSession, with_session}
+use Rattle.lane_models.specs.NetEndTaking.{GoesOn, HearsLink, HearsWhole, NetTake, NetTakes, Resets, active, by_handshake, ends_outside, first_undone, hears_message, in_session, opens_by_take, reads, refused, replying, risen, sid_first, takes_ack, takes_done, takes_groups, takes_info, takes_range, told}
 use Rattle.vnet_port.proofs.HandshakeKept.{HandshakeWent, goes_open, goes_went, opens_open, opens_went, up_version, up_went}
 use Rattle.vnet_port.proofs.KeptPuts.{Core, Stays, both_ways, fixed_of, through, with_core, within}
 use Rattle.vnet_port.proofs.LinkTakes.{LinkTook, bytes_took, took_phase, whole_up}

@@ -3,9 +3,9 @@ use Rattle.std.proofs.Common.{◌≡◌, Bool, true, false, Option, Some, None, 
 use Rattle.std.specs.Prelude.{if◌then◌else◌}
 use Rattle.ldc_link.specs.declared.phase.Role.{Role}
 use Rattle.ldc_link.specs.declared.phase.Role.TheVariants.{Initiator, Responder}
-use Rattle.channel_laws.specs.Seeing.{Seen}
-use Rattle.port_model.specs.NetEndRule.{Announces, Fetches, Idles, NetRule, Replies, Tells, fetches_first, in_session, publishes, replies_first, takes_first}
-use Rattle.port_model.specs.NetEndState.{Activity, GroupsReply, NetEndState, NetSession, unseen_in}
+use Rattle.lane_models.specs.Seeing.{Seen}
+use Rattle.lane_models.specs.NetEndRule.{Announces, Fetches, Idles, NetRule, Replies, Tells, fetches_first, in_session, publishes, replies_first, takes_first}
+use Rattle.lane_models.specs.NetEndState.{Activity, GroupsReply, NetEndState, NetSession, unseen_in}
 use Rattle.vnet_port.specs.NextAct.{has_unpublished, is_active, is_to_announce, is_to_tell, offers, owes_reply}
 
 none_of : {A : Type 0} → (o : Option A) → is_some o ≡ false → o ≡ None

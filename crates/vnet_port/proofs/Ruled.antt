@@ -11,8 +11,8 @@ use Rattle.ldc_queue.specs.declared.end.ChannelState.{ChannelState}
 use Rattle.ldc_queue.specs.declared.end.ChannelState.TheVariants.{Down, Resetting, Up}
 use Rattle.ldc_queue.specs.Wire.{state_of}
 use Rattle.vio_tag.specs.declared.message.Message.{Message}
-use Rattle.port_model.specs.NetEndRule.{Joins, Puts, in_session, says}
-use Rattle.port_model.specs.NetEndState.{NetEndState, NetSession}
+use Rattle.lane_models.specs.NetEndRule.{Joins, Puts, in_session, says}
+use Rattle.lane_models.specs.NetEndState.{NetEndState, NetSession}
 use Rattle.vnet_port.specs.Calls.{end_of, role_of}
 use Rattle.vnet_port.specs.Putting.{CanSay}
 use Rattle.vnet_port.specs.Standing.{Stands}

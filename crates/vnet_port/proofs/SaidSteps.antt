@@ -4,10 +4,10 @@ use Rattle.cookie_copy.specs.Reach.{Reach}
 use Rattle.ldc_queue.specs.ChannelView.{ChannelView}
 use Rattle.map_table.specs.declared.table.Entry.{Entry}
 use Rattle.vio_tag.specs.declared.message.Message.{Message}
-use Rattle.port_model.specs.Fetching.{Fetched, NotReady, fetched}
-use Rattle.port_model.specs.NetEndPutting.{answer, answers, holding, holding_own, net_holds}
-use Rattle.port_model.specs.NetEndRule.{Fetches, NetRule, Puts, Says}
-use Rattle.port_model.specs.NetEndState.{Activity, NetEndState, NetSession, with_session}
+use Rattle.lane_models.specs.Fetching.{Fetched, NotReady, fetched}
+use Rattle.lane_models.specs.NetEndPutting.{answer, answers, holding, holding_own, net_holds}
+use Rattle.lane_models.specs.NetEndRule.{Fetches, NetRule, Puts, Says}
+use Rattle.lane_models.specs.NetEndState.{Activity, NetEndState, NetSession, with_session}
 use Rattle.vnet_port.specs.declared.net_out.NetOut.{NetOut}
 use Rattle.vnet_port.proofs.SentSteps.{puts_steps}
 use Rattle.vnet_port.specs.Putting.{PutsHeld}

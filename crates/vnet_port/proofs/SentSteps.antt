@@ -18,11 +18,11 @@ use Rattle.map_table.specs.declared.table.Entry.{Entry}
 use Rattle.vio_tag.specs.declared.message.Message.{Message}
 use Rattle.vio_handshake.specs.declared.handshake.Handshake.{Handshake}
 use Rattle.vio_handshake.specs.Rules.{opens_by_put}
-use Rattle.channel_laws.specs.EndPuts.{ComesUp, EndsHandshake, EndsOwn, Goes, PutKind, ending, handshake_behind, kind_in, put_kind, put_opens}
-use Rattle.channel_laws.specs.Seeing.{seen}
-use Rattle.port_model.specs.NetEndPutting.{cleared_by_put, net_holds, net_kind, net_opens, net_put, opened_by_put}
-use Rattle.port_model.specs.NetEndState.{NetEndState}
-use Rattle.port_model.specs.NetEndStep.{NetLeft}
+use Rattle.lane_models.specs.EndPuts.{ComesUp, EndsHandshake, EndsOwn, Goes, PutKind, ending, handshake_behind, kind_in, put_kind, put_opens}
+use Rattle.lane_models.specs.Seeing.{seen}
+use Rattle.lane_models.specs.NetEndPutting.{cleared_by_put, net_holds, net_kind, net_opens, net_put, opened_by_put}
+use Rattle.lane_models.specs.NetEndState.{NetEndState}
+use Rattle.lane_models.specs.NetEndStep.{NetLeft}
 use Rattle.vnet_port.specs.Calls.{end_at, end_of, role_of}
 use Rattle.vnet_port.specs.declared.net_out.NetOut.{NetOut}
 use Rattle.vnet_port.specs.declared.net_out.NetOut.TheVariants as out

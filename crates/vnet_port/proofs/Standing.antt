@@ -7,9 +7,9 @@ use Rattle.ldc_link.specs.declared.phase.Role.TheVariants.{Initiator, Responder}
 use Rattle.ldc_link.specs.LinkState.{first_phase, is_established}
 use Rattle.vio_handshake.proofs.WellFormed.{joined_owes}
 use Rattle.vio_handshake.specs.declared.handshake.Phase.{Phase}
-use Rattle.port_model.proofs.FramesKept.{fresh_stands as fresh_frames, gives_stands as frames_given, joined_stands as frames_joined, joins_stands as frames_of_joined}
-use Rattle.port_model.specs.NetEndState.{NetEndState, NetSession, fresh_net_end, joined_net_end, kept_groups, with_frame}
-use Rattle.port_model.specs.NetEndStep.{Already, BadLength, Full, Given, GroupsFull, Joining, Member, NetGives, NetJoins, Queued, untold}
+use Rattle.lane_models.proofs.FramesKept.{fresh_stands as fresh_frames, gives_stands as frames_given, joined_stands as frames_joined, joins_stands as frames_of_joined}
+use Rattle.lane_models.specs.NetEndState.{NetEndState, NetSession, fresh_net_end, joined_net_end, kept_groups, with_frame}
+use Rattle.lane_models.specs.NetEndStep.{Already, BadLength, Full, Given, GroupsFull, Joining, Member, NetGives, NetJoins, Queued, untold}
 use Rattle.vnet_port.specs.Standing.{Began, IsPhaseOf, SessionStands, Stands}
 
 -- A LINK BEGINS ANEW

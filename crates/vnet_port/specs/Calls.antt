@@ -5,8 +5,8 @@ use Rattle.ldc_link.specs.declared.phase.Role.{Role}
 use Rattle.ldc_link.specs.declared.phase.Role.TheVariants.{Initiator, Responder}
 use Rattle.ldc_queue.specs.declared.end.End.{End}
 use Rattle.ldc_queue.specs.declared.end.End.TheVariants.{A, B}
-use Rattle.port_model.specs.NetEndState.{NetEndState}
-use Rattle.port_model.specs.NetEndStep.{Already, BadLength, Full, Given, GroupsFull, Joining, Member, Queued}
+use Rattle.lane_models.specs.NetEndState.{NetEndState}
+use Rattle.lane_models.specs.NetEndStep.{Already, BadLength, Full, Given, GroupsFull, Joining, Member, Queued}
 use Rattle.vnet_port.specs.declared.answers.GroupsFull.{GroupsFull as Refusal}
 use Rattle.vnet_port.specs.declared.answers.SendFault.{SendFault}
 use Rattle.vnet_port.specs.declared.answers.SendFault.TheVariants as fault

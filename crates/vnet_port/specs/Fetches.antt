@@ -2,8 +2,8 @@
 use Rattle.std.specs.Prelude.{◌≡◌, ℕ, List, Result, Ok, Err}
 use Rattle.port_frames.specs.declared.fetching.SlotFault.{SlotFault}
 use Rattle.port_frames.specs.Fetches.{found_fault}
-use Rattle.port_model.specs.Fetching.{Fetched, IsFrame}
-use Rattle.port_model.specs.NetEndState.{NetEndState}
+use Rattle.lane_models.specs.Fetching.{Fetched, IsFrame}
+use Rattle.lane_models.specs.NetEndState.{NetEndState}
 
 -- a frame was taken, which is the last one then; or nothing changed
 abbrev pub TakesFrame : {U : Type 0} → Result U SlotFault → Fetched → NetEndState → List ℕ → NetEndState → List ℕ → Type 0

@@ -7,9 +7,9 @@ use Rattle.vio_handshake.specs.declared.handshake.Handshake.{Handshake}
 use Rattle.vio_handshake.specs.declared.handshake.Phase.TheVariants.{Down, Open}
 use Rattle.vio_handshake.specs.State.{handshake_up}
 use Rattle.vio_tag.specs.declared.cause.Cause.{Cause}
-use Rattle.port_model.specs.FramesStand.{FramesStand}
-use Rattle.port_model.specs.NetEndState.{NetEndState, NetSession}
-use Rattle.port_model.specs.NetEndTaking.{GoesOn, NetTake, Resets}
+use Rattle.lane_models.specs.FramesStand.{FramesStand}
+use Rattle.lane_models.specs.NetEndState.{NetEndState, NetSession}
+use Rattle.lane_models.specs.NetEndTaking.{GoesOn, NetTake, Resets}
 use Rattle.vnet_port.specs.Standing.{IsSized}
 
 -- the end goes on as it is left, with its memory so, or resets itself

@@ -7,6 +7,6 @@ pub mod Hearing
 pub mod Memberships
 pub mod NextAct
 pub use Rattle.port_frames.specs.Memories
-pub use Rattle.channel_laws.specs.Seeing
-pub use Rattle.channel_laws.specs.WireEvent
-pub use Rattle.channel_laws.specs.WireLog
+pub use Rattle.lane_models.specs.Seeing
+pub use Rattle.lane_models.specs.WireEvent
+pub use Rattle.lane_models.specs.WireLog

@@ -1,6 +1,6 @@
 -- What comes of the list of groups, by the answers of the code.
 use Rattle.std.specs.Prelude.{◌≡◌, ℕ, true, false, Bool, List, Option, Some, None}
-use Rattle.port_model.specs.NetEndState.{NetEndState}
+use Rattle.lane_models.specs.NetEndState.{NetEndState}
 
 -- the list is this one now, or the message is refused and it stays
 abbrev pub SetsGroups : Bool → Option (List (List ℕ)) → NetEndState → NetEndState → Type 0

@@ -2,8 +2,8 @@
 use Rattle.std.specs.Prelude.{ℕ, Bool, false, ◌&&◌, not, nat_lt, List, Option, Some, None, is_some, slice_get}
 use Rattle.ldc_link.specs.declared.phase.Role.{Role}
 use Rattle.ldc_link.specs.declared.phase.Role.TheVariants.{Initiator, Responder}
-use Rattle.port_model.specs.NetEndRule.{Idles, NetRule, publishes, tells_first}
-use Rattle.port_model.specs.NetEndState.{NetEndState, NetSession, unseen_in}
+use Rattle.lane_models.specs.NetEndRule.{Idles, NetRule, publishes, tells_first}
+use Rattle.lane_models.specs.NetEndState.{NetEndState, NetSession, unseen_in}
 
 -- an answer to an MCAST_INFO is owed
 abbrev pub owes_reply : Option NetSession → Bool

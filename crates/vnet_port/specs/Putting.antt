@@ -4,9 +4,9 @@ use Rattle.ldc_link.specs.Calls.{Puts as PutsPacket}
 use Rattle.ldc_link.specs.LinkState.{LinkState, is_up}
 use Rattle.ldc_link.specs.Putting.{owes}
 use Rattle.ldc_queue.specs.ChannelView.{ChannelView}
-use Rattle.channel_laws.specs.EndPuts.{ComesUp, EndsHandshake, EndsOwn, Goes, PutKind, handshake_behind, put_opens}
-use Rattle.port_model.specs.NetEndPutting.{cleared_by_put, cleared_ring, net_opens, net_put}
-use Rattle.port_model.specs.NetEndState.{NetEndState, opened_net_end}
+use Rattle.lane_models.specs.EndPuts.{ComesUp, EndsHandshake, EndsOwn, Goes, PutKind, handshake_behind, put_opens}
+use Rattle.lane_models.specs.NetEndPutting.{cleared_by_put, cleared_ring, net_opens, net_put}
+use Rattle.lane_models.specs.NetEndState.{NetEndState, opened_net_end}
 use Rattle.vnet_port.specs.Calls.{end_of, role_of}
 use Rattle.vnet_port.specs.Stepping.{channel_after, sees}
 use Rattle.vnet_port.specs.declared.net_out.NetOut.{NetOut}

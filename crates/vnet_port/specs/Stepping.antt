@@ -4,11 +4,11 @@ use Rattle.ldc_queue.specs.ChannelView.{ChannelView, channel_with, channel_witho
 use Rattle.ldc_queue.specs.declared.end.End.{End}
 use Rattle.ldc_queue.specs.Wire.{peer_of}
 use Rattle.map_table.specs.declared.table.Entry.{Entry}
-use Rattle.channel_laws.specs.Seeing.{Seen, seen}
+use Rattle.lane_models.specs.Seeing.{Seen, seen}
 use Rattle.port_frames.specs.Memories.{reach_over}
-use Rattle.port_model.specs.NetEndRule.{NetRule, port_rule}
-use Rattle.port_model.specs.NetEndState.{NetEndState}
-use Rattle.port_model.specs.NetEndStep.{Blocked, Frame, Idle, Joined, NetAnswer, NetEndStep, Published, Reset, Sent, Took}
+use Rattle.lane_models.specs.NetEndRule.{NetRule, port_rule}
+use Rattle.lane_models.specs.NetEndState.{NetEndState}
+use Rattle.lane_models.specs.NetEndStep.{Blocked, Frame, Idle, Joined, NetAnswer, NetEndStep, Published, Reset, Sent, Took}
 use Rattle.vnet_port.specs.Calls.{end_of, role_of}
 use Rattle.vnet_port.specs.declared.net_out.NetOut.{NetOut}
 use Rattle.vnet_port.specs.declared.net_out.NetOut.TheVariants as out

@@ -6,7 +6,7 @@ ghost use Rattle.ldc_queue.specs.Wire.{state_of};
 ghost use Rattle.ldc_queue.specs.declared.end.ChannelState.TheVariants.{Up};
 ghost use Rattle.vio_handshake.specs.declared.handshake.Phase.TheVariants.{Open};
 ghost use Rattle.map_table.specs.declared.table.Entry.{Entry};
-ghost use Rattle.port_model.specs.Fetching.{NotReady, fetched};
+ghost use Rattle.lane_models.specs.Fetching.{NotReady, fetched};
 ghost use Rattle.vnet_port.specs.declared.net_out.NetOut.TheVariants.{Frame};
 ghost use Rattle.port_frames.specs.Memories.{HoldsRing, reach_over};
 
@@ -21,18 +21,15 @@ use map_table::MapTable;
 use port_frames::SlotFault;
 use port_session::RingActivity;
 use vio_handshake::Session;
-use vio_tag::{Cause, Message, MsgBody};
-
-/// The ring isn't worked any more (`VIO_DRING_STOPPED` of Linux's vio.h).
-const VIO_DRING_STOPPED: u8 = 2;
+use vio_tag::{Cause, Message, MsgBody, VIO_DRING_STOPPED};
 
 impl PortEnd {
-    ghost use Rattle.port_model.specs.FramesStand.{FramesStand};
-    ghost use Rattle.port_model.specs.NetEndPutting.{answer};
-    ghost use Rattle.port_model.specs.NetEndRule.{Fetches};
-    ghost use Rattle.port_model.specs.NetEndState.{Activity, NetSession, peer_ring};
+    ghost use Rattle.lane_models.specs.FramesStand.{FramesStand};
+    ghost use Rattle.lane_models.specs.NetEndPutting.{answer};
+    ghost use Rattle.lane_models.specs.NetEndRule.{Fetches};
+    ghost use Rattle.lane_models.specs.NetEndState.{Activity, NetSession, peer_ring};
     ghost use Rattle.vnet_port.specs.Calls.{end_of};
-    ghost use Rattle.port_model.specs.NetEndStep.{taken};
+    ghost use Rattle.lane_models.specs.NetEndStep.{taken};
     ghost use Rattle.vnet_port.specs.Fetches.{TakesFrame};
     ghost use Rattle.vnet_port.specs.Putting.{CanSay};
     ghost use Rattle.vnet_port.specs.Standing.{Stands};

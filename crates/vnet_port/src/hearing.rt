@@ -6,9 +6,9 @@ ghost use Rattle.ldc_queue.specs.declared.end.ChannelState.TheVariants.{Up};
 ghost use Rattle.ldc_link.specs.Putting.{owes_control};
 ghost use Rattle.vio_handshake.specs.Rules.{handshake_take};
 ghost use Rattle.vio_handshake.specs.declared.handshake.Phase.TheVariants.{Down, Open};
-ghost use Rattle.port_model.specs.Groups.{groups_after};
-ghost use Rattle.port_model.specs.NetEndState.{NetEndState, NetSession};
-ghost use Rattle.port_model.specs.NetEndTaking.{refused};
+ghost use Rattle.lane_models.specs.Groups.{groups_after};
+ghost use Rattle.lane_models.specs.NetEndState.{NetEndState, NetSession};
+ghost use Rattle.lane_models.specs.NetEndTaking.{refused};
 ghost use Rattle.vnet_port.specs.Hearing.{take_of};
 ghost use Rattle.port_frames.specs.Memories.{HoldsRing};
 
@@ -28,10 +28,10 @@ use vio_tag::{Cause, Message, MsgBody, TagFault, decode};
 const NO_END: u32 = 0xffffffff;
 
 impl PortEnd {
-    ghost use Rattle.port_model.specs.FramesStand.{FramesStand};
+    ghost use Rattle.lane_models.specs.FramesStand.{FramesStand};
     ghost use Rattle.vnet_port.specs.Memberships.{SetsGroups};
-    ghost use Rattle.port_model.specs.NetEndRule.{Takes};
-    ghost use Rattle.port_model.specs.NetEndTaking.{GoesOn, HearsWhole, by_handshake, hears_message, in_session, opens_by_take, reads, takes_ack, takes_groups, takes_info, takes_range, told};
+    ghost use Rattle.lane_models.specs.NetEndRule.{Takes};
+    ghost use Rattle.lane_models.specs.NetEndTaking.{GoesOn, HearsWhole, by_handshake, hears_message, in_session, opens_by_take, reads, takes_ack, takes_groups, takes_info, takes_range, told};
     ghost use Rattle.vnet_port.specs.Calls.{end_of, role_of};
     ghost use Rattle.vnet_port.specs.Hearing.{MayHear, MayHearWhole, looked_at, rose};
     ghost use Rattle.vnet_port.specs.Standing.{IsSized, Stands};

@@ -22,7 +22,7 @@ pub struct NetEnd {
 }
 
 impl Model for NetEnd {
-    ghost use Rattle.port_model.specs.NetEndState.{NetEndState};
+    ghost use Rattle.lane_models.specs.NetEndState.{NetEndState};
     ghost use Rattle.vnet_port.specs.Standing.{Stands};
 
     ghost Value = { NetEndState };
@@ -33,9 +33,9 @@ impl Model for NetEnd {
 }
 
 impl NetEnd {
-    ghost use Rattle.port_model.specs.NetEndState.{fresh_net_end, joined_net_end, unseen};
-    ghost use Rattle.port_model.specs.NetEndStep.{NetGives, NetJoins};
-    ghost use Rattle.port_model.specs.NetLaneStep.{told_all};
+    ghost use Rattle.lane_models.specs.NetEndState.{fresh_net_end, joined_net_end, unseen};
+    ghost use Rattle.lane_models.specs.NetEndStep.{NetGives, NetJoins};
+    ghost use Rattle.lane_models.specs.NetLaneStep.{told_all};
     ghost use Rattle.vnet_port.specs.Calls.{end_of, given, joining, role_of};
     ghost use Rattle.port_frames.specs.Memories.{HoldsRing};
     ghost use Rattle.vnet_port.specs.Stepping.{Steps};

@@ -2,7 +2,7 @@
 
 ghost use Rattle.std.specs.Prelude.{◌≡◌, ◌-◌, ◌^◌, ◌<◌, ◌≤◌, length, is_some, IfOk};
 ghost use Rattle.ldc_queue.specs.ChannelView.{configured_channel};
-ghost use Rattle.port_model.specs.RuleFacts.{IfOpen};
+ghost use Rattle.lane_models.specs.RuleFacts.{IfOpen};
 ghost use Rattle.vnet_msg.specs.Frames.{is_frame_length};
 ghost use Rattle.vnet_port.specs.Calls.{end_at};
 ghost use Rattle.vnet_port.specs.declared.net_out.NetOut.TheVariants.{Reset};
@@ -39,7 +39,7 @@ pub(crate) struct PortEnd {
 
 impl Model for PortEnd {
     ghost use Rattle.std.specs.Prelude.{◌≡◌, ◌≤◌};
-    ghost use Rattle.port_model.specs.NetEndState.{NetEndState};
+    ghost use Rattle.lane_models.specs.NetEndState.{NetEndState};
 
     ghost Value = { NetEndState };
 
@@ -73,10 +73,10 @@ pub(crate) fn end_at(role: Role) -> End
 }
 
 impl PortEnd {
-    ghost use Rattle.port_model.specs.NetEndState.{fresh_net_end, joined_net_end, kept_groups, unseen};
-    ghost use Rattle.port_model.specs.NetEndStep.{NetGives, NetJoins, untold};
-    ghost use Rattle.port_model.specs.FramesStand.{CountsStand, FramesStand};
-    ghost use Rattle.port_model.specs.NetLaneStep.{told_all};
+    ghost use Rattle.lane_models.specs.NetEndState.{fresh_net_end, joined_net_end, kept_groups, unseen};
+    ghost use Rattle.lane_models.specs.NetEndStep.{NetGives, NetJoins, untold};
+    ghost use Rattle.lane_models.specs.FramesStand.{CountsStand, FramesStand};
+    ghost use Rattle.lane_models.specs.NetLaneStep.{told_all};
     ghost use Rattle.vnet_port.specs.Calls.{end_of, given, joining, role_of};
 
     /// An end that isn't configured.

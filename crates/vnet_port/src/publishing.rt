@@ -2,7 +2,7 @@
 
 ghost use Rattle.std.specs.Prelude.{◌≡◌, ◌*◌, length, slice_get, true, Some};
 ghost use Rattle.ldc_queue.specs.ChannelView.{ChannelView};
-ghost use Rattle.port_model.specs.NetEndRule.{publishes};
+ghost use Rattle.lane_models.specs.NetEndRule.{publishes};
 ghost use Rattle.port_frames.specs.Memories.{HoldsRing};
 
 use crate::net_out::NetOut;
@@ -11,8 +11,8 @@ use dom_memory::Memory;
 use port_frames::put_frame;
 
 impl PortEnd {
-    ghost use Rattle.port_model.specs.FramesStand.{FramesStand};
-    ghost use Rattle.port_model.specs.NetEndState.{NetSession, unseen_in};
+    ghost use Rattle.lane_models.specs.FramesStand.{FramesStand};
+    ghost use Rattle.lane_models.specs.NetEndState.{NetSession, unseen_in};
     ghost use Rattle.vnet_port.specs.Standing.{IsSized};
     ghost use Rattle.vnet_port.specs.Stepping.{StepsAlone, rule_of};
     ghost use Rattle.vnet_port.specs.NextAct.{has_unpublished};

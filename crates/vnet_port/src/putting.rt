@@ -28,9 +28,9 @@ pub(crate) enum PutOf {
 }
 
 impl PortEnd {
-    ghost use Rattle.channel_laws.specs.EndPuts.{EndsHandshake, put_opens};
-    ghost use Rattle.port_model.specs.NetEndPutting.{cleared_ring, holding};
-    ghost use Rattle.port_model.specs.NetEndState.{first_id, opened_net_end};
+    ghost use Rattle.lane_models.specs.EndPuts.{EndsHandshake, put_opens};
+    ghost use Rattle.lane_models.specs.NetEndPutting.{cleared_ring, holding};
+    ghost use Rattle.lane_models.specs.NetEndState.{first_id, opened_net_end};
     ghost use Rattle.vnet_port.specs.Calls.{end_of};
     ghost use Rattle.vnet_port.specs.Putting.{MayOpen, PutsHeld, cleared_if, kind_of, next_put, noted, put_of};
 

@@ -16,10 +16,7 @@ use ldc_packet::Subtype;
 use ldc_queue::Channel;
 use port_session::{MembershipReply, PortSession, seven};
 use vio_handshake::Session;
-use vio_tag::{Message, MsgBody};
-
-/// The ring goes on to be worked (`VIO_DRING_ACTIVE` of Linux's vio.h).
-const VIO_DRING_ACTIVE: u8 = 1;
+use vio_tag::{Message, MsgBody, VIO_DRING_ACTIVE};
 
 /// An INFO of a port that names no last slot.
 const NO_END: u32 = 0xffffffff;
@@ -28,11 +25,11 @@ const NO_END: u32 = 0xffffffff;
 const SET: u8 = 1;
 
 impl PortEnd {
-    ghost use Rattle.port_model.specs.FramesStand.{FramesStand};
-    ghost use Rattle.port_model.specs.Groups.{membership};
-    ghost use Rattle.port_model.specs.NetEndPutting.{announcement, groups_answer};
-    ghost use Rattle.port_model.specs.NetEndRule.{Announces, Puts, Replies, Says, Tells};
-    ghost use Rattle.port_model.specs.NetEndState.{GroupsReply, NetSession};
+    ghost use Rattle.lane_models.specs.FramesStand.{FramesStand};
+    ghost use Rattle.lane_models.specs.Groups.{membership};
+    ghost use Rattle.lane_models.specs.NetEndPutting.{announcement, groups_answer};
+    ghost use Rattle.lane_models.specs.NetEndRule.{Announces, Puts, Replies, Says, Tells};
+    ghost use Rattle.lane_models.specs.NetEndState.{GroupsReply, NetSession};
     ghost use Rattle.vnet_port.specs.Calls.{end_of, role_of};
     ghost use Rattle.vnet_port.specs.Putting.{CanSay, MayOpen};
     ghost use Rattle.vnet_port.specs.Standing.{IsSized, SessionStands};

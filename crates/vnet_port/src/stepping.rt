@@ -16,8 +16,8 @@ use ldc_queue::{Channel, ChannelState};
 use map_table::MapTable;
 
 impl PortEnd {
-    ghost use Rattle.port_model.specs.FramesStand.{FramesStand};
-    ghost use Rattle.port_model.specs.NetEndRule.{Joins, Says};
+    ghost use Rattle.lane_models.specs.FramesStand.{FramesStand};
+    ghost use Rattle.lane_models.specs.NetEndRule.{Joins, Says};
     ghost use Rattle.vnet_port.specs.Calls.{end_of, role_of};
     ghost use Rattle.vnet_port.specs.Putting.{CanSay};
     ghost use Rattle.vnet_port.specs.Standing.{Stands};
@@ -118,7 +118,7 @@ impl PortEnd {
 
 // What is to be done in session. Where none is open, it is nothing.
 impl PortEnd {
-    ghost use Rattle.port_model.specs.FramesStand.{FramesStand};
+    ghost use Rattle.lane_models.specs.FramesStand.{FramesStand};
     ghost use Rattle.vnet_port.specs.Calls.{role_of};
     ghost use Rattle.vnet_port.specs.NextAct.{has_unpublished, is_active, is_to_announce, is_to_tell, owes_reply};
 

@@ -9,7 +9,7 @@ use Rattle.vnet_switch.proofs.Counting.{names_with_last, sum_changes}
 use Rattle.vnet_switch.proofs.Pigeons.{same_as_other, same_as_self}
 use Rattle.vnet_switch.specs.Forward.{PortIs}
 use Rattle.vnet_switch.specs.Named.{names_by}
-use Rattle.vnet_switch.specs.Offering.{Declines, OffersBelow, OffersTo, Takes}
+use Rattle.vnet_switch.specs.Offering.{Declines, OffersBelow, OffersTo, TakesKey}
 use Rattle.vnet_switch.specs.PortSet.{IsSetOf}
 use Rattle.vnet_switch.specs.PortView.{PortView}
 use Rattle.vnet_switch.specs.Queues.{with_last, QueueHasRoom, IsFull}
@@ -108,7 +108,7 @@ offers_in_vain limit first now set key offered new_offered port new_port is with
 -- it takes the key
 offers_one : (limit : ℕ) (first now : List (PortView ℕ)) (set key : ℕ) (offered new_offered : Offered)
     (port : PortView ℕ) → slice_get now limit ≡ Some port → IsBitSet set limit
-    → OffersBelow limit first set key offered now → Takes limit key port offered (with_last key port) new_offered
+    → OffersBelow limit first set key offered now → TakesKey limit key port offered (with_last key port) new_offered
     → OffersBelow (limit + 1) first set key new_offered (slice_set now limit (with_last key port))
 offers_one limit first now set key offered new_offered port is within so_far takes =
     let was : slice_get first limit ≡ Some port = next_was limit first now set key offered port so_far is in
@@ -187,7 +187,7 @@ offers_more limit first now set key offered new_offered port new_port false is m
 offers_more limit first now set key offered new_offered port new_port true is means so_far (inl takes) =
     subst (λ (p : PortView ℕ). OffersBelow (limit + 1) first set key new_offered (slice_set now limit p)) (sym takes.is)
     (offers_one limit first now set key offered new_offered port is (means.0 refl) so_far
-    (subst (λ (p : PortView ℕ). Takes limit key port offered p new_offered) takes.is takes))
+    (subst (λ (p : PortView ℕ). TakesKey limit key port offered p new_offered) takes.is takes))
 offers_more limit first now set key offered new_offered port new_port true is means so_far (inr declines) =
     let same : slice_set now limit new_port ≡ now = ap (λ (p : PortView ℕ). slice_set now limit p) declines.is
     ∙ set_same now limit port is in

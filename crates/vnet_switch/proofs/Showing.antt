@@ -10,7 +10,8 @@ use Rattle.vnet_switch.proofs.Changes.{changes_one, changes_shown, port_found, p
 use Rattle.vnet_switch.proofs.Counting.{names_by_within}
 use Rattle.vnet_switch.proofs.Pigeons.{same_as, same_as_self}
 use Rattle.vnet_switch.proofs.Sound.{next_sound, slot_left, slot_taken, unnamed_whole, Taken}
-use Rattle.vnet_switch.specs.Forward.{broadcast, GetsFrame, HasAddress, IsFor, IsGroup, PortIs}
+use Rattle.vio_bytes.specs.Ethernet.{broadcast}
+use Rattle.vnet_switch.specs.Forward.{GetsFrame, HasAddress, IsFor, IsGroup, PortIs}
 use Rattle.vnet_switch.specs.Kept.{bytes_at, names_at, slot_at, unnamed, FrameSlots, KeepsNamed}
 use Rattle.vnet_switch.specs.Named.{names_in, IsSound}
 use Rattle.vnet_switch.specs.Offering.{OffersBelow}

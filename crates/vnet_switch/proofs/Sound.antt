@@ -12,7 +12,7 @@ use Rattle.vnet_switch.proofs.Offers.{room_of}
 use Rattle.vnet_switch.proofs.Pigeons.{held, same_as, same_as_other, same_as_self}
 use Rattle.vnet_switch.specs.Forward.{HasAddress}
 use Rattle.vnet_switch.specs.Kept.{fresh_frames, kept_count, names_at, slot_at, unnamed, FrameSlots, KeepsNamed}
-use Rattle.vnet_switch.specs.Named.{names_by, names_in, AllFit, IsSound, IsWhole}
+use Rattle.vnet_switch.specs.Named.{names_by, names_in, AllFit, IsSound, IsWholeFrame}
 use Rattle.vnet_switch.specs.Offering.{OffersBelow}
 use Rattle.vnet_switch.specs.PortView.{PortView}
 use Rattle.vnet_switch.specs.Queues.{fresh_port, with_last, with_session, without_first, ChangesAt, QueueHasRoom}
@@ -137,7 +137,7 @@ accept_sound ports new_ports frames new_frames set key offered bytes (suc n) got
             (others other apart) ∙ (sound.counted other ∙ sym (offers.other_names other apart))
       ];
       whole = λ other frame is. elim (cases_eq other key) [
-        | inl same ↦ subst IsWhole (same_Some (record { bytes = bytes; names = suc n }) frame
+        | inl same ↦ subst IsWholeFrame (same_Some (record { bytes = bytes; names = suc n }) frame
             (sym it ∙ subst (λ (k : ℕ). slot_at new_frames.slots k ≡ Some frame) same is))
             (record { named = omega arith; long = long; short = short })
         | inr apart ↦ sound.whole other frame (sym (others other apart) ∙ is)
@@ -215,13 +215,13 @@ unnamed_names frame named = elim (cases_lt 1 frame.names) [
 ]
 
 -- a frame that is still kept has its bytes, and a queue names it
-pub unnamed_whole : (frame left : KeptFrame) → unnamed (Some frame) ≡ Some left → IsWhole frame
-    → IsWhole left × (left.bytes ≡ frame.bytes)
+pub unnamed_whole : (frame left : KeptFrame) → unnamed (Some frame) ≡ Some left → IsWholeFrame frame
+    → IsWholeFrame left × (left.bytes ≡ frame.bytes)
 unnamed_whole frame left is whole =
     let parts : (nat_lt 1 frame.names ≡ true) × (record frame { names = frame.names - 1 } ≡ left) = cond_some
     (nat_lt 1 frame.names) (record frame { names = frame.names - 1 }) left is in
     let more : 1 < frame.names = ltb-true 1 frame.names parts.0 in
-    subst (λ (f : KeptFrame). IsWhole f × (f.bytes ≡ frame.bytes)) parts.1
+    subst (λ (f : KeptFrame). IsWholeFrame f × (f.bytes ≡ frame.bytes)) parts.1
     (record { named = omega (arith, more); long = whole.long; short = whole.short }, refl)
 
 pub record Taken (ports : List (PortView ℕ)) (frames new_frames : FrameSlots) (k : ℕ) (port : PortView ℕ) (key : ℕ)

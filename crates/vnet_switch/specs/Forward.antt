@@ -1,12 +1,9 @@
 -- To which ports a frame goes.
-use Rattle.std.specs.Prelude.{◌≡◌, ◌≢◌, ◌⊎◌, ℕ, ◌%◌, List, [], ◌∷◌, Some, slice_get, slice_index, Contains, IsSomeAnd}
+use Rattle.std.specs.Prelude.{◌≡◌, ◌≢◌, ◌⊎◌, ℕ, ◌%◌, List, Some, slice_get, slice_index, Contains, IsSomeAnd}
+use Rattle.vio_bytes.specs.Ethernet.{broadcast}
 use Rattle.vnet_switch.specs.PortView.{PortView}
 use Rattle.vnet_switch.specs.declared.cast.Cast.{Cast}
 use Rattle.vnet_switch.specs.declared.cast.Cast.TheVariants.{Broadcast, Multicast, Unicast}
-
--- the destination of a frame for every port
-abbrev pub broadcast : List ℕ
-broadcast = 255 ∷ 255 ∷ 255 ∷ 255 ∷ 255 ∷ 255 ∷ []
 
 -- the first byte of a group's address is odd
 abbrev pub IsGroup : List ℕ → Type 0

@@ -18,8 +18,8 @@ abbrev pub slot_at : List (Option KeptFrame) → ℕ → Option KeptFrame
 slot_at slots key = slice_index_or slots key None
 
 -- a frame is kept under the key
-abbrev pub IsKept : List (Option KeptFrame) → ℕ → Type 0
-IsKept slots key = IsSome (slot_at slots key)
+abbrev pub IsFrameKept : List (Option KeptFrame) → ℕ → Type 0
+IsFrameKept slots key = IsSome (slot_at slots key)
 
 abbrev pub kept_count : List (Option KeptFrame) → ℕ
 kept_count slots = count_by is_some slots
@@ -37,7 +37,7 @@ unnamed None = None
 unnamed (Some frame) = if nat_lt 1 frame.names then Some (record frame { names = frame.names - 1 }) else None
 
 -- the frame is kept under the next key, named by so many queues, and all others are as they were
-pub record Keeps (old : FrameSlots) (bytes : List ℕ) (names : ℕ) (new : FrameSlots) : Type 0 where
+pub record KeepsFrame (old : FrameSlots) (bytes : List ℕ) (names : ℕ) (new : FrameSlots) : Type 0 where
   pub it : slot_at new.slots old.next_key ≡ Some (record { bytes = bytes; names = names })
   pub others : (key : ℕ) → key ≢ old.next_key → slot_at new.slots key ≡ slot_at old.slots key
   pub count : kept_count new.slots ≡ kept_count old.slots + 1
@@ -46,4 +46,4 @@ pub record Keeps (old : FrameSlots) (bytes : List ℕ) (names : ℕ) (new : Fram
 -- a frame that no queue names isn't kept
 abbrev pub KeepsNamed : FrameSlots → List ℕ → ℕ → FrameSlots → Type 0
 KeepsNamed old bytes zero new = new ≡ old
-KeepsNamed old bytes (suc names) new = Keeps old bytes (suc names) new
+KeepsNamed old bytes (suc names) new = KeepsFrame old bytes (suc names) new

@@ -15,7 +15,7 @@ abbrev pub names_in : ℕ → List (PortView ℕ) → ℕ
 names_in key ports = sum_by (names_by key) ports
 
 -- some queue names the frame, and it has 14 to 1,514 bytes
-pub record IsWhole (frame : KeptFrame) : Type 0 where
+pub record IsWholeFrame (frame : KeptFrame) : Type 0 where
   pub named : 0 < frame.names
   pub long : 14 ≤ length frame.bytes
   pub short : length frame.bytes ≤ 1514
@@ -33,5 +33,5 @@ pub record IsSound (ports : List (PortView ℕ)) (frames : FrameSlots) : Type 0 
   pub differ : AddressesDiffer ports
   pub fit : AllFit ports
   pub counted : (key : ℕ) → names_at frames.slots key ≡ names_in key ports
-  pub whole : (key : ℕ) (frame : KeptFrame) → slot_at frames.slots key ≡ Some frame → IsWhole frame
+  pub whole : (key : ℕ) (frame : KeptFrame) → slot_at frames.slots key ≡ Some frame → IsWholeFrame frame
   pub enough : sum_by (λ port. port.room) ports ≡ frames.room

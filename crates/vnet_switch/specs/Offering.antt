@@ -7,7 +7,7 @@ use Rattle.vnet_switch.specs.PortView.{PortView}
 use Rattle.vnet_switch.specs.Queues.{waiting_in_all, with_last, ChangesAt, QueueHasRoom, IsFull}
 use Rattle.vnet_switch.specs.declared.forwarding.Offered.{Offered}
 
-pub record Takes (k key : ℕ) (port : PortView ℕ) (offered : Offered) (new_port : PortView ℕ) (new_offered : Offered)
+pub record TakesKey (k key : ℕ) (port : PortView ℕ) (offered : Offered) (new_port : PortView ℕ) (new_offered : Offered)
     : Type 0 where
   pub room : QueueHasRoom port
   pub is : new_port ≡ with_last key port
@@ -28,7 +28,7 @@ pub record Declines (k : ℕ) (port : PortView ℕ) (offered : Offered) (new_por
 abbrev pub OffersTo : Bool → ℕ → ℕ → PortView ℕ → Offered → PortView ℕ → Offered → Type 0
 OffersTo false k key port offered new_port new_offered = (new_port ≡ port) × (new_offered ≡ offered)
 OffersTo true k key port offered new_port new_offered =
-    Takes k key port offered new_port new_offered ⊎ Declines k port offered new_port new_offered
+    TakesKey k key port offered new_port new_offered ⊎ Declines k port offered new_port new_offered
 
 -- the first ports of the set, those below the limit, were offered the key
 pub record OffersBelow (limit : ℕ) (old : List (PortView ℕ)) (set key : ℕ) (offered : Offered)

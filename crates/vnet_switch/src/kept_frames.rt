@@ -2,7 +2,7 @@
 
 ghost use Rattle.std.specs.Prelude.{◌≡◌, ◌+◌, ◌<◌, ◌≤◌, ◌++◌, drop, length, slice_index_or, slice_set, IfOk, None, Some};
 ghost use Rattle.slab.specs.Slab.{Updates};
-ghost use Rattle.vnet_switch.specs.Kept.{bytes_at, fresh_frames, kept_count, slot_at, unnamed, IsKept, KeepsNamed};
+ghost use Rattle.vnet_switch.specs.Kept.{bytes_at, fresh_frames, kept_count, slot_at, unnamed, IsFrameKept, KeepsNamed};
 
 use crate::frame_buffer::FrameBuffer;
 use slab::Slab;
@@ -88,7 +88,7 @@ impl KeptFrames {
 
     /// Writes a frame to the front, and tells its length.
     pub(crate) fn read(&self, key: usize, front: &mut [u8; 1514]) -> usize
-        requires { IsKept self.now.slots key }
+        requires { IsFrameKept self.now.slots key }
         ensures count { result ≡ length (bytes_at self.now.slots key) }
         ensures bytes { front.new ≡ bytes_at self.now.slots key ++ drop result front.old }
     {
@@ -97,7 +97,7 @@ impl KeptFrames {
 
     /// One queue fewer names the frame, which leaves with the last one.
     pub(crate) fn unname(&mut self, key: usize)
-        requires { IsKept self.old.slots key }
+        requires { IsFrameKept self.old.slots key }
         ensures slots { self.new.slots ≡ slice_set self.old.slots key (unnamed (slot_at self.old.slots key)) }
         ensures room { self.new.room ≡ self.old.room }
     {

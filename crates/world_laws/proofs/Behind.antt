@@ -2,15 +2,15 @@
 -- somebody forged and that had its tick.
 use Rattle.std.proofs.Common.{◌≡◌, ◌⊎◌, inl, inr, Bool, true, false, List, [], ◌∷◌, arith}
 use Rattle.runs.specs.Run.{Run}
-use Rattle.disk_model.specs.ClientState.{is_finished}
-use Rattle.disk_model.specs.LaneState.{LaneState}
-use Rattle.disk_model.specs.Reached.{IsReached}
+use Rattle.lane_models.specs.ClientState.{is_finished}
+use Rattle.lane_models.specs.LaneState.{LaneState}
+use Rattle.lane_models.specs.Reached.{IsReached}
 use Rattle.lane_kinds.proofs.Finishing.{IsWhole, all_each, lanes_keep, whole_fresh}
 use Rattle.lane_kinds.proofs.Lanes.{own_turns}
 use Rattle.lane_kinds.proofs.Standing.{rounds_stand}
 use Rattle.lane_kinds.proofs.Sums.{and_left, and_right}
 use Rattle.lane_kinds.specs.Lanes.{CalmTurn, OwnTurns}
-use Rattle.lane_kinds.specs.Laws.{Keeps}
+use Rattle.lane_kinds.specs.Laws.{KeepsStanding}
 use Rattle.world_laws.proofs.DiskLaws.{IsLossless, disk_rests, gives_nothing}
 use Rattle.world_laws.proofs.LaneRounds.{quiet_finished, quiet_same, quiet_still, round_keeps}
 use Rattle.world_laws.proofs.LaneTicks.{rests_where}
@@ -38,7 +38,7 @@ Whole = IsWhole disk_kind IsReached IsUnforged IsLossless disk_rests
 abbrev pub Stands : List LaneState → List Bool → Type 0
 Stands = EachMarked Whole
 
-pub keeps : Keeps disks Stands
+pub keeps : KeepsStanding disks Stands
 keeps = lanes_keep disk_kind IsReached IsUnforged IsLossless disk_rests disk_entries
 
 pub begins : (start : List LaneState) → Each IsReached start → Stands start (no_marks start)

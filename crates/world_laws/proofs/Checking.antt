@@ -9,14 +9,14 @@ use Rattle.vdisk_msg.specs.declared.desc.DescFault.{DescFault}
 use Rattle.vdisk_msg.specs.declared.desc.DiskDesc.{DiskDesc}
 use Rattle.vdisk_msg.specs.Descriptor as slot_says
 use Rattle.lane_laws.specs.DiskLog.{DiskLog, after, nothing_yet}
-use Rattle.disk_model.specs.DiskEvent.{Desc, DiskEvent, Done, Finished, Misplaced, Moved, Published, Stored, Worked, Works}
-use Rattle.disk_model.specs.LaneState.{IsShape, LaneState, Shape, fresh}
-use Rattle.disk_model.specs.LaneStep.{LaneStep}
-use Rattle.channel_laws.specs.Seeing.{Seen}
-use Rattle.disk_model.specs.ServerState.{Ends, Flushes, Gathers, Gives, Progress, Reads, ServerState, Work, Writes}
-use Rattle.disk_model.specs.ServerStep.{ServerStep}
+use Rattle.lane_models.specs.DiskEvent.{Desc, DiskEvent, Done, Finished, Misplaced, Moved, Published, Stored, Worked, Works}
+use Rattle.lane_models.specs.LaneState.{IsShape, LaneState, Shape, fresh}
+use Rattle.lane_models.specs.LaneStep.{LaneStep}
+use Rattle.lane_models.specs.Seeing.{Seen}
+use Rattle.lane_models.specs.ServerState.{Ends, Flushes, Gathers, Gives, Progress, Reads, ServerState, Work, Writes}
+use Rattle.lane_models.specs.ServerStep.{ServerStep}
 use Rattle.cookie_copy.specs.Reach.{Reach}
-use Rattle.disk_model.specs.ServerWork.{MovesIn, StoresIn, checked_progress, desc_of, first_progress}
+use Rattle.lane_models.specs.ServerWork.{MovesIn, StoresIn, checked_progress, desc_of, first_progress}
 use Rattle.lane_laws.proofs.RulesFree.{ServerFree, server_free}
 use Rattle.lane_laws.proofs.PieceLaw.{Working}
 use Rattle.lane_laws.proofs.WorkKept.{WorkKeeps, work_by, work_step}

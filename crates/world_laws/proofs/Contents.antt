@@ -5,9 +5,9 @@ use Rattle.runs.specs.Run.{Run}
 use Rattle.vio_bytes.proofs.Ranges.{length-range_at}
 use Rattle.disk_law.specs.ListState.{ImageState}
 use Rattle.lane_laws.specs.DiskLog.{after, nothing_yet}
-use Rattle.disk_model.specs.DiskEvent.{DiskEvent, Done, Works}
-use Rattle.disk_model.specs.LaneState.{LaneState, Shape, fresh}
-use Rattle.disk_model.specs.LaneStep.{LaneStep}
+use Rattle.lane_models.specs.DiskEvent.{DiskEvent, Done, Works}
+use Rattle.lane_models.specs.LaneState.{LaneState, Shape, fresh}
+use Rattle.lane_models.specs.LaneStep.{LaneStep}
 use Rattle.lane_laws.specs.Blocks.{after_requests}
 use Rattle.lane_laws.specs.Headline.{CompletionShows, HoldsDone, ImagedStep, fresh_image}
 use Rattle.lane_laws.specs.ImageStep.{region_of}

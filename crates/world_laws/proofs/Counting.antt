@@ -4,10 +4,10 @@ use Rattle.std.proofs.lemmas.List.{length-append}
 use Rattle.runs.specs.Run.{Run, run_push}
 use Rattle.disk_law.specs.Issued.{issued}
 use Rattle.disk_law.specs.ListState.{ImageState}
-use Rattle.disk_model.specs.DiskEvent.{DiskEvent}
-use Rattle.disk_model.specs.LaneState.{LaneState, Shape, fresh}
-use Rattle.disk_model.specs.LaneStep.{LaneStep}
-use Rattle.disk_model.specs.Reached.{IsReached}
+use Rattle.lane_models.specs.DiskEvent.{DiskEvent}
+use Rattle.lane_models.specs.LaneState.{LaneState, Shape, fresh}
+use Rattle.lane_models.specs.LaneStep.{LaneStep}
+use Rattle.lane_models.specs.Reached.{IsReached}
 use Rattle.world_laws.specs.Rounds.{Each}
 use Rattle.world_laws.specs.Settle.{OfLane, SettleEntry}
 use Rattle.world_laws.proofs.Along.{fresh_reached, lane_step, stay_reached}

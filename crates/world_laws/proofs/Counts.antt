@@ -2,8 +2,8 @@
 use Rattle.std.proofs.Common.{◌≡◌, ℕ, ◌+◌, ◌≤◌, ◌⊎◌, inl, inr, Bool, true, false, refl, arith}
 use Rattle.std.specs.Prelude.{◌&&◌, ◌==◌, if◌then◌else◌}
 use Rattle.ldc_queue.specs.declared.end.End.{End}
-use Rattle.channel_laws.specs.WireEvent.{Blocked}
-use Rattle.disk_model.specs.DiskEvent.{OnWire}
+use Rattle.lane_models.specs.WireEvent.{Blocked}
+use Rattle.lane_models.specs.DiskEvent.{OnWire}
 use Rattle.world_laws.specs.Moves.{is_end, moves, stuck}
 use Rattle.world_laws.specs.Settle.{OfLane, SettleEntry}
 

@@ -4,14 +4,14 @@ use Rattle.std.proofs.lemmas.Bool.{eq-eqb, eqb-true}
 use Rattle.std.specs.Prelude.{◌&&◌, ◌==◌, if◌then◌else◌}
 use Rattle.ldc_queue.specs.declared.end.End.{End}
 use Rattle.ldc_queue.specs.declared.end.End.TheVariants.{A, B}
-use Rattle.channel_laws.specs.WireEvent.{Idle}
-use Rattle.disk_model.specs.DiskEvent.{DiskEvent, Off, OnWire, Switches}
-use Rattle.disk_model.specs.LaneState.{LaneState}
-use Rattle.disk_model.specs.LaneStep.{LaneStep}
-use Rattle.disk_model.specs.Reached.{IsReached}
+use Rattle.lane_models.specs.WireEvent.{Idle}
+use Rattle.lane_models.specs.DiskEvent.{DiskEvent, Off, OnWire, Switches}
+use Rattle.lane_models.specs.LaneState.{LaneState}
+use Rattle.lane_models.specs.LaneStep.{LaneStep}
+use Rattle.lane_models.specs.Reached.{IsReached}
 use Rattle.lane_kinds.proofs.Stuck.{sum_both}
 use Rattle.lane_kinds.specs.LaneCounts.{LaneMoves, LaneTicks, LaneUnsticks, TickWaits, once}
-use Rattle.lane_kinds.specs.Lanes.{CalmTurn, EachStep, GivesNothing, IsSilent, LaneFalls, LaneRests, Reads, turn_entries}
+use Rattle.lane_kinds.specs.Lanes.{CalmTurn, EachStep, GivesNothing, IsSilent, LaneFalls, ComesToRest, Reads, turn_entries}
 use Rattle.lane_kinds.specs.Stuck.{sum_over}
 use Rattle.lane_laws.proofs.StepFalls.{idles, step_falls}
 use Rattle.lane_laws.proofs.StepKeeps.{step_keeps}
@@ -84,7 +84,7 @@ not_waiting false false done = let never : false ≡ true = done refl in absurd 
 finishes : (s : LaneState) (events : List DiskEvent) (t : LaneState) → IsReached s → IsUnforged s → IsLossless s → CalmTurn disk_kind s events t → waits_on t ≡ false
 finishes s events t given clean whole turn = grind (arith, own_round, round_keeps, not_waiting, quiet_finished)
 
-pub disk_rests : LaneRests disk_kind IsReached IsUnforged IsLossless
+pub disk_rests : ComesToRest disk_kind IsReached IsUnforged IsLossless
 disk_rests = record {
   turn_steps = turn_steps;
   reached = reached_on;

@@ -6,7 +6,7 @@ use Rattle.std.proofs.lemmas.Bool.{cases_lt, eq-eqb, eqb-true}
 use Rattle.std.proofs.lemmas.List.{length-set}
 use Rattle.std.proofs.lemmas.Option.{slice_get_within}
 use Rattle.runs.specs.Run.{Run}
-use Rattle.disk_model.specs.DiskEvent.{DiskEvent}
+use Rattle.lane_models.specs.DiskEvent.{DiskEvent}
 use Rattle.world_laws.specs.Along.{event_at, happened}
 use Rattle.world_laws.specs.Settle.{OfLane, SettleEntry}
 use Rattle.world_laws.specs.World.{WorldState, WorldStep}

@@ -8,24 +8,24 @@ use Rattle.ldc_queue.specs.declared.end.End.TheVariants.{A, B}
 use Rattle.ldc_queue.specs.Transcript.{Utterance}
 use Rattle.vdisk_msg.specs.declared.request.Request.{Request}
 use Rattle.vdisk_msg.specs.declared.request.Request.TheVariants.{Flush, Read, Write}
-use Rattle.vdisk_msg.specs.Requests.{BadCount, Defect, defect, given_count, operation_of}
+use Rattle.vdisk_msg.specs.Requests.{IsOperation, BadCount, Defect, defect, given_count, operation_of}
 use Rattle.vio_tag.specs.declared.cause.Cause.{Cause}
-use Rattle.channel_laws.specs.ResetSays.{ResetSays}
-use Rattle.channel_laws.specs.WireEvent.{Joined, Reset}
+use Rattle.lane_models.specs.ResetSays.{ResetSays}
+use Rattle.lane_models.specs.WireEvent.{Joined, Reset}
 use Rattle.lane_laws.specs.DiskLog.{DiskLog, after, nothing_yet}
 use Rattle.lane_laws.specs.May.{May}
 use Rattle.lane_laws.specs.RequestLaws.{CarriesAt, carried_count}
 use Rattle.lane_laws.specs.WorkLaws.{ResetOf}
-use Rattle.disk_model.specs.DiskEvent.{DiskEvent, Done, OnWire, Stored, Works}
-use Rattle.disk_model.specs.LaneState.{IsShape, LaneState, Shape, fresh}
-use Rattle.disk_model.specs.LaneStep.{EndOnWire, LaneStep}
-use Rattle.disk_model.specs.ServerState.{Progress, Work}
-use Rattle.disk_model.specs.ServerWork.{StoresIn}
+use Rattle.lane_models.specs.DiskEvent.{DiskEvent, Done, OnWire, Stored, Works}
+use Rattle.lane_models.specs.LaneState.{IsShape, LaneState, Shape, fresh}
+use Rattle.lane_models.specs.LaneStep.{EndOnWire, LaneStep}
+use Rattle.lane_models.specs.ServerState.{Progress, Work}
+use Rattle.lane_models.specs.ServerWork.{StoresIn}
 use Rattle.lane_laws.proofs.CarriedRuns.{AllStand, all_step, fresh_all}
 use Rattle.lane_laws.proofs.MemorySteps.{carried_long, got_sound}
 use Rattle.lane_laws.specs.MemoryStands.{MemoryStands}
 use Rattle.lane_laws.proofs.EveryRun.{every_run}
-use Rattle.world_laws.specs.Words.{AreBlocks, HasWords, IsOperation, NamesFault}
+use Rattle.world_laws.specs.Words.{AreBlocks, HasWords, NamesFault}
 
 -- OPERATIONS
 request_operation : (request : Request) → IsOperation (operation_of request)

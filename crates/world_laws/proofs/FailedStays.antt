@@ -1,9 +1,9 @@
 -- A lane none of whose calls of the store failed stays so by each event but a call that fails.
 use Rattle.std.proofs.Common.{◌≡◌, Bool, true, false, arith}
 use Rattle.std.specs.Prelude.{◌||◌}
-use Rattle.disk_model.specs.DiskEvent.{DiskEvent}
-use Rattle.disk_model.specs.LaneState.{LaneState}
-use Rattle.disk_model.specs.LaneStep.{LaneStep}
+use Rattle.lane_models.specs.DiskEvent.{DiskEvent}
+use Rattle.lane_models.specs.LaneState.{LaneState}
+use Rattle.lane_models.specs.LaneStep.{LaneStep}
 use Rattle.lane_laws.proofs.FailedRuns.{failed_after}
 use Rattle.lane_laws.specs.DiskLog.{after_failed}
 use Rattle.world_laws.specs.Failures.{is_failed_store}

@@ -2,12 +2,12 @@
 use Rattle.std.proofs.Common.{◌≡◌, ℕ, ◌+◌, ◌*◌, ◌≤◌, ◌<◌, List, [], ◌∷◌, length, arith}
 use Rattle.std.specs.Prelude.{⊤}
 use Rattle.runs.specs.Run.{Run}
-use Rattle.disk_model.specs.LaneState.{LaneState}
-use Rattle.disk_model.specs.Reached.{IsReached}
+use Rattle.lane_models.specs.LaneState.{LaneState}
+use Rattle.lane_models.specs.Reached.{IsReached}
 use Rattle.lane_kinds.proofs.Falling as kind
 use Rattle.lane_kinds.proofs.Lanes.{all_fall}
 use Rattle.lane_kinds.specs.Lanes.{AreCleanWhere}
-use Rattle.lane_kinds.specs.Laws.{Falls, Keeps}
+use Rattle.lane_kinds.specs.Laws.{Falls, KeepsStanding}
 use Rattle.lane_laws.proofs.LaneBound.{remains_most}
 use Rattle.lane_laws.specs.Remaining.{remaining}
 use Rattle.world_laws.proofs.DiskLaws.{IsClean, disk_falls}
@@ -30,7 +30,7 @@ are_clean lanes reached unforged = record { few = tt; clean = each_clean lanes r
 pub falls : Falls disks AreClean remaining_on
 falls = all_fall disk_kind IsClean remaining disk_falls disk_entries
 
-pub keeps : Keeps disks (λ lanes marks. AreClean lanes)
+pub keeps : KeepsStanding disks (λ lanes marks. AreClean lanes)
 keeps = falls.keeps
 
 -- THE BOUND

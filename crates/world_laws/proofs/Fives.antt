@@ -7,13 +7,13 @@ use Rattle.vdisk_msg.specs.Check.{first_defect}
 use Rattle.vdisk_msg.specs.declared.desc.DescFault.{DescFault}
 use Rattle.vdisk_msg.specs.declared.desc.DiskDesc.{DiskDesc}
 use Rattle.vdisk_msg.specs.Pieces.{Finishes, Moves, Piece, Stores, checked_pieces, operation_pieces, pieces, read_pieces, refusal_status, unit_count, write_pieces}
-use Rattle.channel_laws.specs.WireEvent.{WireEvent}
+use Rattle.lane_models.specs.WireEvent.{WireEvent}
 use Rattle.lane_laws.specs.DiskLog.{DiskLog, after, nothing_yet}
 use Rattle.lane_laws.specs.RingLog.{Accepted as IsAccepted, Done as IsDone, Free, Ready, SlotLog, Zeros, fetched_at, finished_at, freed_at, id_at, published_at}
 use Rattle.lane_laws.specs.WorkLaws.{FinishesPiece, InServer}
 use Rattle.lane_laws.specs.WorkLog.{ClientCounts, ServerCounts, WorkLog, change_server, moved_rest, rest_of, stored_rest}
-use Rattle.disk_model.specs.DiskEvent.{Accepted, Admitted, Asks, Desc, DiskEvent, Done, Finished, Full, Misplaced, Moved, Off, OnWire, Published, Refused, Started, Stopped, Stored, Switched, Switches, Worked, Works}
-use Rattle.disk_model.specs.LaneState.{Shape}
+use Rattle.lane_models.specs.DiskEvent.{Accepted, Admitted, Asks, Desc, DiskEvent, Done, Finished, Full, Misplaced, Moved, Off, OnWire, Published, Refused, Started, Stopped, Stored, Switched, Switches, Worked, Works}
+use Rattle.lane_models.specs.LaneState.{Shape}
 use Rattle.world_laws.proofs.LawFacts.{Facts, FreesSlot}
 use Rattle.world_laws.specs.Failures.{is_failed_done, is_failed_store}
 

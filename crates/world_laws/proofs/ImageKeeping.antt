@@ -3,7 +3,7 @@ use Rattle.std.proofs.Common.{◌≡◌, ◌⊎◌, ℕ, ◌+◌, ◌-◌, ◌*�
 use Rattle.std.proofs.lemmas.List.{drop-drop, get_or-drop, get_or-take, take-take}
 use Rattle.vio_bytes.proofs.Ranges.{range_at-take}
 use Rattle.vio_bytes.specs.Range.{range_at}
-use Rattle.disk_model.specs.LaneState.{Shape}
+use Rattle.lane_models.specs.LaneState.{Shape}
 use Rattle.lane_laws.specs.ImageStep.{SameAround, region_of}
 
 -- what is told is one list

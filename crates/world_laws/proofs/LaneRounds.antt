@@ -4,11 +4,11 @@ use Rattle.std.specs.Prelude.{◌&&◌}
 use Rattle.runs.specs.Run.{run_keeps, run_push}
 use Rattle.ldc_queue.specs.declared.end.End.{End}
 use Rattle.ldc_queue.specs.declared.end.End.TheVariants.{A, B}
-use Rattle.channel_laws.specs.WireAt.{IsUp}
-use Rattle.disk_model.specs.DiskEvent.{DiskEvent}
-use Rattle.disk_model.specs.LaneState.{LaneState, fresh}
-use Rattle.disk_model.specs.LaneStep.{LaneStep}
-use Rattle.disk_model.specs.Reached.{IsReached}
+use Rattle.lane_models.specs.WireAt.{IsUp}
+use Rattle.lane_models.specs.DiskEvent.{DiskEvent}
+use Rattle.lane_models.specs.LaneState.{LaneState, fresh}
+use Rattle.lane_models.specs.LaneStep.{LaneStep}
+use Rattle.lane_models.specs.Reached.{IsReached}
 use Rattle.lane_kinds.proofs.Sums.{and_left, and_right}
 use Rattle.lane_laws.proofs.CalmEnds.{calm_are_idle, calm_are_still, calm_have_finished}
 use Rattle.lane_laws.proofs.StepKeeps.{step_keeps}

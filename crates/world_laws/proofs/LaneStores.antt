@@ -5,11 +5,11 @@ use Rattle.runs.specs.Run.{Run}
 use Rattle.vdisk_msg.specs.declared.desc.DiskDesc.{DiskDesc}
 use Rattle.disk_law.specs.ListState.{ImageState}
 use Rattle.lane_laws.specs.DiskLog.{after, nothing_yet}
-use Rattle.disk_model.specs.DiskEvent.{Asks, Desc, DiskEvent, Done, Finished, Misplaced, Moved, OnWire, Published, Calms, Stored, Switches, Works}
-use Rattle.disk_model.specs.LaneState.{IsShape, LaneState, Shape, fresh}
-use Rattle.disk_model.specs.LaneStep.{LaneStep, ServerWorks}
-use Rattle.disk_model.specs.Served.{Served}
-use Rattle.disk_model.specs.ServerWork.{desc_of}
+use Rattle.lane_models.specs.DiskEvent.{Asks, Desc, DiskEvent, Done, Finished, Misplaced, Moved, OnWire, Published, Calms, Stored, Switches, Works}
+use Rattle.lane_models.specs.LaneState.{IsShape, LaneState, Shape, fresh}
+use Rattle.lane_models.specs.LaneStep.{LaneStep, ServerWorks}
+use Rattle.lane_models.specs.Served.{Served}
+use Rattle.lane_models.specs.ServerWork.{desc_of}
 use Rattle.lane_laws.proofs.FirstStays.{log_shape, run_first}
 use Rattle.world_laws.specs.World.{LaneMoves}
 use Rattle.world_laws.specs.Stays.{StaysAround}

@@ -3,10 +3,10 @@ use Rattle.std.proofs.Common.{◌≡◌, ◌<◌, ◌⊎◌, inl, inr, Bool, tru
 use Rattle.std.specs.Prelude.{if◌then◌else◌}
 use Rattle.ldc_queue.specs.declared.end.End.TheVariants.{A}
 use Rattle.vio_tag.specs.declared.cause.Cause.TheVariants as the_cause
-use Rattle.disk_model.specs.ClientState.{is_finished}
-use Rattle.disk_model.specs.LaneState.{LaneState}
-use Rattle.disk_model.specs.LaneStep.{LaneStep}
-use Rattle.disk_model.specs.Reached.{IsReached}
+use Rattle.lane_models.specs.ClientState.{is_finished}
+use Rattle.lane_models.specs.LaneState.{LaneState}
+use Rattle.lane_models.specs.LaneStep.{LaneStep}
+use Rattle.lane_models.specs.Reached.{IsReached}
 use Rattle.lane_laws.proofs.TickSteps.{tick_begins}
 use Rattle.lane_laws.specs.Remaining.{remaining}
 use Rattle.lane_laws.specs.TickBegins.{TickBegins}

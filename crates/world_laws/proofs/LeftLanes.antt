@@ -2,9 +2,9 @@
 use Rattle.std.proofs.Common.{◌≡◌, ◌⊎◌, inl, inr, ℕ, suc, ◌+◌, Bool, true, false, List, [], ◌∷◌, ◌++◌, slice_get, Some, refl, sym, ap, ◌∙◌, subst, arith, append_assoc}
 use Rattle.std.specs.Prelude.{◌&&◌, if◌then◌else◌}
 use Rattle.runs.specs.Run.{Run, run_split}
-use Rattle.channel_laws.specs.WireEvent.{Idle}
-use Rattle.disk_model.specs.DiskEvent.{DiskEvent, Off, OnWire, Switches}
-use Rattle.disk_model.specs.LaneState.{LaneState}
+use Rattle.lane_models.specs.WireEvent.{Idle}
+use Rattle.lane_models.specs.DiskEvent.{DiskEvent, Off, OnWire, Switches}
+use Rattle.lane_models.specs.LaneState.{LaneState}
 use Rattle.lane_kinds.specs.Lanes.{turn_entries}
 use Rattle.world_laws.specs.DiskKind.{disk_kind, is_calm, waits_on}
 use Rattle.world_laws.specs.Moves.{IsLeftOver, MovedIn}

@@ -11,14 +11,14 @@ use Rattle.vio_tag.specs.declared.message.Message.{Message}
 use Rattle.vio_tag.specs.declared.message.MsgBody.{MsgBody}
 use Rattle.vio_tag.specs.declared.message.TagFault.{TagFault}
 use Rattle.lane_laws.specs.Rules.{Faults, Goes, GoesOpen, HandshakeTake, handshake_take, sid_fault}
-use Rattle.channel_laws.specs.WireEvent.{Blocked, Giver, Idle, Joined, Poked, Sent, Took, WireEvent}
-use Rattle.disk_model.specs.ClientRule.{client_rule}
-use Rattle.disk_model.specs.ClientState.{ClientSession, ClientState}
-use Rattle.disk_model.specs.ClientTaking as taking
-use Rattle.disk_model.specs.DiskEvent.{Accepted, Admitted, Asks, Calm, DiskEvent, Full, Off, OnWire, Refused, Calms, Started, Stopped, Switched, Switches, Worked, Works}
-use Rattle.disk_model.specs.LaneState.{LaneState}
-use Rattle.disk_model.specs.LaneStep.{EndOnWire, LaneStep, ResetBy, CalmStep, SwitchedStep, WireStep, WorkStep}
-use Rattle.channel_laws.specs.Seeing.{seen}
+use Rattle.lane_models.specs.WireEvent.{Blocked, Giver, Idle, Joined, Poked, Sent, Took, WireEvent}
+use Rattle.lane_models.specs.ClientRule.{client_rule}
+use Rattle.lane_models.specs.ClientState.{ClientSession, ClientState}
+use Rattle.lane_models.specs.ClientTaking as taking
+use Rattle.lane_models.specs.DiskEvent.{Accepted, Admitted, Asks, Calm, DiskEvent, Full, Off, OnWire, Refused, Calms, Started, Stopped, Switched, Switches, Worked, Works}
+use Rattle.lane_models.specs.LaneState.{LaneState}
+use Rattle.lane_models.specs.LaneStep.{EndOnWire, LaneStep, ResetBy, CalmStep, SwitchedStep, WireStep, WorkStep}
+use Rattle.lane_models.specs.Seeing.{seen}
 use Rattle.lane_laws.proofs.Requesting.{held_kept, sent_kept}
 use Rattle.lane_laws.proofs.RingPages.{same_pages}
 use Rattle.lane_laws.proofs.Ruling.{client_may}

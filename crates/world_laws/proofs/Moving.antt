@@ -1,10 +1,10 @@
 -- Each lane is run by what the part of a settle, or a front of it, says happened to it: a step that leaves no entry left the lane as it was.
 use Rattle.std.proofs.Common.{◌≡◌, ℕ, ◌+◌, List, [], ◌∷◌, ◌++◌}
 use Rattle.runs.specs.Run.{Run, run_append}
-use Rattle.disk_model.specs.LaneState.{LaneState, fresh}
-use Rattle.disk_model.specs.DiskEvent.{DiskEvent}
-use Rattle.disk_model.specs.LaneStep.{LaneStep}
-use Rattle.disk_model.specs.Reached.{IsReached}
+use Rattle.lane_models.specs.LaneState.{LaneState, fresh}
+use Rattle.lane_models.specs.DiskEvent.{DiskEvent}
+use Rattle.lane_models.specs.LaneStep.{LaneStep}
+use Rattle.lane_models.specs.Reached.{IsReached}
 use Rattle.lane_kinds.proofs.LaneFronts.{fronts_lead}
 use Rattle.lane_kinds.proofs.Leading.{front_leads, part_leads}
 use Rattle.lane_kinds.proofs.Moving as kind

@@ -8,17 +8,17 @@ use Rattle.vdisk_msg.specs.declared.request.Request.{Request}
 use Rattle.vdisk_msg.specs.declared.request.Request.TheVariants.{Flush, Read, Write}
 use Rattle.vdisk_msg.specs.Requested.{block_of, size_of}
 use Rattle.vdisk_msg.specs.Requests.{operation_of}
-use Rattle.disk_model.specs.DiskEvent.{DiskEvent}
-use Rattle.disk_model.specs.LaneState.{IsShape, LaneState, Shape, fresh}
-use Rattle.disk_model.specs.LaneStep.{LaneStep}
-use Rattle.disk_model.specs.ServerState.{Work}
-use Rattle.disk_model.specs.ServerWork.{desc_of}
+use Rattle.lane_models.specs.DiskEvent.{DiskEvent}
+use Rattle.lane_models.specs.LaneState.{IsShape, LaneState, Shape, fresh}
+use Rattle.lane_models.specs.LaneStep.{LaneStep}
+use Rattle.lane_models.specs.ServerState.{Work}
+use Rattle.lane_models.specs.ServerWork.{desc_of}
 use Rattle.lane_laws.specs.DiskLog.{DiskLog, after, nothing_yet}
 use Rattle.ldc_queue.specs.declared.end.ChannelState.TheVariants.{Up}
 use Rattle.ldc_queue.specs.declared.end.End.TheVariants.{B}
-use Rattle.channel_laws.specs.Seeing.{seen}
-use Rattle.disk_model.specs.ServerRule as server_rules
-use Rattle.channel_laws.specs.WireLog.{WireLog}
+use Rattle.lane_models.specs.Seeing.{seen}
+use Rattle.lane_models.specs.ServerRule as server_rules
+use Rattle.lane_models.specs.WireLog.{WireLog}
 use Rattle.lane_laws.proofs.Ruling.{server_may}
 use Rattle.lane_laws.proofs.StandingSteps.{wired_keeps}
 use Rattle.lane_laws.proofs.RingClientSteps.{got_at}

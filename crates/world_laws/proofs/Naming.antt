@@ -1,7 +1,7 @@
 -- Where the rounds of a settle ran out some lane is named: one that wasn't quiet in the last of them, or one that had its tick after it.
 use Rattle.std.proofs.Common.{◌≤◌, List, length}
-use Rattle.disk_model.specs.LaneState.{LaneState}
-use Rattle.disk_model.specs.Reached.{IsReached}
+use Rattle.lane_models.specs.LaneState.{LaneState}
+use Rattle.lane_models.specs.Reached.{IsReached}
 use Rattle.lane_kinds.proofs.LaneCounts.{lanes_name}
 use Rattle.lane_kinds.proofs.Naming as kind
 use Rattle.world_laws.proofs.Behind.{Stands, begins, keeps}

@@ -8,16 +8,16 @@ use Rattle.ldc_queue.specs.declared.end.End.TheVariants.{A, B}
 use Rattle.vio_tag.specs.declared.cause.Cause.{Cause}
 use Rattle.vdisk_msg.specs.declared.request.Request.{Request}
 use Rattle.vdisk_msg.specs.Requests.{AreSound, after_request, defect, operation_of}
-use Rattle.channel_laws.specs.WireEvent.{Blocked, ByStep, Declines, Idle, Injected, Joined, Lost, Poked, Reset, Sent, Took, WireEvent, giver}
+use Rattle.lane_models.specs.WireEvent.{Blocked, ByStep, Declines, Idle, Injected, Joined, Lost, Poked, Reset, Sent, Took, WireEvent, giver}
 use Rattle.disk_law.specs.ListState.{ImageState}
 use Rattle.lane_laws.specs.DiskLog.{after, nothing_yet}
-use Rattle.disk_model.specs.ClientState.{ClientState}
-use Rattle.disk_model.specs.DiskEvent.{Desc, DiskEvent, Done, Finished, Moved, OnWire, Published, Stored, Works}
-use Rattle.disk_model.specs.LaneState.{LaneState, NearCounts, Shape}
-use Rattle.disk_model.specs.LaneStep.{EndOnWire, LaneStep, WireStep, near_on_wire}
-use Rattle.disk_model.specs.Served.{Served}
-use Rattle.disk_model.specs.Served as served
-use Rattle.disk_model.specs.ServerState.{ServerState, Work}
+use Rattle.lane_models.specs.ClientState.{ClientState}
+use Rattle.lane_models.specs.DiskEvent.{Desc, DiskEvent, Done, Finished, Moved, OnWire, Published, Stored, Works}
+use Rattle.lane_models.specs.LaneState.{LaneState, NearCounts, Shape}
+use Rattle.lane_models.specs.LaneStep.{EndOnWire, LaneStep, WireStep, near_on_wire}
+use Rattle.lane_models.specs.Served.{Served}
+use Rattle.lane_models.specs.Served as served
+use Rattle.lane_models.specs.ServerState.{ServerState, Work}
 use Rattle.lane_laws.proofs.Completions.{run_shows}
 use Rattle.lane_laws.proofs.NearRuns.{run_near}
 use Rattle.lane_laws.proofs.RegionRuns.{run_around, run_served}

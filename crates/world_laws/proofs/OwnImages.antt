@@ -5,9 +5,9 @@ use Rattle.std.proofs.lemmas.Bool.{eq-eqb, eqb-false, eqb-true}
 use Rattle.std.specs.Prelude.{◌==◌, if◌then◌else◌}
 use Rattle.runs.specs.Run.{Run, run_push}
 use Rattle.disk_law.specs.ListState.{ImageState}
-use Rattle.disk_model.specs.DiskEvent.{DiskEvent}
-use Rattle.disk_model.specs.LaneState.{IsShape, LaneState, Shape, fresh}
-use Rattle.disk_model.specs.LaneStep.{LaneStep}
+use Rattle.lane_models.specs.DiskEvent.{DiskEvent}
+use Rattle.lane_models.specs.LaneState.{IsShape, LaneState, Shape, fresh}
+use Rattle.lane_models.specs.LaneStep.{LaneStep}
 use Rattle.lane_laws.specs.Headline.{Imaged, ImagedStep, fresh_image}
 use Rattle.lane_laws.specs.ImageStep.{ImageStep, region_of}
 use Rattle.lane_laws.proofs.FailedRuns.{failed_before}

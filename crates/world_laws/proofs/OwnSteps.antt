@@ -2,9 +2,9 @@
 use Rattle.std.proofs.Common.{◌≡◌, ℕ, Bool, true, false, List, [], ◌∷◌, ◌++◌, refl, sym, subst, arith}
 use Rattle.ldc_queue.specs.declared.end.End.{End}
 use Rattle.ldc_queue.specs.declared.end.End.TheVariants.{A, B}
-use Rattle.disk_model.specs.DiskEvent.{DiskEvent}
-use Rattle.disk_model.specs.LaneState.{LaneState}
-use Rattle.disk_model.specs.Reached.{IsReached}
+use Rattle.lane_models.specs.DiskEvent.{DiskEvent}
+use Rattle.lane_models.specs.LaneState.{LaneState}
+use Rattle.lane_models.specs.Reached.{IsReached}
 use Rattle.lane_laws.specs.CalmEnds.{IsStep}
 use Rattle.lane_kinds.proofs.EntriesEach.{entry_has}
 use Rattle.lane_kinds.proofs.LaneFronts.{of_both}

@@ -4,7 +4,7 @@ use Rattle.std.proofs.lemmas.Option.{slice_get_within}
 use Rattle.runs.specs.Run.{Run}
 use Rattle.disk_law.specs.Issued.{completed, issued, pending_count}
 use Rattle.disk_law.specs.ListState.{ImageState}
-use Rattle.disk_model.specs.LaneState.{LaneState, Shape}
+use Rattle.lane_models.specs.LaneState.{LaneState, Shape}
 use Rattle.lane_kinds.proofs.Places.{get_within}
 use Rattle.vdisk_msg.specs.declared.request.Request.{Request}
 use Rattle.world_laws.proofs.Along.{lanes_run, shape_at}

@@ -4,10 +4,10 @@ use Rattle.std.proofs.lemmas.Bool.Decides.{nat_tests}
 use Rattle.vdisk_msg.specs.declared.request.Request.{Request}
 use Rattle.vdisk_msg.specs.Fills.{IsRequest}
 use Rattle.vdisk_msg.specs.Requests.{AreSound, Defect, defect}
-use Rattle.disk_model.specs.ClientState.{ClientState}
-use Rattle.disk_model.specs.DiskEvent.{Accepted, Asks, DiskEvent, Full, Refused}
-use Rattle.disk_model.specs.LaneState.{LaneState, Shape}
-use Rattle.disk_model.specs.LaneStep.{LaneStep}
+use Rattle.lane_models.specs.ClientState.{ClientState}
+use Rattle.lane_models.specs.DiskEvent.{Accepted, Asks, DiskEvent, Full, Refused}
+use Rattle.lane_models.specs.LaneState.{LaneState, Shape}
+use Rattle.lane_models.specs.LaneStep.{LaneStep}
 use Rattle.lane_laws.proofs.NearRuns.{run_near}
 use Rattle.lane_laws.specs.ImageStep.{region_of}
 use Rattle.lane_laws.specs.CalmEnds.{StepKeeps}

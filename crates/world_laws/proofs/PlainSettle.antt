@@ -3,9 +3,9 @@ use Rattle.std.proofs.Common.{◌≡◌, ℕ, ◌≤◌, Bool, true, false, Some
 use Rattle.std.specs.Prelude.{◌&&◌, is_some}
 use Rattle.runs.specs.Run.{Run}
 use Rattle.vdisk_msg.specs.declared.request.Request.{Request}
-use Rattle.disk_model.specs.ClientState.{is_finished, is_nothing}
-use Rattle.disk_model.specs.DiskEvent.{DiskEvent}
-use Rattle.disk_model.specs.LaneState.{LaneState, Shape}
+use Rattle.lane_models.specs.ClientState.{is_finished, is_nothing}
+use Rattle.lane_models.specs.DiskEvent.{DiskEvent}
+use Rattle.lane_models.specs.LaneState.{LaneState, Shape}
 use Rattle.world_laws.proofs.Falling.{ends_settled}
 use Rattle.world_laws.proofs.SettledLanes.{settled_lanes}
 use Rattle.world_laws.specs.Ended.{LanesEnd}

@@ -2,7 +2,7 @@
 use Rattle.std.proofs.Common.{ℕ, ◌+◌, ◌*◌, ◌≤◌, List, [], ◌∷◌, length, ap, ◌∙◌, arith}
 use Rattle.vdisk_msg.specs.declared.request.Request.{Request}
 use Rattle.disk_law.specs.ListState.{ImageState}
-use Rattle.disk_model.specs.LaneState.{Shape, fresh}
+use Rattle.lane_models.specs.LaneState.{Shape, fresh}
 use Rattle.lane_laws.proofs.NearRuns.{fresh_is_near}
 use Rattle.world_laws.specs.World.{WorldState, fresh_world}
 use Rattle.world_laws.proofs.PlainSettle.{RestsAt}

@@ -8,7 +8,7 @@ use Rattle.vio_bytes.proofs.Putting.{drop-put_at}
 use Rattle.vio_bytes.proofs.Ranges.{length-range_at, range_at-put_at_part, range_at-range_at}
 use Rattle.vio_bytes.specs.Place.{put_at}
 use Rattle.vio_bytes.specs.Range.{range_at}
-use Rattle.disk_model.specs.LaneState.{IsShape, Shape}
+use Rattle.lane_models.specs.LaneState.{IsShape, Shape}
 use Rattle.lane_laws.proofs.BlockWrites.{admitted_blocks}
 use Rattle.lane_laws.specs.Blocks.{block_at}
 use Rattle.lane_laws.specs.ImageStep.{region_of}

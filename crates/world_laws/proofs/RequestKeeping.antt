@@ -3,12 +3,12 @@ use Rattle.std.proofs.Common.{◌≡◌, ℕ, List, Option, refl, ap, ◌∙◌,
 use Rattle.std.specs.Prelude.{⊤}
 use Rattle.ldc_queue.specs.declared.end.End.{End}
 use Rattle.ldc_queue.specs.declared.end.End.TheVariants.{A, B}
-use Rattle.channel_laws.specs.WireEvent.{Giver, Injected, Poked, Reset, WireEvent}
-use Rattle.channel_laws.specs.WireLog.{wire_moved}
+use Rattle.lane_models.specs.WireEvent.{Giver, Injected, Poked, Reset, WireEvent}
+use Rattle.lane_models.specs.WireLog.{wire_moved}
 use Rattle.vio_tag.specs.declared.cause.Cause.{Cause}
-use Rattle.disk_model.specs.DiskEvent.{DiskEvent, OnWire, Calms, Stopped, Switches, Worked, Works, Calm}
-use Rattle.disk_model.specs.LaneState.{LaneState}
-use Rattle.disk_model.specs.LaneStep.{EndOnWire, LaneStep, ResetBy}
+use Rattle.lane_models.specs.DiskEvent.{DiskEvent, OnWire, Calms, Stopped, Switches, Worked, Works, Calm}
+use Rattle.lane_models.specs.LaneState.{LaneState}
+use Rattle.lane_models.specs.LaneStep.{EndOnWire, LaneStep, ResetBy}
 use Rattle.world_laws.specs.Sums.{IsUnforged}
 use Rattle.world_laws.specs.Running.{IsRunning}
 

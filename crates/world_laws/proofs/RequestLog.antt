@@ -7,10 +7,10 @@ use Rattle.disk_law.specs.Issued.{completed, issued}
 use Rattle.disk_law.specs.ListStep as plain
 use Rattle.lane_laws.specs.DiskLog.{DiskLog, after, nothing_yet}
 use Rattle.lane_laws.specs.WorkLog.{WorkLog, after_work}
-use Rattle.disk_model.specs.DiskEvent.{DiskEvent}
-use Rattle.disk_model.specs.LaneState.{IsShape, LaneState, Shape, fresh}
-use Rattle.disk_model.specs.LaneStep.{LaneStep}
-use Rattle.channel_laws.specs.TranscriptLog.{TranscriptLog}
+use Rattle.lane_models.specs.DiskEvent.{DiskEvent}
+use Rattle.lane_models.specs.LaneState.{IsShape, LaneState, Shape, fresh}
+use Rattle.lane_models.specs.LaneStep.{LaneStep}
+use Rattle.lane_models.specs.TranscriptLog.{TranscriptLog}
 use Rattle.lane_laws.proofs.AgreementRuns.{run_agrees}
 use Rattle.vdisk_msg.specs.declared.request.Request.{Request}
 use Rattle.world_laws.proofs.Filtered.{one_more}

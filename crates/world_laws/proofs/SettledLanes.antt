@@ -1,8 +1,8 @@
 -- What stands of each lane where a settle ends settled, by the part that it gave.
 use Rattle.std.proofs.Common.{◌≡◌, ℕ, ◌≤◌, ◌⊎◌, inl, inr, Bool, true, List, arith}
-use Rattle.disk_model.specs.ClientState.{is_finished}
-use Rattle.disk_model.specs.LaneState.{LaneState}
-use Rattle.disk_model.specs.Reached.{IsReached}
+use Rattle.lane_models.specs.ClientState.{is_finished}
+use Rattle.lane_models.specs.LaneState.{LaneState}
+use Rattle.lane_models.specs.Reached.{IsReached}
 use Rattle.world_laws.proofs.Behind.{ends_finished}
 use Rattle.lane_kinds.proofs.Ticked.{AreTicks, each_ticked}
 use Rattle.lane_kinds.specs.LaneCounts.{mark_at}

@@ -1,7 +1,7 @@
 -- The disks of a world stand apart from each other, and all of them before the image's end.
 use Rattle.std.proofs.Common.{◌≡◌, ◌⊎◌, ℕ, suc, ◌+◌, ◌*◌, ◌≤◌, Some, List, ◌∷◌, length, slice_get, ap, arith}
 use Rattle.disk_law.specs.ListState.{ImageState}
-use Rattle.disk_model.specs.LaneState.{IsShape, Shape}
+use Rattle.lane_models.specs.LaneState.{IsShape, Shape}
 use Rattle.world_laws.specs.World.{AreShapes, IsWorld, blocks_in}
 
 -- ONE OF THEM, counted from this block on

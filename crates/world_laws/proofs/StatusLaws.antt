@@ -9,9 +9,9 @@ use Rattle.lane_laws.specs.DiskLog.{DiskLog, after, nothing_yet}
 use Rattle.lane_laws.specs.RequestLaws.{carried_count}
 use Rattle.lane_laws.specs.RequestLaws as request_laws
 use Rattle.lane_laws.specs.RingLog.{Done as IsDone}
-use Rattle.disk_model.specs.DiskEvent.{DiskEvent, Done, Finished, Worked, Works}
-use Rattle.disk_model.specs.LaneState.{IsShape, LaneState, Shape, fresh}
-use Rattle.disk_model.specs.LaneStep.{LaneStep}
+use Rattle.lane_models.specs.DiskEvent.{DiskEvent, Done, Finished, Worked, Works}
+use Rattle.lane_models.specs.LaneState.{IsShape, LaneState, Shape, fresh}
+use Rattle.lane_models.specs.LaneStep.{LaneStep}
 use Rattle.lane_laws.proofs.RingRuns.{before}
 use Rattle.world_laws.proofs.LawFacts.{Facts, FreesSlot, log_clean, run_facts, step_facts}
 use Rattle.world_laws.proofs.Telling.{LogTells, ends_tells, event_tells, got_tells, nothing_tells}

@@ -3,7 +3,7 @@
 use Rattle.std.proofs.Common.{ℕ, ◌≤◌, List, length}
 use Rattle.runs.specs.Run.{Run}
 use Rattle.ldc_queue.specs.declared.end.End.{End}
-use Rattle.disk_model.specs.LaneState.{LaneState}
+use Rattle.lane_models.specs.LaneState.{LaneState}
 use Rattle.lane_kinds.proofs.Counting as kind
 use Rattle.lane_kinds.proofs.LaneCounts.{lanes_move, lanes_unstick}
 use Rattle.lane_kinds.proofs.LaneFronts.{fronts_unstick}

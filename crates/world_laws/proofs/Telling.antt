@@ -10,14 +10,14 @@ use Rattle.vdisk_msg.specs.declared.request.Request.{Request}
 use Rattle.vdisk_msg.specs.Descriptor as slot_says
 use Rattle.vdisk_msg.specs.Pieces.{Finishes, Moves, Piece, Stores, operation_pieces, pieces, read_pieces, unit_count, write_pieces}
 use Rattle.vdisk_msg.specs.Requests.{defect}
-use Rattle.channel_laws.specs.WireEvent.{WireEvent}
+use Rattle.lane_models.specs.WireEvent.{WireEvent}
 use Rattle.lane_laws.specs.DiskLog.{DiskLog, after, nothing_yet}
 use Rattle.lane_laws.specs.RequestLaws.{Admits}
 use Rattle.lane_laws.specs.RingLog.{Accepted as IsAccepted, Done as IsDone, Free, Ready, SlotLog, Zeros, fetched_at, finished_at, freed_at, published_at}
 use Rattle.lane_laws.specs.WorkLaws.{FetchesRequest, FinishesPiece, InClient, InServer, Unforged}
 use Rattle.lane_laws.specs.WorkLog.{ClientCounts, ServerCounts, WorkLog, change_server, moved_rest, rest_of, stored_rest}
-use Rattle.disk_model.specs.DiskEvent.{Admitted, Asks, Desc, DiskEvent, Done, Finished, Misplaced, Moved, Off, OnWire, Published, Started, Stopped, Stored, Switched, Switches, Worked, Works}
-use Rattle.disk_model.specs.LaneState.{Shape}
+use Rattle.lane_models.specs.DiskEvent.{Admitted, Asks, Desc, DiskEvent, Done, Finished, Misplaced, Moved, Off, OnWire, Published, Started, Stopped, Stored, Switched, Switches, Worked, Works}
+use Rattle.lane_models.specs.LaneState.{Shape}
 use Rattle.world_laws.proofs.LawFacts.{Facts}
 use Rattle.world_laws.specs.Statuses.{TellsStore}
 

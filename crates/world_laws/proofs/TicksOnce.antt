@@ -1,6 +1,6 @@
 -- In one settle each lane gets one tick at most.
 use Rattle.std.proofs.Common.{◌≡◌, ℕ, ◌≤◌, List}
-use Rattle.disk_model.specs.LaneState.{LaneState}
+use Rattle.lane_models.specs.LaneState.{LaneState}
 use Rattle.lane_kinds.proofs.Counting.{part_counted, settles_counted}
 use Rattle.lane_kinds.proofs.LaneCounts.{lanes_tick}
 use Rattle.lane_kinds.specs.LaneCounts.{mark_at}

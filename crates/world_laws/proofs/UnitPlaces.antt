@@ -11,13 +11,13 @@ use Rattle.vio_bytes.proofs.Putting.{drop-put_at, length-put_at, take-put_at}
 use Rattle.vio_bytes.specs.Place.{put_at}
 use Rattle.vio_io.specs.Stores.{KeepsOutside}
 use Rattle.lane_laws.specs.DiskLog.{DiskLog}
-use Rattle.disk_model.specs.DiskEvent.{Stored}
-use Rattle.disk_model.specs.LaneState.{LaneState}
-use Rattle.disk_model.specs.LaneStep.{ServerWorks}
-use Rattle.disk_model.specs.Served.{StoreDoes, StoreDoesIn, StoreWrites, place_in}
-use Rattle.disk_model.specs.ServerState.{Ends, Flushes, Gathers, Gives, Progress, Reads, ServerState, Work, Writes}
-use Rattle.disk_model.specs.ServerStep.{ServerStores}
-use Rattle.disk_model.specs.ServerWork.{StoresIn, desc_of, unit_length}
+use Rattle.lane_models.specs.DiskEvent.{Stored}
+use Rattle.lane_models.specs.LaneState.{LaneState}
+use Rattle.lane_models.specs.LaneStep.{ServerWorks}
+use Rattle.lane_models.specs.Served.{StoreDoes, StoreDoesIn, StoreWrites, place_in}
+use Rattle.lane_models.specs.ServerState.{Ends, Flushes, Gathers, Gives, Progress, Reads, ServerState, Work, Writes}
+use Rattle.lane_models.specs.ServerStep.{ServerStores}
+use Rattle.lane_models.specs.ServerWork.{StoresIn, desc_of, unit_length}
 use Rattle.lane_laws.proofs.RulesFree.{ServerFree, server_free}
 use Rattle.lane_laws.specs.Counted.{UnitFits, UnitIn}
 use Rattle.lane_laws.proofs.WorkNumbers.{at_server}

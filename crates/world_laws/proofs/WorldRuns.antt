@@ -4,9 +4,9 @@ use Rattle.std.proofs.lemmas.List.{append-nil, append_assoc}
 use Rattle.std.proofs.lemmas.Option.{slice_get_within}
 use Rattle.runs.specs.Run.{Run, run_push}
 use Rattle.disk_law.specs.ListState.{ImageState}
-use Rattle.disk_model.specs.DiskEvent.{DiskEvent}
-use Rattle.disk_model.specs.LaneState.{IsShape, Shape, fresh}
-use Rattle.disk_model.specs.LaneStep.{LaneStep}
+use Rattle.lane_models.specs.DiskEvent.{DiskEvent}
+use Rattle.lane_models.specs.LaneState.{IsShape, Shape, fresh}
+use Rattle.lane_models.specs.LaneStep.{LaneStep}
 use Rattle.world_laws.specs.Along.{happened}
 use Rattle.world_laws.specs.Settle.{SettleEntry}
 use Rattle.world_laws.proofs.Along.{lanes_run}

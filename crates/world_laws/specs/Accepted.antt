@@ -1,7 +1,7 @@
 -- How many requests a journal says were accepted, and what the lanes of a world count.
 use Rattle.std.specs.Prelude.{ℕ, ◌+◌, List, [], ◌∷◌}
-use Rattle.disk_model.specs.DiskEvent.{Accepted, Asks, DiskEvent}
-use Rattle.disk_model.specs.LaneState.{LaneState}
+use Rattle.lane_models.specs.DiskEvent.{Accepted, Asks, DiskEvent}
+use Rattle.lane_models.specs.LaneState.{LaneState}
 use Rattle.world_laws.specs.Settle.{OfLane, SettleEntry}
 
 abbrev pub accepts : DiskEvent → ℕ

@@ -1,9 +1,9 @@
 -- What a part of a journal says happened to each lane.
 use Rattle.std.specs.Prelude.{ℕ, ◌==◌, if◌then◌else◌, List, [], ◌∷◌}
 use Rattle.lane_kinds.specs.Lanes as lanes
-use Rattle.disk_model.specs.DiskEvent.{DiskEvent}
-use Rattle.disk_model.specs.LaneState.{LaneState}
-use Rattle.disk_model.specs.LaneStep.{LaneStep}
+use Rattle.lane_models.specs.DiskEvent.{DiskEvent}
+use Rattle.lane_models.specs.LaneState.{LaneState}
+use Rattle.lane_models.specs.LaneStep.{LaneStep}
 use Rattle.world_laws.specs.Settle.{OfLane, SettleEntry}
 
 abbrev pub event_at : ℕ → SettleEntry → List DiskEvent

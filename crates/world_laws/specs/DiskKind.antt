@@ -4,11 +4,11 @@ use Rattle.lane_kinds.specs.Lanes.{LaneKind}
 use Rattle.ldc_queue.specs.declared.end.End.{End}
 use Rattle.ldc_queue.specs.declared.end.End.TheVariants.{A, B}
 use Rattle.vio_tag.specs.declared.cause.Cause.TheVariants as the_cause
-use Rattle.channel_laws.specs.WireEvent.{Blocked, Idle, Reset}
-use Rattle.disk_model.specs.ClientState.{is_finished}
-use Rattle.disk_model.specs.DiskEvent.{DiskEvent, Off, OnWire, Switches}
-use Rattle.disk_model.specs.LaneState.{LaneState}
-use Rattle.disk_model.specs.LaneStep.{LaneStep}
+use Rattle.lane_models.specs.WireEvent.{Blocked, Idle, Reset}
+use Rattle.lane_models.specs.ClientState.{is_finished}
+use Rattle.lane_models.specs.DiskEvent.{DiskEvent, Off, OnWire, Switches}
+use Rattle.lane_models.specs.LaneState.{LaneState}
+use Rattle.lane_models.specs.LaneStep.{LaneStep}
 use Rattle.lane_laws.specs.CalmEnds.{IsStep}
 
 -- A LANE'S TURN in a round: a step of its client, and then one of its server

@@ -1,7 +1,7 @@
 -- Which events tell of a call of the store, that it failed, or flushed or wrote it; and which that a request failed for it.
 use Rattle.std.specs.Prelude.{◌≡◌, ℕ, ◌==◌, Bool, true, false}
-use Rattle.disk_model.specs.DiskEvent.{DiskEvent, Done, Stored, Works}
-use Rattle.disk_model.specs.LaneState.{LaneState}
+use Rattle.lane_models.specs.DiskEvent.{DiskEvent, Done, Stored, Works}
+use Rattle.lane_models.specs.LaneState.{LaneState}
 use Rattle.world_laws.specs.Settle.{OfLane, SettleEntry}
 
 -- a call of the store of whose operation this says so, and whether it failed

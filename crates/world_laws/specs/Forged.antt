@@ -1,7 +1,7 @@
 -- Who forges a lane: events that put a packet which no end put, or write bytes into a memory that its end never wrote.
 use Rattle.std.specs.Prelude.{◌≡◌, ℕ, Bool, true, false, List, [], ◌∷◌, ⊤}
-use Rattle.channel_laws.specs.WireEvent.{Injected, Poked}
-use Rattle.disk_model.specs.DiskEvent.{DiskEvent, OnWire}
+use Rattle.lane_models.specs.WireEvent.{Injected, Poked}
+use Rattle.lane_models.specs.DiskEvent.{DiskEvent, OnWire}
 use Rattle.world_laws.specs.Along.{happened}
 use Rattle.world_laws.specs.Settle.{SettleEntry}
 

@@ -1,7 +1,7 @@
 -- The ids that clients gave to requests: an event gives one where it accepts a request.
 use Rattle.std.specs.Prelude.{ℕ, ◌+◌, List, [], ◌∷◌}
-use Rattle.disk_model.specs.DiskEvent.{Accepted, Asks, DiskEvent}
-use Rattle.disk_model.specs.LaneState.{LaneState}
+use Rattle.lane_models.specs.DiskEvent.{Accepted, Asks, DiskEvent}
+use Rattle.lane_models.specs.LaneState.{LaneState}
 
 -- the client's next id after an event
 abbrev pub next_behind : DiskEvent → ℕ → ℕ

@@ -23,7 +23,7 @@ pub mod Plain
 pub mod Quiet
 pub mod Words
 pub mod Issued
-pub use Rattle.channel_laws.specs.WireEvent
-pub use Rattle.disk_model.specs.DiskEvent
-pub use Rattle.disk_model.specs.LaneState
+pub use Rattle.lane_models.specs.WireEvent
+pub use Rattle.lane_models.specs.DiskEvent
+pub use Rattle.lane_models.specs.LaneState
 pub use Rattle.lane_laws.specs.CalmEnds

@@ -4,9 +4,9 @@ use Rattle.std.specs.Prelude.{◌≡◌, ◌⊎◌, ℕ, ◌+◌, Bool, true, fa
 use Rattle.ldc_queue.specs.declared.end.End.{End}
 use Rattle.ldc_queue.specs.declared.end.End.TheVariants.{A, B}
 use Rattle.vio_tag.specs.declared.cause.Cause.TheVariants as the_cause
-use Rattle.channel_laws.specs.WireEvent.{Blocked, Reset}
-use Rattle.disk_model.specs.DiskEvent.{DiskEvent, OnWire}
-use Rattle.disk_model.specs.LaneState.{LaneState}
+use Rattle.lane_models.specs.WireEvent.{Blocked, Reset}
+use Rattle.lane_models.specs.DiskEvent.{DiskEvent, OnWire}
+use Rattle.lane_models.specs.LaneState.{LaneState}
 use Rattle.lane_kinds.specs.Stuck as ends
 use Rattle.lane_kinds.specs.Stuck.{sum_over}
 use Rattle.world_laws.specs.DiskKind.{is_calm, waits_on}

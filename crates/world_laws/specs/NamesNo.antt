@@ -2,8 +2,8 @@
 use Rattle.std.specs.Prelude.{◌≡◌, ◌⊎◌, ℕ, ◌+◌, ◌*◌, ◌<◌, ◌≤◌, List, [], ◌∷◌, Some, slice_get, ⊤}
 use Rattle.vdisk_msg.specs.declared.request.Request.{Request}
 use Rattle.vdisk_msg.specs.declared.request.Request.TheVariants.{Read, Write, Flush}
-use Rattle.disk_model.specs.DiskEvent.{Accepted, Asks, DiskEvent}
-use Rattle.disk_model.specs.LaneState.{Shape}
+use Rattle.lane_models.specs.DiskEvent.{Accepted, Asks, DiskEvent}
+use Rattle.lane_models.specs.LaneState.{Shape}
 use Rattle.world_laws.specs.Along.{happened}
 use Rattle.world_laws.specs.Forged.{NobodyForges}
 use Rattle.world_laws.specs.Settle.{SettleEntry}

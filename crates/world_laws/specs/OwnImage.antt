@@ -1,8 +1,8 @@
 -- A disk of a world with an image of its own, which is its region of the world's image.
 use Rattle.std.specs.Prelude.{◌≡◌, ℕ, List, Option, Some}
 use Rattle.runs.specs.Run.{Run}
-use Rattle.disk_model.specs.DiskEvent.{DiskEvent}
-use Rattle.disk_model.specs.LaneState.{LaneState, Shape}
+use Rattle.lane_models.specs.DiskEvent.{DiskEvent}
+use Rattle.lane_models.specs.LaneState.{LaneState, Shape}
 use Rattle.lane_laws.specs.Headline.{ImagedStep, fresh_image}
 use Rattle.lane_laws.specs.ImageStep.{region_of}
 

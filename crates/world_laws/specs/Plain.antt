@@ -3,8 +3,8 @@ use Rattle.std.specs.Prelude.{ℕ, ◌+◌, ◌*◌, Bool, true, false, nat_le, 
 use Rattle.vdisk_msg.specs.declared.request.Request.{Request}
 use Rattle.vdisk_msg.specs.declared.request.Request.TheVariants.{Flush, Read, Write}
 use Rattle.vdisk_msg.specs.Requests.{Defect, after_request, defect, operation_of}
-use Rattle.disk_model.specs.DiskEvent.{Asks, Done, Full, Refused, Works}
-use Rattle.disk_model.specs.LaneState.{Shape}
+use Rattle.lane_models.specs.DiskEvent.{Asks, Done, Full, Refused, Works}
+use Rattle.lane_models.specs.LaneState.{Shape}
 use Rattle.world_laws.specs.Settle.{OfLane, SettleEntry}
 
 pub record Plain : Type 0 where

@@ -1,7 +1,7 @@
 -- A world of one disk at the front of its image, and what it is beside a plain list of requests.
 use Rattle.std.specs.Prelude.{◌≡◌, ℕ, ◌+◌, ◌*◌, ◌≤◌, List, [], ◌∷◌, length, Some}
 use Rattle.disk_law.specs.ListState.{ImageState}
-use Rattle.disk_model.specs.LaneState.{IsShape, LaneState, Shape}
+use Rattle.lane_models.specs.LaneState.{IsShape, LaneState, Shape}
 use Rattle.world_laws.specs.World.{WorldState}
 use Rattle.world_laws.specs.Plain.{Plain}
 

@@ -1,8 +1,8 @@
 -- A round over the lanes of disks: each lane in order makes a step of its client and then one of its server.
 use Rattle.std.specs.Prelude.{Bool, List}
 use Rattle.lane_kinds.specs.Lanes as lanes
-use Rattle.disk_model.specs.DiskEvent.{DiskEvent}
-use Rattle.disk_model.specs.LaneState.{LaneState}
+use Rattle.lane_models.specs.DiskEvent.{DiskEvent}
+use Rattle.lane_models.specs.LaneState.{LaneState}
 use Rattle.world_laws.specs.DiskKind.{disk_kind}
 
 -- what came of the two steps of a lane in a round

@@ -5,8 +5,8 @@ use Rattle.lane_kinds.specs.Lanes.{Entries}
 use Rattle.lane_kinds.specs.Lanes as lanes
 use Rattle.lane_kinds.specs.Rounds.{Rounds}
 use Rattle.lane_kinds.specs.Settles as settle
-use Rattle.disk_model.specs.DiskEvent.{DiskEvent}
-use Rattle.disk_model.specs.LaneState.{LaneState}
+use Rattle.lane_models.specs.DiskEvent.{DiskEvent}
+use Rattle.lane_models.specs.LaneState.{LaneState}
 use Rattle.switch_laws.specs.Events.{SwitchEvent}
 use Rattle.world_laws.specs.DiskKind.{disk_kind, is_silent}
 use Rattle.world_laws.specs.Rounds.{LaneRound}
@@ -62,7 +62,7 @@ abbrev pub GoesOn : Settling → SettleRound → Settling → Type 0
 GoesOn = settle.GoesOn disks
 
 abbrev pub IsLast : Settling → List LaneRound → List LaneState → Type 0
-IsLast = settle.IsLast disks
+IsLast = settle.IsLastRound disks
 
 abbrev pub entries_of_rounds : List SettleRound → List SettleEntry
 entries_of_rounds rounds = settle.entries_of_rounds rounds

@@ -1,7 +1,7 @@
 -- What of a journal a short report shows.
 use Rattle.std.specs.Prelude.{Bool, true, false, List, [], ◌∷◌, ◌++◌}
-use Rattle.channel_laws.specs.WireEvent.{Reset}
-use Rattle.disk_model.specs.DiskEvent.{Asks, Done, Full, OnWire, Refused, Works}
+use Rattle.lane_models.specs.WireEvent.{Reset}
+use Rattle.lane_models.specs.DiskEvent.{Asks, Done, Full, OnWire, Refused, Works}
 use Rattle.world_laws.specs.Settle.{OfLane, SettleEntry}
 
 -- a request that doesn't wait, a completion, a reset of an end, and the answer of a settle

@@ -2,7 +2,7 @@
 use Rattle.std.specs.Prelude.{◌≡◌, ◌⊎◌, ℕ, false, List, Some, slice_get, ⊤}
 use Rattle.vdisk_msg.specs.declared.request.Request.{Request}
 use Rattle.disk_law.specs.ListStep.{Carries}
-use Rattle.disk_model.specs.DiskEvent.{DiskEvent, Done, Finished, Works}
+use Rattle.lane_models.specs.DiskEvent.{DiskEvent, Done, Finished, Works}
 use Rattle.lane_laws.specs.DiskLog.{DiskLog}
 use Rattle.lane_laws.specs.WorkLog.{WorkLog}
 

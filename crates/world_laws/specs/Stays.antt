@@ -1,6 +1,6 @@
 -- What stays of an image that is told, whatever disks are served from it: it is told still, and as long; and so are these bytes.
 use Rattle.std.specs.Prelude.{◌≡◌, ℕ, ◌*◌, List, drop, length, Option, Some, slice_index}
-use Rattle.disk_model.specs.LaneState.{Shape}
+use Rattle.lane_models.specs.LaneState.{Shape}
 use Rattle.lane_laws.specs.ImageStep.{SameAround}
 use Rattle.world_laws.specs.World.{blocks_in}
 

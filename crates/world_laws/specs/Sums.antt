@@ -1,7 +1,7 @@
 -- What remains to be done on all lanes together, and which lanes nobody forged.
 use Rattle.std.specs.Prelude.{◌≡◌, ℕ, false, List}
 use Rattle.lane_kinds.specs.Lanes.{sum_of}
-use Rattle.disk_model.specs.LaneState.{LaneState}
+use Rattle.lane_models.specs.LaneState.{LaneState}
 use Rattle.lane_laws.specs.Remaining.{remaining}
 
 abbrev pub IsUnforged : LaneState → Type 0

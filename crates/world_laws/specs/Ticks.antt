@@ -2,7 +2,7 @@
 -- tick in this settle gets one.
 use Rattle.std.specs.Prelude.{Bool, List}
 use Rattle.lane_kinds.specs.Lanes as lanes
-use Rattle.disk_model.specs.LaneState.{LaneState}
+use Rattle.lane_models.specs.LaneState.{LaneState}
 use Rattle.world_laws.specs.DiskKind.{disk_kind}
 
 -- whether it gets a tick, where this mark says whether it had one; the ticks of all; and which lanes had one after them

@@ -1,13 +1,10 @@
 -- What an event must be so that it can be told in words.
 use Rattle.std.specs.Prelude.{◌≡◌, ℕ, ◌%◌, ◌<◌, ◌≤◌, List, length, ⊤}
+use Rattle.vdisk_msg.specs.Requests.{IsOperation}
 use Rattle.vio_tag.specs.declared.cause.Cause.{Cause}
 use Rattle.vio_tag.specs.declared.cause.Cause.TheVariants as the_cause
-use Rattle.channel_laws.specs.WireEvent.{Joined, Reset}
-use Rattle.disk_model.specs.DiskEvent.{DiskEvent, Done, OnWire, Stored, Works}
-
--- an operation is a read, 1, a write, 2, or a flush, 3
-abbrev pub IsOperation : ℕ → Type 0
-IsOperation operation = (1 ≤ operation) × (operation ≤ 3)
+use Rattle.lane_models.specs.WireEvent.{Joined, Reset}
+use Rattle.lane_models.specs.DiskEvent.{DiskEvent, Done, OnWire, Stored, Works}
 
 -- at least one block, and whole ones
 abbrev pub AreBlocks : List ℕ → Type 0

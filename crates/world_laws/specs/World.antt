@@ -3,10 +3,10 @@ use Rattle.std.specs.Prelude.{◌≡◌, ℕ, ◌+◌, ◌*◌, ◌≤◌, ◌==
 use Rattle.runs.specs.Run.{Run}
 use Rattle.vio_io.specs.Causes.{FaultsAfter, next_count}
 use Rattle.disk_law.specs.ListState.{ImageState}
-use Rattle.disk_model.specs.DiskEvent.{DiskEvent, Stored, Works}
-use Rattle.disk_model.specs.LaneState.{IsShape, LaneState, Shape, fresh}
-use Rattle.disk_model.specs.LaneStep.{LaneStep}
-use Rattle.disk_model.specs.Served.{Served}
+use Rattle.lane_models.specs.DiskEvent.{DiskEvent, Stored, Works}
+use Rattle.lane_models.specs.LaneState.{IsShape, LaneState, Shape, fresh}
+use Rattle.lane_models.specs.LaneStep.{LaneStep}
+use Rattle.lane_models.specs.Served.{Served}
 use Rattle.world_laws.specs.Settle.{OfLane, SettleEntry}
 
 pub record WorldState : Type 0 where

@@ -1,8 +1,8 @@
 -- What holds along every run of a world.
 use Rattle.std.specs.Prelude.{◌≡◌, ℕ, List, length, Some, slice_get}
 use Rattle.runs.specs.Run.{Run}
-use Rattle.disk_model.specs.LaneState.{LaneState, Shape, fresh}
-use Rattle.disk_model.specs.LaneStep.{LaneStep}
+use Rattle.lane_models.specs.LaneState.{LaneState, Shape, fresh}
+use Rattle.lane_models.specs.LaneStep.{LaneStep}
 use Rattle.world_laws.specs.Along.{happened}
 use Rattle.world_laws.specs.Settle.{SettleEntry}
 use Rattle.world_laws.specs.World.{WorldState}

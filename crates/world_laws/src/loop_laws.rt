@@ -1,9 +1,9 @@
 // What each event keeps of a lane of a disk, and when it gives an id.
 
 ghost use Rattle.std.specs.Prelude.{◌≡◌, ℕ, ◌+◌, List, Some, slice_get, slice_set};
-ghost use Rattle.disk_model.specs.DiskEvent.{DiskEvent};
-ghost use Rattle.disk_model.specs.LaneState.{LaneState};
-ghost use Rattle.disk_model.specs.LaneStep.{LaneStep};
+ghost use Rattle.lane_models.specs.DiskEvent.{DiskEvent};
+ghost use Rattle.lane_models.specs.LaneState.{LaneState};
+ghost use Rattle.lane_models.specs.LaneStep.{LaneStep};
 ghost use Rattle.world_laws.specs.Issued.{issued_on, next_behind};
 
 /// An event gives the client's next id to a request that it accepts, and no other event gives one; and no event changes

@@ -3,7 +3,7 @@
 ghost use Rattle.std.specs.Prelude.{List};
 ghost use Rattle.runs.specs.Run.{Run};
 ghost use Rattle.disk_law.specs.ListState.{ImageState};
-ghost use Rattle.disk_model.specs.LaneState.{Shape};
+ghost use Rattle.lane_models.specs.LaneState.{Shape};
 ghost use Rattle.world_laws.specs.Settle.{SettleEntry};
 ghost use Rattle.world_laws.specs.WorldAlong.{LanesRun};
 ghost use Rattle.world_laws.specs.World.{WorldState, WorldStep, fresh_world};

@@ -4,9 +4,9 @@ ghost use Rattle.std.specs.Prelude.{◌≡◌, ◌≤◌, ◌↔◌, ℕ, false,
 ghost use Rattle.runs.specs.Run.{Run};
 ghost use Rattle.disk_law.specs.Issued.{completed, issued, Admission, CompletesOnceInOrder};
 ghost use Rattle.disk_law.specs.ListState.{ImageState};
-ghost use Rattle.disk_model.specs.DiskEvent.{DiskEvent};
-ghost use Rattle.disk_model.specs.LaneState.{fresh, IsShape, LaneState, Shape};
-ghost use Rattle.disk_model.specs.LaneStep.{LaneStep};
+ghost use Rattle.lane_models.specs.DiskEvent.{DiskEvent};
+ghost use Rattle.lane_models.specs.LaneState.{fresh, IsShape, LaneState, Shape};
+ghost use Rattle.lane_models.specs.LaneStep.{LaneStep};
 ghost use Rattle.world_laws.specs.Along.{happened};
 ghost use Rattle.world_laws.specs.Settle.{SettleEntry, pending_on};
 ghost use Rattle.world_laws.specs.World.{AreShapes, WorldState, WorldStep, fresh_world};

@@ -4,11 +4,11 @@ ghost use Rattle.std.specs.Prelude.{◌≡◌, ℕ, true, false, [], ◌∷◌, 
 ghost use Rattle.runs.specs.Run.{Run};
 ghost use Rattle.ldc_queue.specs.declared.end.End.{End};
 ghost use Rattle.ldc_queue.specs.declared.end.End.TheVariants.{A, B};
-ghost use Rattle.channel_laws.specs.WireEvent.{Idle};
-ghost use Rattle.disk_model.specs.DiskEvent.{Off, OnWire, Switches};
-ghost use Rattle.disk_model.specs.LaneState.{LaneState};
-ghost use Rattle.disk_model.specs.LaneStep.{LaneStep};
-ghost use Rattle.disk_model.specs.Reached.{IsReached};
+ghost use Rattle.lane_models.specs.WireEvent.{Idle};
+ghost use Rattle.lane_models.specs.DiskEvent.{Off, OnWire, Switches};
+ghost use Rattle.lane_models.specs.LaneState.{LaneState};
+ghost use Rattle.lane_models.specs.LaneStep.{LaneStep};
+ghost use Rattle.lane_models.specs.Reached.{IsReached};
 ghost use Rattle.world_laws.specs.Along.{LanesMove};
 ghost use Rattle.world_laws.specs.Begun.{SettleFront};
 ghost use Rattle.world_laws.specs.Ended.{AllStill, EndsFinished, LanesEnd};

@@ -4,13 +4,13 @@ ghost use Rattle.std.specs.Prelude.{◌≡◌, ◌<◌, ℕ, false, true, is_som
 ghost use Rattle.runs.specs.Lawful.{log_of};
 ghost use Rattle.runs.specs.Run.{Run};
 ghost use Rattle.ldc_queue.specs.declared.end.End.TheVariants.{A, B};
-ghost use Rattle.channel_laws.specs.WireAt.{IsUp};
+ghost use Rattle.lane_models.specs.WireAt.{IsUp};
 ghost use Rattle.disk_law.specs.ListState.{ImageState};
 ghost use Rattle.lane_laws.specs.Agreement.{AgreesWithLog};
 ghost use Rattle.lane_laws.specs.DiskLog.{after, nothing_yet};
 ghost use Rattle.lane_laws.specs.May.{IsLawful};
-ghost use Rattle.disk_model.specs.DiskEvent.{DiskEvent};
-ghost use Rattle.disk_model.specs.LaneState.{LaneState, Shape};
+ghost use Rattle.lane_models.specs.DiskEvent.{DiskEvent};
+ghost use Rattle.lane_models.specs.LaneState.{LaneState, Shape};
 ghost use Rattle.lane_laws.specs.OneSession.{AreOneSession};
 ghost use Rattle.world_laws.specs.Along.{happened};
 ghost use Rattle.world_laws.specs.Settle.{OfLane, SettleEntry};

@@ -5,13 +5,13 @@ use Rattle.std.specs.Prelude.{IsSomeAnd, ⊤}
 use Rattle.std.proofs.lemmas.Bool.{eqb-true}
 use Rattle.vdisk_msg.specs.declared.request.Request.{Request}
 use Rattle.disk_law.specs.Requests.{Defect}
-use Rattle.domain_laws.specs.channel_laws.WireEvent.{Declined, Declines, InjectedFull, NothingLost, NotInjected, PokeRefused, WireEvent}
-use Rattle.domain_laws.specs.disk_model.DiskEvent.{Asks, Calm, CalmReset, CalmRestart, CalmStart, CalmStop, CalmTick, DiskEvent, Full, OnWire, Published, Refused, Calms, Works}
-use Rattle.domain_laws.specs.port_model.NetEvent.{CalmTick as CalmPortTick, Gives, Joins, NetEvent, Steps}
-use Rattle.domain_laws.specs.port_model.NetEvent as net
-use Rattle.domain_laws.specs.port_model.NetEndStep.{Already, BadLength, Frame, GroupsFull}
-use Rattle.domain_laws.specs.port_model.NetEndStep as port
-use Rattle.domain_laws.specs.port_model.PortState.{OnLane}
+use Rattle.domain_laws.specs.lane_models.WireEvent.{Declined, Declines, InjectedFull, NothingLost, NotInjected, PokeRefused, WireEvent}
+use Rattle.domain_laws.specs.lane_models.DiskEvent.{Asks, Calm, CalmReset, CalmRestart, CalmStart, CalmStop, CalmTick, DiskEvent, Full, OnWire, Published, Refused, Calms, Works}
+use Rattle.domain_laws.specs.lane_models.NetEvent.{CalmTick as CalmPortTick, Gives, Joins, NetEvent, Steps}
+use Rattle.domain_laws.specs.lane_models.NetEvent as net
+use Rattle.domain_laws.specs.lane_models.NetEndStep.{Already, BadLength, Frame, GroupsFull}
+use Rattle.domain_laws.specs.lane_models.NetEndStep as port
+use Rattle.domain_laws.specs.lane_models.PortState.{OnLane}
 use Rattle.domain_laws.specs.switch_laws.Events.{OnPort, SwitchEvent, Switched}
 use Rattle.ldc_queue.specs.declared.end.End.{End}
 use Rattle.ldc_queue.specs.declared.end.End.TheVariants.{A, B}

@@ -3,9 +3,9 @@ use Rattle.std.specs.Prelude.{ℕ, ◌+◌, ◌*◌, ◌≤◌, List, [], ◌∷
 use Rattle.domain_script.specs.declared.event.DiskDecl.{DiskDecl}
 use Rattle.domain_script.specs.declared.event.PortDecl.{PortDecl}
 use Rattle.disk_law.specs.ListState.{ImageState}
-use Rattle.domain_laws.specs.port_model.NetLaneState.{NetShape}
+use Rattle.domain_laws.specs.lane_models.NetLaneState.{NetShape}
 use Rattle.domain_laws.specs.Domain.{DomainState, fresh_domain}
-use Rattle.domain_laws.specs.disk_model.LaneState.{LaneState, Shape}
+use Rattle.domain_laws.specs.lane_models.LaneState.{LaneState, Shape}
 
 -- a disk from this block of the image on
 abbrev pub shape_of : ℕ → DiskDecl → Shape

@@ -9,7 +9,5 @@ pub use Rattle.domain_laws.specs as domain_laws
 pub use Rattle.domain_laws.specs.world_laws as world_laws
 pub use Rattle.domain_laws.specs.switch_laws as switch_laws
 pub use Rattle.domain_laws.specs.port_laws as port_laws
-pub use Rattle.domain_laws.specs.port_model as port_model
+pub use Rattle.domain_laws.specs.lane_models as lane_models
 pub use Rattle.domain_laws.specs.lane_laws as lane_laws
-pub use Rattle.domain_laws.specs.disk_model as disk_model
-pub use Rattle.domain_laws.specs.channel_laws as channel_laws

@@ -10,7 +10,7 @@ use Rattle.domain_script.specs.declared.event.Side.{Side}
 use Rattle.domain_script.specs.declared.event.Side.TheVariants.{Client, Server}
 use Rattle.domain_script.specs.declared.fields.LaneKind.{LaneKind}
 use Rattle.domain_script.specs.declared.fields.LaneKind.TheVariants as kinds
-use Rattle.domain_script.specs.Addresses.{IsGroup}
+use Rattle.domain_script.specs.Addresses.{IsGroupAddress}
 use Rattle.domain_script.specs.Fills.{IsPiece}
 use Rattle.domain_script.specs.Limits.{AreRepeats}
 use Rattle.domain_laws.specs.world_laws.Settle.{SettleEntry}
@@ -64,7 +64,7 @@ HasMemory _ side = ⊤
 abbrev pub IsForLanes : DomainState → Event → Type 0
 IsForLanes w (event.Issue disk request) = (disk < length w.first.lanes) × IsRequest request
 IsForLanes w (event.Send port frame) = (port < length w.second) × IsPiece frame
-IsForLanes w (event.Join port address) = (port < length w.second) × IsGroup address
+IsForLanes w (event.Join port address) = (port < length w.second) × IsGroupAddress address
 IsForLanes w (event.Step end count) = IsLaneOf w end.lane × AreRepeats count
 IsForLanes w (event.Round count) = AreRepeats count
 IsForLanes w (event.Reset end) = IsLaneOf w end.lane

@@ -7,15 +7,15 @@ use Rattle.vio_tag.specs.declared.cause.Cause.{Cause}
 use Rattle.vio_tag.specs.declared.cause.Cause.TheVariants as the_cause
 use Rattle.vdisk_msg.specs.declared.request.Request.{Request}
 use Rattle.disk_law.specs.Requests.{Defect}
-use Rattle.domain_laws.specs.channel_laws.WireEvent.{Declined, Declines, InjectedFull, NothingLost, NotInjected, PokeRefused, WireEvent}
-use Rattle.domain_laws.specs.channel_laws.WireEvent as wire
-use Rattle.domain_laws.specs.disk_model.DiskEvent.{DiskEvent, OnWire, Asks, Calms, CalmTick, CalmStop, CalmStart, CalmReset, CalmRestart, Works}
-use Rattle.domain_laws.specs.disk_model.DiskEvent as disk
-use Rattle.domain_laws.specs.port_model.NetEvent.{CalmTick as CalmPortTick, Gives, Joins, NetEvent, Steps, Ticked}
-use Rattle.domain_laws.specs.port_model.NetEvent as net
-use Rattle.domain_laws.specs.port_model.NetEndStep.{Already, BadLength, Frame, GroupsFull, Member, Queued}
-use Rattle.domain_laws.specs.port_model.NetEndStep as port
-use Rattle.domain_laws.specs.port_model.PortState.{OnLane}
+use Rattle.domain_laws.specs.lane_models.WireEvent.{Declined, Declines, InjectedFull, NothingLost, NotInjected, PokeRefused, WireEvent}
+use Rattle.domain_laws.specs.lane_models.WireEvent as wire
+use Rattle.domain_laws.specs.lane_models.DiskEvent.{DiskEvent, OnWire, Asks, Calms, CalmTick, CalmStop, CalmStart, CalmReset, CalmRestart, Works}
+use Rattle.domain_laws.specs.lane_models.DiskEvent as disk
+use Rattle.domain_laws.specs.lane_models.NetEvent.{CalmTick as CalmPortTick, Gives, Joins, NetEvent, Steps, Ticked}
+use Rattle.domain_laws.specs.lane_models.NetEvent as net
+use Rattle.domain_laws.specs.lane_models.NetEndStep.{Already, BadLength, Frame, GroupsFull, Member, Queued}
+use Rattle.domain_laws.specs.lane_models.NetEndStep as port
+use Rattle.domain_laws.specs.lane_models.PortState.{OnLane}
 use Rattle.domain_laws.specs.switch_laws.Events.{OnPort, SwitchEvent, Switched}
 use Rattle.domain_laws.specs.world_laws.Settle.{OfLane, OfPort, SettleEntry}
 use Rattle.domain_laws.specs.world_laws.Settle as settle

@@ -6,4 +6,4 @@
 
 mod pages;
 
-pub use pages::{PAGE, ZeroPages};
+pub use pages::{ZERO_PAGE, ZeroPages};

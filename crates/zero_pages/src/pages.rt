@@ -8,7 +8,7 @@ use std::marker::Model;
 use vio_bytes::NoMemory;
 
 /// The bytes of a page.
-pub const PAGE: usize = 4096;
+pub const ZERO_PAGE: usize = 4096;
 
 /// Pages that begin as zeros. Memory is taken for all of them, but only those that a call wrote lie in it, in the order
 /// of their first writes: after their end nothing is touched. So no call wants memory later.
@@ -35,7 +35,7 @@ impl ZeroPages {
     pub fn new(alloc: Global, count: usize) -> Result<Self, NoMemory>
         ensures { IfOk result (λ pages. pages ≡ replicate (4096 * count) 0) }
     {
-        let Some(size) = count.checked_mul(PAGE) else {
+        let Some(size) = count.checked_mul(ZERO_PAGE) else {
             return Err(NoMemory);
         };
         Ok(ZeroPages {
@@ -73,7 +73,7 @@ fn is_in_page(at: usize, count: usize) -> bool
 fn page_rest(at: usize) -> usize
     ensures { result ≡ 4096 - at % 4096 }
 {
-    PAGE - at % PAGE
+    ZERO_PAGE - at % ZERO_PAGE
 }
 
 /// The places of so many pages of zeros.
@@ -130,7 +130,7 @@ fn read_place(places: &[usize], kept: &[u8], at: usize, buf: &mut [u8])
     requires kept { AreKept kept.now places.now }
     ensures { buf.new ≡ range_at at (length buf.old) (pages_at kept.now places.now) }
 {
-    read_page(kept, place_of(places, at / PAGE), at % PAGE, buf);
+    read_page(kept, place_of(places, at / ZERO_PAGE), at % ZERO_PAGE, buf);
 }
 
 /// Reads the page of a place, from one of its bytes on.
@@ -144,7 +144,7 @@ fn read_page(kept: &[u8], place: usize, from: usize, buf: &mut [u8])
         buf.fill(0);
         return;
     }
-    read_range(kept, (place - 1) * PAGE + from, buf);
+    read_range(kept, (place - 1) * ZERO_PAGE + from, buf);
 }
 
 /// Reads bytes from a place.
@@ -204,8 +204,8 @@ fn write_page(places: &mut [usize], kept: &mut Vec<u8>, at: usize, bytes: &[u8])
     ensures same_length { length places.new ≡ length places.old }
     ensures capacity { vec_capacity kept.old ≤ vec_capacity kept.new }
 {
-    let place = keep(places, kept, at / PAGE);
-    write_kept(kept, (place - 1) * PAGE + at % PAGE, bytes);
+    let place = keep(places, kept, at / ZERO_PAGE);
+    write_kept(kept, (place - 1) * ZERO_PAGE + at % ZERO_PAGE, bytes);
 }
 
 /// Writes bytes at a place of the kept pages.
@@ -273,9 +273,9 @@ fn add_zeros(kept: &mut Vec<u8>) -> usize
     ensures number { result ≡ length kept.new.items / 4096 }
     ensures capacity { vec_capacity kept.old ≤ vec_capacity kept.new }
 {
-    match kept.resize(kept.len() + PAGE, 0) {
+    match kept.resize(kept.len() + ZERO_PAGE, 0) {
         Ok(()) => {}
         Err(_) => unreachable!(),
     }
-    kept.len() / PAGE
+    kept.len() / ZERO_PAGE
 }

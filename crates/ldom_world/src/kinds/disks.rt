@@ -1,7 +1,7 @@
 // What a lane is asked, among the disks of a world.
 
 ghost use Rattle.std.specs.Prelude.{◌≡◌, ◌<◌, ◌≤◌, length, slice_get, Some, IfOk, OnErr, OnOk};
-ghost use Rattle.recorded_lanes.specs.world_parts.disk_model.LaneState.{LaneState};
+ghost use Rattle.recorded_lanes.specs.world_parts.lane_models.LaneState.{LaneState};
 ghost use Rattle.recorded_lanes.specs.world_parts.domain_laws.Domain.{DomainStep};
 ghost use Rattle.recorded_lanes.specs.world_parts.domain_laws.Lines as script;
 ghost use Rattle.recorded_lanes.specs.world_parts.domain_laws.Lines.{Calls, Pokes};

@@ -2,7 +2,7 @@ use Rattle.std.proofs.Common.{ℕ, ◌*◌, List, ◌∙◌, ap}
 use Rattle.vio_bytes.specs.Place.{put_at}
 use Rattle.vdisk_msg.specs.Descriptor.{canonical}
 use Rattle.vdisk_msg.specs.Requested.{descriptor_of}
-use Rattle.disk_model.specs.ClientStep.{filled_buffer}
+use Rattle.lane_models.specs.ClientStep.{filled_buffer}
 use Rattle.disk_requests.proofs.filling.put_request.Goals as goal
 
 pub returns-clause-written : goal.returns-clause-written

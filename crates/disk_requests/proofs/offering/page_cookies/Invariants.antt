@@ -1,5 +1,5 @@
 use Rattle.std.proofs.Common.{◌≡◌}
-use Rattle.channel_laws.specs.OwnMemory.{filled, page_cookies}
+use Rattle.lane_models.specs.OwnMemory.{filled, page_cookies}
 use Rattle.disk_requests.proofs.offering.page_cookies.Given as goal
 
 abbrev pub invariant-loop-page : goal.invariant-loop-page

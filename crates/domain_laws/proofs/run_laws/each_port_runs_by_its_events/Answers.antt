@@ -1,5 +1,5 @@
 use Rattle.std.proofs.Common.{map}
-use Rattle.port_model.specs.PortState.{fresh_port}
+use Rattle.lane_models.specs.PortState.{fresh_port}
 use Rattle.domain_laws.proofs.Running.{fresh_many, fresh_reached, port_runs, ports_move, stay_reached}
 use Rattle.domain_laws.proofs.run_laws.each_port_runs_by_its_events.Goals as goal
 

@@ -4,7 +4,7 @@ use Rattle.ldom_entries.specs.declared.entry.Entry.{Entry}
 use Rattle.ldom_report.specs.declared.status.Status.TheVariants as status
 use Rattle.ldom_report.specs.Stops.{stop_lines, stop_status}
 use Rattle.script_laws.specs.Going.{RunsAll, run_at}
-use Rattle.script_laws.specs.Opening.{Opened}
+use Rattle.script_laws.specs.Opening.{OpensOrStops}
 use Rattle.ldom_world.specs.world_parts.Lines.{line_of}
 use Rattle.ldom_world.specs.world_parts.Parts.{Fits, FitsSoFar}
 use Rattle.domain_script.specs.Spells.{IsDeclared}
@@ -18,7 +18,7 @@ returns-in-None-clause-runs g c start opened =
     let now = g.S.Source.left c.args.source.now in
     subst (λ (l : List Entry). RunsAll start now c.args.reader.now.names c.args.world.now status.Done (run_at c.args.reader.now.names l c.args.world.now c.args.reader.now.lines.number)) (sym c.requires.journal)
     (runs_none_more start now c.args.reader.now.names c.args.world.now c.args.reader.now.lines.number
-    (subst (λ (first : Option Event). Opened start c.args.reader.now.lines now first c.args.reader.now.names) c.in-None.is opened))
+    (subst (λ (first : Option Event). OpensOrStops start c.args.reader.now.lines now first c.args.reader.now.names) c.in-None.is opened))
 
 pub returns-in-Ok-clause-runs : goal.returns-in-Ok-clause-runs
 returns-in-Ok-clause-runs g c start opened =
@@ -27,7 +27,7 @@ returns-in-Ok-clause-runs g c start opened =
     (stop_status c.run_lines.result c.run_lines.new.reader.lines.number)
     (run_at c.run_lines.new.reader.names c.run_lines.new.reader.journal.entries c.run_lines.new.world (stop_lines c.run_lines.result c.run_lines.new.reader.lines.number))
     (readers_of c.run_lines.result c.run_lines.new.reader.lines.number)
-    (subst (λ (first : Option Event). Opened start c.args.reader.now.lines now first c.args.reader.now.names) c.in-Some.is opened)
+    (subst (λ (first : Option Event). OpensOrStops start c.args.reader.now.lines now first c.args.reader.now.names) c.in-Some.is opened)
     (subst (λ (l : List Entry). Fits c.args.world.now (line_of c.in-Some.event) l c.apply.new.journal.entries c.apply.new.self) c.requires.journal c.in-Ok.ensures.fits)
     c.run_lines.ensures.runs (λ failed. c.run_lines.ensures.going (failed_at_source c.run_lines.result c.run_lines.new.reader.lines.number failed))
 
@@ -35,7 +35,7 @@ pub returns-in-Err-clause-runs : goal.returns-in-Err-clause-runs
 returns-in-Err-clause-runs g c start opened =
     let now = g.S.Source.left c.args.source.now in
     runs_first_cut start now c.args.reader.now.lines c.in-Some.event c.args.reader.now.names c.args.world.now c.apply.new.self c.apply.new.journal.entries
-    (subst (λ (first : Option Event). Opened start c.args.reader.now.lines now first c.args.reader.now.names) c.in-Some.is opened)
+    (subst (λ (first : Option Event). OpensOrStops start c.args.reader.now.lines now first c.args.reader.now.names) c.in-Some.is opened)
     (subst (λ (l : List Entry). FitsSoFar c.args.world.now (line_of c.in-Some.event) l c.apply.new.journal.entries c.apply.new.self) c.requires.journal c.in-Err.ensures.so_far)
 
 pub run_lines-requires-clause-goes : goal.run_lines-requires-clause-goes

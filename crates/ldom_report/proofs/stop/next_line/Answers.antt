@@ -1,5 +1,5 @@
 use Rattle.std.proofs.Common.{ℕ, Bool, false, List, Option, Ok, refl, subst, sym}
-use Rattle.script_reader.specs.LinesState.{GivesLine, Reads, to_come}
+use Rattle.script_reader.specs.LinesState.{GivesLine, ReaderAnswers, to_come}
 use Rattle.ldom_report.specs.Stops.{ReaderStandsAt, StopsReading}
 use Rattle.ldom_report.specs.declared.stop.Stop.{Stop}
 use Rattle.ldom_report.proofs.NextLine.{goes_behind, going_before, keeps_ends, same_number, stands_at, stays_stopped, stops_at, stops_at_end}
@@ -9,14 +9,14 @@ pub returns-in-Ok-true-clause-gives : goal.returns-in-Ok-true-clause-gives
 returns-in-Ok-true-clause-gives g c =
     let rest : Option (List ℕ) = to_come c.args.lines.now (g.S.Source.left c.args.source.now) in
     let left : Option (List ℕ) = to_come c.advance.new.self (g.S.Source.left c.advance.new.source) in
-    subst (λ (b : Bool). Reads rest left c.args.lines.now (Ok b) c.advance.new.self) c.in-Ok-true.field-0-test (c.in-Ok-true.ensures.reads c.requires.goes)
+    subst (λ (b : Bool). ReaderAnswers rest left c.args.lines.now (Ok b) c.advance.new.self) c.in-Ok-true.field-0-test (c.in-Ok-true.ensures.reads c.requires.goes)
 
 pub returns-in-Ok-true-clause-goes : goal.returns-in-Ok-true-clause-goes
 returns-in-Ok-true-clause-goes g c =
     let rest : Option (List ℕ) = to_come c.args.lines.now (g.S.Source.left c.args.source.now) in
     let left : Option (List ℕ) = to_come c.advance.new.self (g.S.Source.left c.advance.new.source) in
     let gives : GivesLine rest left c.args.lines.now c.advance.new.self =
-    subst (λ (b : Bool). Reads rest left c.args.lines.now (Ok b) c.advance.new.self) c.in-Ok-true.field-0-test (c.in-Ok-true.ensures.reads c.requires.goes) in
+    subst (λ (b : Bool). ReaderAnswers rest left c.args.lines.now (Ok b) c.advance.new.self) c.in-Ok-true.field-0-test (c.in-Ok-true.ensures.reads c.requires.goes) in
     goes_behind c.advance.new.self.stop rest left c.advance.new.self.line gives.ends
 
 pub returns-in-Ok-false-clause-stops : goal.returns-in-Ok-false-clause-stops
@@ -24,14 +24,14 @@ returns-in-Ok-false-clause-stops g c =
     let rest : Option (List ℕ) = to_come c.args.lines.now (g.S.Source.left c.args.source.now) in
     let left : Option (List ℕ) = to_come c.advance.new.self (g.S.Source.left c.advance.new.source) in
     stops_at_end rest left c.args.lines.now c.advance.new.self
-    (subst (λ (b : Bool). Reads rest left c.args.lines.now (Ok b) c.advance.new.self) c.in-Ok-false.field-0-test (c.in-Ok-false.ensures.reads c.requires.goes))
+    (subst (λ (b : Bool). ReaderAnswers rest left c.args.lines.now (Ok b) c.advance.new.self) c.in-Ok-false.field-0-test (c.in-Ok-false.ensures.reads c.requires.goes))
 
 pub returns-in-Ok-false-clause-number : goal.returns-in-Ok-false-clause-number
 returns-in-Ok-false-clause-number g c =
     let rest : Option (List ℕ) = to_come c.args.lines.now (g.S.Source.left c.args.source.now) in
     let left : Option (List ℕ) = to_come c.advance.new.self (g.S.Source.left c.advance.new.source) in
-    let reads : Reads rest left c.args.lines.now (Ok false) c.advance.new.self =
-    subst (λ (b : Bool). Reads rest left c.args.lines.now (Ok b) c.advance.new.self) c.in-Ok-false.field-0-test (c.in-Ok-false.ensures.reads c.requires.goes) in
+    let reads : ReaderAnswers rest left c.args.lines.now (Ok false) c.advance.new.self =
+    subst (λ (b : Bool). ReaderAnswers rest left c.args.lines.now (Ok b) c.advance.new.self) c.in-Ok-false.field-0-test (c.in-Ok-false.ensures.reads c.requires.goes) in
     reads.0.count
 
 pub returns-in-Err-clause-stops : goal.returns-in-Err-clause-stops
@@ -85,8 +85,8 @@ pub returns-in-Ok-false-clause-stands : goal.returns-in-Ok-false-clause-stands
 returns-in-Ok-false-clause-stands g c =
     let rest : Option (List ℕ) = to_come c.args.lines.now (g.S.Source.left c.args.source.now) in
     let left : Option (List ℕ) = to_come c.advance.new.self (g.S.Source.left c.advance.new.source) in
-    let reads : Reads rest left c.args.lines.now (Ok false) c.advance.new.self =
-    subst (λ (b : Bool). Reads rest left c.args.lines.now (Ok b) c.advance.new.self) c.in-Ok-false.field-0-test (c.in-Ok-false.ensures.reads c.requires.goes) in
+    let reads : ReaderAnswers rest left c.args.lines.now (Ok false) c.advance.new.self =
+    subst (λ (b : Bool). ReaderAnswers rest left c.args.lines.now (Ok b) c.advance.new.self) c.in-Ok-false.field-0-test (c.in-Ok-false.ensures.reads c.requires.goes) in
     reads.0.stop
 
 pub returns-in-Err-clause-stands : goal.returns-in-Err-clause-stands

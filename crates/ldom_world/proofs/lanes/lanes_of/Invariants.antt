@@ -1,5 +1,5 @@
 use Rattle.std.proofs.Common.{◌≡◌, ◌*◌, ◌≤◌, length, map, take}
-use Rattle.recorded_lanes.specs.world_parts.disk_model.LaneState.{fresh}
+use Rattle.recorded_lanes.specs.world_parts.lane_models.LaneState.{fresh}
 use Rattle.recorded_lanes.specs.world_parts.Declared.{blocks_of, shapes_of}
 use Rattle.ldom_world.proofs.lanes.lanes_of.Given as goal
 

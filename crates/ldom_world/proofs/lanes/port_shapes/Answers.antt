@@ -1,5 +1,5 @@
 use Rattle.std.proofs.Common.{◌≡◌, ◌≤◌, List, Some, slice_get, sym, subst, ◌∙◌, arith}
-use Rattle.recorded_lanes.specs.world_parts.port_model.NetLaneState.{IsNetShape, NetShape}
+use Rattle.recorded_lanes.specs.world_parts.lane_models.NetLaneState.{IsNetShape, NetShape}
 use Rattle.domain_script.proofs.Disks.{is_port_at}
 use Rattle.lane_kinds.specs.Lanes.{EachOf}
 use Rattle.ldom_world.proofs.Declaring.{one_longer}

@@ -1,5 +1,5 @@
 use Rattle.std.proofs.Common.{◌≡◌, ◌≤◌, length, take}
-use Rattle.recorded_lanes.specs.world_parts.port_model.NetLaneState.{IsNetShape}
+use Rattle.recorded_lanes.specs.world_parts.lane_models.NetLaneState.{IsNetShape}
 use Rattle.domain_script.specs.Declarations.{AddressesDiffer}
 use Rattle.lane_kinds.specs.Lanes.{EachOf}
 use Rattle.recorded_lanes.specs.switched_ports.Shapes.{shapes_of}

@@ -1,5 +1,5 @@
 use Rattle.std.proofs.Common.{ℕ, ◌+◌, sym, ap, ◌∙◌}
-use Rattle.port_model.specs.NetEndTaking.{slot_state}
+use Rattle.lane_models.specs.NetEndTaking.{slot_state}
 use Rattle.port_frames.proofs.Ranges.{slot_at, undone_here, undone_more}
 use Rattle.port_frames.proofs.own_slots.first_undone.Goals as goal
 

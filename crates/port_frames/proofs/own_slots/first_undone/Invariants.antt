@@ -1,5 +1,5 @@
 use Rattle.std.proofs.Common.{◌≡◌, ◌+◌, ◌-◌}
-use Rattle.port_model.specs.NetEndTaking.{first_undone}
+use Rattle.lane_models.specs.NetEndTaking.{first_undone}
 use Rattle.port_frames.proofs.own_slots.first_undone.Given as goal
 
 abbrev pub invariant-loop-index : goal.invariant-loop-index

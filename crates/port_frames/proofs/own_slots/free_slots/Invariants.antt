@@ -1,5 +1,5 @@
 use Rattle.std.proofs.Common.{◌≡◌, ◌+◌, ◌-◌, length}
-use Rattle.port_model.specs.NetEndTaking.{freed}
+use Rattle.lane_models.specs.NetEndTaking.{freed}
 use Rattle.port_frames.proofs.own_slots.free_slots.Given as goal
 
 abbrev pub invariant-loop-index : goal.invariant-loop-index

@@ -1,6 +1,6 @@
-use Rattle.channel_laws.proofs.OpeningOrder.{opens_hearing, opens_saying}
-use Rattle.port_model.specs.NetEndStep.{Sent, Took}
-use Rattle.port_model.specs.NetEvent.{Steps}
+use Rattle.lane_models.proofs.OpeningOrder.{opens_hearing, opens_saying}
+use Rattle.lane_models.specs.NetEndStep.{Sent, Took}
+use Rattle.lane_models.specs.NetEvent.{Steps}
 use Rattle.port_laws.proofs.CoreLaws.{order_at, sizes_fit}
 use Rattle.port_laws.proofs.LaneMoves.{event_core_step, fits_behind, fresh_run_core}
 use Rattle.std.proofs.Common.{true}

@@ -1,7 +1,7 @@
 use Rattle.std.proofs.Common.{Some, sym}
-use Rattle.port_model.specs.NetEndStep.{Reset, Took}
-use Rattle.port_model.specs.NetEndTaking.{Resets}
-use Rattle.port_model.specs.NetEvent.{Steps}
+use Rattle.lane_models.specs.NetEndStep.{Reset, Took}
+use Rattle.lane_models.specs.NetEndTaking.{Resets}
+use Rattle.lane_models.specs.NetEvent.{Steps}
 use Rattle.port_laws.specs.NetCore.{core_events}
 use Rattle.port_laws.proofs.LaneMoves.{fresh_run_core}
 use Rattle.port_laws.proofs.PortCauses.{cause_before, fails_takes, fails_with, take_cause}

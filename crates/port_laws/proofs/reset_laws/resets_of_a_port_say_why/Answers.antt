@@ -1,5 +1,5 @@
-use Rattle.channel_laws.specs.WireAt.{WireGapAt}
-use Rattle.channel_laws.specs.ResetSays.{WireResetAt}
+use Rattle.lane_models.specs.WireAt.{WireGapAt}
+use Rattle.lane_models.specs.ResetSays.{WireResetAt}
 use Rattle.port_laws.proofs.PortResets.{port_resets_so}
 use Rattle.port_laws.proofs.reset_laws.resets_of_a_port_say_why.Goals as goal
 

@@ -1,5 +1,5 @@
 use Rattle.std.proofs.Common.{◌≡◌, ◌++◌, ◌≤◌, length, drop}
-use Rattle.port_model.specs.Groups.{without_groups}
+use Rattle.lane_models.specs.Groups.{without_groups}
 use Rattle.port_session.proofs.membership.without_groups.Given as goal
 
 abbrev pub invariant-loop-address : goal.invariant-loop-address

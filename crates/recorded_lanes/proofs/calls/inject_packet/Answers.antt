@@ -1,6 +1,6 @@
 use Rattle.std.proofs.Common.{Result, Err, subst, ap, ◌∙◌}
 use Rattle.disk_lane.specs.Events.{injected_event}
-use Rattle.world_parts.specs.disk_model.LaneStep.{LaneStep}
+use Rattle.world_parts.specs.lane_models.LaneStep.{LaneStep}
 use Rattle.domain_script.specs.declared.event.EndName.{EndName}
 use Rattle.ldc_queue.specs.declared.end.End.{End}
 use Rattle.ldc_queue.specs.declared.end.PutFault.{PutFault}

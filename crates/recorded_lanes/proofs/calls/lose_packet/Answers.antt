@@ -1,6 +1,6 @@
 use Rattle.std.proofs.Common.{subst, ap}
 use Rattle.disk_lane.specs.Events.{lost_event}
-use Rattle.world_parts.specs.disk_model.LaneStep.{LaneStep}
+use Rattle.world_parts.specs.lane_models.LaneStep.{LaneStep}
 use Rattle.domain_script.specs.declared.event.EndName.{EndName}
 use Rattle.ldc_queue.specs.declared.end.End.{End}
 use Rattle.ldom_entries.specs.declared.entry.Entry.TheVariants as entry

@@ -1,8 +1,8 @@
 use Rattle.std.proofs.Common.{ℕ, List, ap, ◌∙◌}
 use Rattle.vdisk_msg.specs.Descriptor.{disk_desc_of}
 use Rattle.vdisk_msg.specs.declared.desc.DiskDesc.{DiskDesc}
-use Rattle.disk_model.specs.ServerState.{Progress, Work}
-use Rattle.disk_model.specs.ServerWork.{first_progress}
+use Rattle.lane_models.specs.ServerState.{Progress, Work}
+use Rattle.lane_models.specs.ServerWork.{first_progress}
 use Rattle.descriptor_work.proofs.work.Work.begin.Goals as goal
 
 pub returns : goal.returns

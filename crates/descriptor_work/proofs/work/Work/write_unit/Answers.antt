@@ -3,7 +3,7 @@ use Rattle.std.specs.Prelude.{min}
 use Rattle.vdisk_msg.specs.Descriptor.{disk_desc_of}
 use Rattle.vio_io.specs.Causes.{FaultsAfter}
 use Rattle.vio_io.specs.Stores.{WritesRange}
-use Rattle.disk_model.specs.ServerWork.{or_ends}
+use Rattle.lane_models.specs.ServerWork.{or_ends}
 use Rattle.descriptor_work.specs.declared.work.Progress.{Progress as KeptProgress}
 use Rattle.descriptor_work.specs.Fields.{progress_of, work_with}
 use Rattle.descriptor_work.proofs.PieceSteps.{done_where, piece_written, unit_place, unit_range, unit_within}

@@ -1,4 +1,4 @@
-use Rattle.disk_model.specs.DiskEvent.{Asks}
+use Rattle.lane_models.specs.DiskEvent.{Asks}
 use Rattle.vdisk_client.specs.Calls.{admitted}
 use Rattle.disk_lane.proofs.Reaching.{reached_more}
 use Rattle.disk_lane.proofs.disk_lane.DiskLane.issue.Goals as goal

@@ -3,8 +3,8 @@ use Rattle.std.proofs.lemmas.List.{length-replicate}
 use Rattle.cookie_copy.specs.Faults.{PagesWithin}
 use Rattle.vdisk_msg.specs.Requested.{ring_pages}
 use Rattle.disk_requests.specs.Room.{HoldsRing}
-use Rattle.disk_model.specs.ClientState.{ClientState}
-use Rattle.disk_model.specs.ServerState.{ServerState}
+use Rattle.lane_models.specs.ClientState.{ClientState}
+use Rattle.lane_models.specs.ServerState.{ServerState}
 use Rattle.cookie_copy.proofs.OwnPages.{own_within}
 use Rattle.disk_lane.proofs.lane_ends.LaneEnds.new.Goals as goal
 

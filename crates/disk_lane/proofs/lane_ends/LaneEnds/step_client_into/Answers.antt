@@ -1,6 +1,6 @@
 use Rattle.std.proofs.Common.{refl, subst}
-use Rattle.disk_model.specs.LaneState.{LaneState}
-use Rattle.disk_model.specs.LaneStep.{LaneStep}
+use Rattle.lane_models.specs.LaneState.{LaneState}
+use Rattle.lane_models.specs.LaneStep.{LaneStep}
 use Rattle.vdisk_client.specs.Calls.{client_event}
 use Rattle.disk_lane.specs.Fields.{state_of}
 use Rattle.disk_lane.proofs.NotedSteps.{client_lane, client_own}

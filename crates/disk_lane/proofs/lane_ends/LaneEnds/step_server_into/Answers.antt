@@ -1,6 +1,6 @@
 use Rattle.std.proofs.Common.{refl, subst, ap, ◌∙◌}
-use Rattle.disk_model.specs.LaneState.{LaneState}
-use Rattle.disk_model.specs.Served.{Served}
+use Rattle.lane_models.specs.LaneState.{LaneState}
+use Rattle.lane_models.specs.Served.{Served}
 use Rattle.vdisk_server.specs.Answering.{server_event}
 use Rattle.disk_lane.specs.Fields.{state_of}
 use Rattle.disk_lane.proofs.NotedSteps.{server_lane}

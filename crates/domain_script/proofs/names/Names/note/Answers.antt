@@ -2,7 +2,7 @@ use Rattle.std.proofs.Common.{◌≡◌, ◌<◌, true, length, take, length-set
 use Rattle.std.proofs.lemmas.List.{length-take-le}
 use Rattle.domain_script.specs.declared.event.Event.{Event}
 use Rattle.domain_script.specs.declared.fields.LaneKind.TheVariants as lanes
-use Rattle.domain_script.specs.NamesState.{CanDeclare, CanNote, IsFree, IsFreeAddress, NamesState}
+use Rattle.domain_script.specs.NamesState.{CanDeclare, CanNote, IsNameFree, IsFreeAddress, NamesState}
 use Rattle.domain_script.proofs.LaneNames.{still_differ}
 use Rattle.domain_script.proofs.Noting.{address_added, disk_added, port_added}
 use Rattle.domain_script.proofs.names.Names.note.Goals as goal
@@ -14,7 +14,7 @@ invariant_of-self c =
     length-take-le c.self.inside.disk_count c.self.inside.disks (omega arith) in
     let seen : length (take c.self.inside.disk_count c.self.inside.disks) ≡ length c.args.self.now.disks = ap (λ s. length s.disks) c.self.view_is in
     let few : c.self.inside.disk_count < 8 = omega (arith, can.few) in
-    let free = subst (λ (s : NamesState). IsFree s c.in-Disk.disk.name) (sym c.self.view_is) can.free in (
+    let free = subst (λ (s : NamesState). IsNameFree s c.in-Disk.disk.name) (sym c.self.view_is) can.free in (
       omega arith,
       length-set c.self.inside.disks c.self.inside.disk_count c.in-Disk.disk ∙ c.self.invariant.1,
       c.self.invariant.2,
@@ -32,7 +32,7 @@ invariant_of-self-in-Net c =
     length-take-le c.self.inside.port_count c.self.inside.ports (omega arith) in
     let seen : length (take c.self.inside.port_count c.self.inside.ports) ≡ length c.args.self.now.ports = ap (λ s. length s.ports) c.self.view_is in
     let few : c.self.inside.port_count < 8 = omega (arith, can.0.few) in
-    let free = subst (λ (s : NamesState). IsFree s c.in-Net.port.name) (sym c.self.view_is) can.0.free in
+    let free = subst (λ (s : NamesState). IsNameFree s c.in-Net.port.name) (sym c.self.view_is) can.0.free in
     let free_address = subst (λ (s : NamesState). IsFreeAddress s c.in-Net.port.address) (sym c.self.view_is) can.1 in (
       c.self.invariant.0,
       c.self.invariant.1,

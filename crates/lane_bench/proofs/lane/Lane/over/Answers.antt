@@ -1,8 +1,8 @@
 use Rattle.std.proofs.Common.{◌≡◌, ◌≤◌, ◌+◌, ◌*◌, ℕ, List, length, replicate, sym, subst, ap, ◌∙◌, arith}
 use Rattle.std.proofs.lemmas.List.{length-replicate}
 use Rattle.cookie_copy.specs.Faults.{PagesWithin}
-use Rattle.disk_model.specs.ClientState.{ClientState}
-use Rattle.disk_model.specs.ServerState.{ServerState}
+use Rattle.lane_models.specs.ClientState.{ClientState}
+use Rattle.lane_models.specs.ServerState.{ServerState}
 use Rattle.disk_requests.specs.Room.{HoldsRing}
 use Rattle.flat_store.specs.MemStoreState.{MemStoreState}
 use Rattle.lane_bench.proofs.lane.Lane.over.Goals as goal

@@ -1,7 +1,7 @@
 use Rattle.std.proofs.Common.{Bool, List}
 use Rattle.std.proofs.lemmas.Result.{IfOk-weaker, on_err_weaker}
 use Rattle.recorded_lanes.specs.world_parts.domain_laws.Domain.{DomainStep, PortsStep}
-use Rattle.recorded_lanes.specs.world_parts.port_model.PortState.{PortState}
+use Rattle.recorded_lanes.specs.world_parts.lane_models.PortState.{PortState}
 use Rattle.recorded_lanes.specs.ldom_report.LaneEvents.{end_of}
 use Rattle.recorded_lanes.specs.Steps.{MakesQuietStep, moment}
 use Rattle.domain_script.specs.LaneKinds.{port_lane}

@@ -1,6 +1,6 @@
 use Rattle.std.proofs.Common.{List}
 use Rattle.recorded_lanes.specs.world_parts.domain_laws.Domain.{PortsStep}
-use Rattle.recorded_lanes.specs.world_parts.port_model.PortState.{PortState}
+use Rattle.recorded_lanes.specs.world_parts.lane_models.PortState.{PortState}
 use Rattle.recorded_lanes.specs.ldom_report.LaneEvents.{end_of}
 use Rattle.std.proofs.lemmas.Result.{on_err_weaker, on_ok_weaker}
 use Rattle.domain_script.specs.declared.fields.LaneKind.TheVariants as kinds

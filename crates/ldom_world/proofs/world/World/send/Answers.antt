@@ -1,6 +1,6 @@
 use Rattle.std.proofs.Common.{List}
 use Rattle.recorded_lanes.specs.world_parts.domain_laws.Domain.{PortsStep}
-use Rattle.recorded_lanes.specs.world_parts.port_model.PortState.{PortState}
+use Rattle.recorded_lanes.specs.world_parts.lane_models.PortState.{PortState}
 use Rattle.std.proofs.Common.{refl}
 use Rattle.std.proofs.lemmas.Result.{on_err_weaker, on_ok_weaker}
 use Rattle.recorded_lanes.specs.world_parts.domain_laws.Lines.{AnswersFrame, Sends}

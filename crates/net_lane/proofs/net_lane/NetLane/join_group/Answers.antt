@@ -1,4 +1,4 @@
-use Rattle.port_model.specs.NetEvent.{Joins}
+use Rattle.lane_models.specs.NetEvent.{Joins}
 use Rattle.vnet_port.specs.Calls.{joining}
 use Rattle.net_lane.proofs.Reaching.{reached_more}
 use Rattle.net_lane.proofs.net_lane.NetLane.join_group.Goals as goal

@@ -1,4 +1,4 @@
-use Rattle.port_model.specs.NetEvent.{Asked}
+use Rattle.lane_models.specs.NetEvent.{Asked}
 use Rattle.net_lane.proofs.Reaching.{reached_more}
 use Rattle.net_lane.proofs.net_lane.NetLane.reset.Goals as goal
 

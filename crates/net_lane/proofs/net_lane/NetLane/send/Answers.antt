@@ -1,4 +1,4 @@
-use Rattle.port_model.specs.NetEvent.{Gives}
+use Rattle.lane_models.specs.NetEvent.{Gives}
 use Rattle.vnet_port.specs.Calls.{given}
 use Rattle.net_lane.proofs.Reaching.{reached_more}
 use Rattle.net_lane.proofs.net_lane.NetLane.send.Goals as goal

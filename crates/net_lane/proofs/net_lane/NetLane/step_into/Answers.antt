@@ -1,5 +1,5 @@
-use Rattle.port_model.specs.NetEvent.{Steps}
-use Rattle.port_model.specs.NetLaneState.{net_end}
+use Rattle.lane_models.specs.NetEvent.{Steps}
+use Rattle.lane_models.specs.NetLaneState.{net_end}
 use Rattle.vnet_port.specs.Stepping.{net_answer}
 use Rattle.net_lane.proofs.Reaching.{reached_more}
 use Rattle.net_lane.proofs.net_lane.NetLane.step_into.Goals as goal

@@ -1,6 +1,6 @@
 use Rattle.std.proofs.Common.{◌≡◌, subst}
 use Rattle.ldc_queue.specs.declared.end.End.TheVariants.{A}
-use Rattle.port_model.specs.NetLaneState.{NetLaneState}
+use Rattle.lane_models.specs.NetLaneState.{NetLaneState}
 use Rattle.net_lane.specs.Events.{begun_anew}
 use Rattle.net_lane.specs.Fields.{state_of}
 use Rattle.net_lane.proofs.NotedSteps.{guest_begun}

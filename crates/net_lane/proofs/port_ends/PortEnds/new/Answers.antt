@@ -3,7 +3,7 @@ use Rattle.std.proofs.lemmas.List.{length-replicate}
 use Rattle.cookie_copy.proofs.OwnPages.{own_within}
 use Rattle.cookie_copy.specs.Faults.{PagesWithin}
 use Rattle.vnet_port.specs.Memories.{HoldsRing}
-use Rattle.port_model.specs.NetEndState.{NetEndState}
+use Rattle.lane_models.specs.NetEndState.{NetEndState}
 use Rattle.vnet_msg.specs.Frames.{memory_pages}
 use Rattle.vnet_port.specs.Calls.{role_of}
 use Rattle.net_lane.proofs.Rooms.{power_room}

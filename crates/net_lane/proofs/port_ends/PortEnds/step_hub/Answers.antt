@@ -1,8 +1,8 @@
 use Rattle.std.proofs.Common.{ℕ, List, sym, ap, subst, ◌∙◌}
 use Rattle.ldc_queue.specs.declared.end.End.TheVariants.{B}
-use Rattle.port_model.specs.NetEvent.{Steps}
-use Rattle.port_model.specs.NetLaneState.{NetLaneState}
-use Rattle.port_model.specs.NetLaneStep.{NetLaneStep}
+use Rattle.lane_models.specs.NetEvent.{Steps}
+use Rattle.lane_models.specs.NetLaneState.{NetLaneState}
+use Rattle.lane_models.specs.NetLaneStep.{NetLaneStep}
 use Rattle.vnet_port.specs.Stepping.{TellsLength, net_answer}
 use Rattle.net_lane.specs.Fields.{state_of}
 use Rattle.net_lane.proofs.NotedSteps.{hub_lane}

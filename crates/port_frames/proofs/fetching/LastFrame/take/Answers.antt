@@ -2,8 +2,8 @@ use Rattle.std.proofs.Common.{rules, ◌≡◌, ℕ, List, sym, ◌∙◌, ap}
 use Rattle.cookie_copy.specs.Reach.{Reach}
 use Rattle.port_frames.proofs.SlotFinds.{frame_taken, ready}
 use Rattle.port_frames.specs.Memories.{reach_over}
-use Rattle.port_model.specs.Fetching.{IsFrame}
-use Rattle.port_model.specs.NetEndState.{NetEndState}
+use Rattle.lane_models.specs.Fetching.{IsFrame}
+use Rattle.lane_models.specs.NetEndState.{NetEndState}
 use Rattle.port_frames.proofs.fetching.LastFrame.take.Goals as goal
 
 pub returns-clause-takes : goal.returns-clause-takes

@@ -1,7 +1,7 @@
 use Rattle.std.proofs.Common.{rules, ◌≡◌, ℕ, List, length, ◌∙◌, ap}
 use Rattle.std.proofs.lemmas.List.{take_at}
 use Rattle.cookie_copy.specs.Moved.{moved_in}
-use Rattle.port_model.specs.Fetching.{data_cookies}
+use Rattle.lane_models.specs.Fetching.{data_cookies}
 use Rattle.vnet_msg.specs.Frames.{frame_in}
 use Rattle.port_frames.proofs.Frames.{frame_in_front}
 use Rattle.port_frames.proofs.taken_frame.TakenFrame.copy.Goals as goal

@@ -1,5 +1,5 @@
 use Rattle.std.proofs.Common.{◌+◌, ◌<◌, ◌^◌, List, length, subst, sym}
-use Rattle.world_parts.specs.port_model.PortState.{PortState}
+use Rattle.world_parts.specs.lane_models.PortState.{PortState}
 use Rattle.switched_ports.specs.Given.{GivenBelow}
 use Rattle.ldom_entries.specs.declared.entry.Entry.{Entry}
 use Rattle.recorded_lanes.proofs.PortLifting.{few_given, port_answer_accepted, port_answer_given, port_answer_made, port_answer_many}

@@ -1,7 +1,7 @@
 use Rattle.std.proofs.Common.{List, subst}
 use Rattle.ldom_report.specs.LaneEvents.{end_of}
 use Rattle.recorded_lanes.specs.OnePort.{PortEndSteps}
-use Rattle.world_parts.specs.port_model.PortState.{PortState}
+use Rattle.world_parts.specs.lane_models.PortState.{PortState}
 use Rattle.recorded_lanes.proofs.ports.PortLanes.step_end.Goals as goal
 
 pub returns : goal.returns

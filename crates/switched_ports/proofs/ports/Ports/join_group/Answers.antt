@@ -1,5 +1,5 @@
 use Rattle.net_lane.specs.Calls.{joining}
-use Rattle.port_model.specs.NetEvent.{Joins}
+use Rattle.lane_models.specs.NetEvent.{Joins}
 use Rattle.switched_ports.proofs.Asides.{aside_entry, aside_none, aside_tied}
 use Rattle.switched_ports.proofs.ports.Ports.join_group.Goals as goal
 

@@ -2,7 +2,7 @@ use Rattle.std.proofs.Common.{◌≡◌, ◌≤◌, ◌+◌, ◌-◌, ◌^◌, �
 use Rattle.ldc_queue.specs.declared.end.End.TheVariants.{A}
 use Rattle.net_lane.specs.Calls.{given}
 use Rattle.net_lane.specs.Events.{next_behind}
-use Rattle.port_model.specs.NetEvent.{Gives}
+use Rattle.lane_models.specs.NetEvent.{Gives}
 use Rattle.switched_ports.proofs.Aside.{next_few}
 use Rattle.switched_ports.proofs.Asides.{aside_entry, aside_one, aside_tied, few_given}
 use Rattle.switched_ports.proofs.ports.Ports.send.Goals as goal

@@ -2,8 +2,8 @@ use Rattle.std.proofs.Common.{ℕ, List, None, slice_set, sym, subst}
 use Rattle.lane_kinds.specs.Lanes.{EachOf, EntryOf}
 use Rattle.ldc_queue.specs.declared.end.End.TheVariants.{A}
 use Rattle.net_lane.specs.Stepping.{TellsLength, net_answer}
-use Rattle.port_model.specs.NetEvent.{Steps}
-use Rattle.port_model.specs.PortState.{OnLane, PortState}
+use Rattle.lane_models.specs.NetEvent.{Steps}
+use Rattle.lane_models.specs.PortState.{OnLane, PortState}
 use Rattle.switch_laws.specs.Events.{OnPort}
 use Rattle.switch_laws.specs.Ports.{ports}
 use Rattle.switch_laws.specs.Reached.{IsReached}

@@ -2,7 +2,7 @@ use Rattle.std.proofs.Common.{ℕ, List, sym, subst}
 use Rattle.lane_kinds.specs.Lanes.{EachOf}
 use Rattle.ldc_queue.specs.declared.end.End.TheVariants.{B}
 use Rattle.net_lane.specs.Stepping.{TellsLength}
-use Rattle.port_model.specs.PortState.{PortState}
+use Rattle.lane_models.specs.PortState.{PortState}
 use Rattle.switch_laws.specs.Reached.{IsReached}
 use Rattle.switched_ports.proofs.HubEvents.{differs, few_ids, hub_entry, hub_last, hub_none, hub_one, hub_tied, known_there, none_more, reached_there}
 use Rattle.switched_ports.proofs.OwnSteps.{entry_resets, entry_takes}

@@ -1,6 +1,6 @@
 use Rattle.std.proofs.Common.{◌≡◌, ℕ, List, length, refl, sym, ap, subst, ◌∙◌}
 use Rattle.net_lane.specs.Events.{ticked_event}
-use Rattle.port_model.specs.NetLaneStep.{NetLaneStep}
+use Rattle.lane_models.specs.NetLaneStep.{NetLaneStep}
 use Rattle.switched_ports.specs.States.{queue_at}
 use Rattle.switched_ports.proofs.Aside.{ticked_aside}
 use Rattle.switched_ports.proofs.Asides.{aside_entry, aside_none, aside_tied, queue_seen}

@@ -1,5 +1,5 @@
 use Rattle.std.proofs.Common.{sym, subst}
-use Rattle.disk_model.specs.ClientState.{ClientState}
+use Rattle.lane_models.specs.ClientState.{ClientState}
 use Rattle.disk_requests.proofs.Cookies.{own_form}
 use Rattle.vdisk_client.proofs.Standing.{fresh_stands}
 use Rattle.vdisk_client.specs.Standing.{Stands}

@@ -1,5 +1,5 @@
 use Rattle.std.proofs.Common.{◌∙◌, ap}
-use Rattle.disk_model.specs.ClientState.{ClientState}
+use Rattle.lane_models.specs.ClientState.{ClientState}
 use Rattle.vdisk_client.proofs.Keeping.{steps_keep}
 use Rattle.vdisk_client.proofs.Unmoved.{Fixed}
 use Rattle.vdisk_client.proofs.client.Client.step_into.Goals as goal

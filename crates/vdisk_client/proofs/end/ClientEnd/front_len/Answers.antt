@@ -2,7 +2,7 @@ use Rattle.std.proofs.Common.{◌≡◌, ◌≤◌, Some, slice_get, arith, sym,
 use Rattle.std.specs.Option.{option_copied}
 use Rattle.vdisk_msg.specs.declared.request.Request.TheVariants.{Read}
 use Rattle.vdisk_msg.specs.Requests.{AreSound}
-use Rattle.disk_model.specs.ClientState.{ClientState}
+use Rattle.lane_models.specs.ClientState.{ClientState}
 use Rattle.vdisk_client.proofs.Requests.{front_read}
 use Rattle.vdisk_client.proofs.end.ClientEnd.front_len.Goals as goal
 

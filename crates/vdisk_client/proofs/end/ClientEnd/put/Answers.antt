@@ -1,7 +1,7 @@
 use Rattle.std.proofs.Common.{◌≡◌, true, is_some, sym, ap, ◌∙◌, subst}
-use Rattle.disk_model.specs.ClientPutting.{is_announcing}
-use Rattle.disk_model.specs.ClientState.{ClientState}
-use Rattle.channel_laws.specs.EndPuts.{put_opens}
+use Rattle.lane_models.specs.ClientPutting.{is_announcing}
+use Rattle.lane_models.specs.ClientState.{ClientState}
+use Rattle.lane_models.specs.EndPuts.{put_opens}
 use Rattle.vdisk_client.proofs.HeldPuts.{handshake_owes, own_counts, put_sent}
 use Rattle.vdisk_client.specs.declared.answers.ClientOut.TheVariants as out
 use Rattle.ldc_link.specs.LinkState.{is_up}

@@ -1,6 +1,6 @@
 use Rattle.std.proofs.Common.{◌≡◌, false, subst, sym, ◌∙◌}
 use Rattle.ldc_link.specs.Putting.{owes}
-use Rattle.disk_model.specs.ClientState.{ClientState}
+use Rattle.lane_models.specs.ClientState.{ClientState}
 use Rattle.vdisk_client.proofs.Rules.{puts_on, puts_owed}
 use Rattle.vdisk_client.proofs.end.ClientEnd.put_first.Goals as goal
 

@@ -1,6 +1,6 @@
 use Rattle.std.proofs.Common.{◌≡◌, sym, subst}
-use Rattle.disk_model.specs.ClientState.{ClientState}
-use Rattle.disk_model.specs.ClientRule.{puts_first, takes_first}
+use Rattle.lane_models.specs.ClientState.{ClientState}
+use Rattle.lane_models.specs.ClientRule.{puts_first, takes_first}
 use Rattle.vdisk_client.proofs.HeardFails.{hear_fails, whole_begun}
 use Rattle.vdisk_client.specs.Calls.{Steps, rule_of, sees}
 use Rattle.vdisk_client.specs.Standing.{TranscriptStands}

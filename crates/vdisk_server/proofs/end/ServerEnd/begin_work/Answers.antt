@@ -1,5 +1,5 @@
 use Rattle.std.proofs.Common.{◌≡◌, Some, ap, subst, ◌∙◌}
-use Rattle.disk_model.specs.ServerState.{ServerState, Work}
+use Rattle.lane_models.specs.ServerState.{ServerState, Work}
 use Rattle.vdisk_server.specs.Rules.{one_fetched, work_begun}
 use Rattle.vdisk_server.specs.contracts.end.ServerEnd.{the_view}
 use Rattle.vdisk_server.proofs.end.ServerEnd.begin_work.Goals as goal

@@ -1,6 +1,6 @@
 use Rattle.std.proofs.Common.{ap, ◌∙◌}
-use Rattle.disk_model.specs.ServerState.{ServerSession}
-use Rattle.disk_model.specs.ServerWork.{slot_at}
+use Rattle.lane_models.specs.ServerState.{ServerSession}
+use Rattle.lane_models.specs.ServerWork.{slot_at}
 use Rattle.vdisk_server.proofs.SlotSteps.{finish_resets, finish_step}
 use Rattle.vdisk_server.proofs.end.ServerEnd.finish.Goals as goal
 

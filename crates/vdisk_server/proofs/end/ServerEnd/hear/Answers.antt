@@ -1,7 +1,7 @@
 use Rattle.std.proofs.Common.{◌≡◌, ap, sym, subst, ◌∙◌}
 use Rattle.ldc_link.specs.LinkState.{cleared}
-use Rattle.disk_model.specs.ServerState.{ServerState, joined_server}
-use Rattle.disk_model.specs.ServerTaking.{reads}
+use Rattle.lane_models.specs.ServerState.{ServerState, joined_server}
+use Rattle.lane_models.specs.ServerTaking.{reads}
 use Rattle.vdisk_server.specs.Hearing.{CanHear, risen, took}
 use Rattle.vdisk_server.specs.contracts.end.ServerEnd.{the_view}
 use Rattle.vdisk_server.proofs.HearSteps.{can_cleared, can_of, cleared_at, decoded_at, hears_of, on_err_then, risen_joined}

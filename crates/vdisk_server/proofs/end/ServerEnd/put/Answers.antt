@@ -2,7 +2,7 @@ use Rattle.std.proofs.Common.{◌≡◌, true, false, is_some, ap, sym, subst, �
 use Rattle.ldc_link.specs.Calls.{Puts as PutsPacket}
 use Rattle.ldc_link.specs.LinkState.{LinkState, is_up}
 use Rattle.ldc_link.specs.Putting.{owes}
-use Rattle.disk_model.specs.ServerState.{ServerState}
+use Rattle.lane_models.specs.ServerState.{ServerState}
 use Rattle.vdisk_server.specs.declared.answers.ServerOut.TheVariants as out
 use Rattle.vdisk_server.specs.declared.putting.PutOf.{PutOf}
 use Rattle.vdisk_server.specs.Putting.{PutsNext, PutsRightly, noted, put_of}

@@ -3,9 +3,9 @@ use Rattle.cookie_copy.specs.Faults.{is_up as is_configured}
 use Rattle.ldc_link.specs.LinkState.{offered}
 use Rattle.vio_tag.specs.declared.message.Message.{Message}
 use Rattle.vio_tag.specs.Spelling.{canonical}
-use Rattle.disk_model.specs.ServerPutting.{server_holds}
-use Rattle.disk_model.specs.ServerRule.{ServerRule}
-use Rattle.disk_model.specs.ServerState.{ServerState}
+use Rattle.lane_models.specs.ServerPutting.{server_holds}
+use Rattle.lane_models.specs.ServerRule.{ServerRule}
+use Rattle.lane_models.specs.ServerState.{ServerState}
 use Rattle.vdisk_server.specs.Answering.{sees}
 use Rattle.vdisk_server.specs.Rules.{first_owed, owed_message, session_owes}
 use Rattle.vdisk_server.proofs.PutSteps.{puts_step}

@@ -1,5 +1,5 @@
 use Rattle.std.proofs.Common.{◌≡◌, Some, subst}
-use Rattle.disk_model.specs.ServerState.{ServerState}
+use Rattle.lane_models.specs.ServerState.{ServerState}
 use Rattle.descriptor_work.specs.Fields.{work_with}
 use Rattle.vdisk_server.specs.Answering.{Serves}
 use Rattle.vdisk_server.specs.contracts.end.ServerEnd.{the_view}

@@ -1,7 +1,7 @@
 use Rattle.std.proofs.Common.{◌≡◌, true, ap, sym, subst, ◌∙◌}
-use Rattle.disk_model.specs.ServerPutting.{server_holds}
-use Rattle.disk_model.specs.ServerRule.{ServerRule}
-use Rattle.disk_model.specs.ServerState.{ServerState}
+use Rattle.lane_models.specs.ServerPutting.{server_holds}
+use Rattle.lane_models.specs.ServerRule.{ServerRule}
+use Rattle.lane_models.specs.ServerState.{ServerState}
 use Rattle.vdisk_server.specs.Answering.{sees}
 use Rattle.ldc_link.specs.Putting.{owes}
 use Rattle.vdisk_server.proofs.PutSteps.{puts_step}

@@ -1,6 +1,6 @@
 use Rattle.std.proofs.Common.{◌≡◌, None, sym, subst, ◌∙◌}
-use Rattle.disk_model.specs.ServerRule.{server_rule, takes_first}
-use Rattle.disk_model.specs.ServerState.{ServerState}
+use Rattle.lane_models.specs.ServerRule.{server_rule, takes_first}
+use Rattle.lane_models.specs.ServerState.{ServerState}
 use Rattle.vdisk_server.specs.declared.answers.ServerOut.TheVariants as out
 use Rattle.vdisk_server.specs.Answering.{StepsAlone, sees}
 use Rattle.vdisk_server.specs.Standing.{Stands}

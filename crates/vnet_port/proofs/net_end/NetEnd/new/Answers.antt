@@ -1,5 +1,5 @@
 use Rattle.std.proofs.Common.{sym, subst}
-use Rattle.port_model.specs.NetEndState.{NetEndState}
+use Rattle.lane_models.specs.NetEndState.{NetEndState}
 use Rattle.vnet_port.proofs.Standing.{fresh_stands}
 use Rattle.vnet_port.specs.Standing.{Stands}
 use Rattle.vnet_port.proofs.net_end.NetEnd.new.Goals as goal

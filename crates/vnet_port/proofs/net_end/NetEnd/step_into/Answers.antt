@@ -1,5 +1,5 @@
 use Rattle.std.proofs.Common.{◌∙◌, ap}
-use Rattle.port_model.specs.NetEndState.{NetEndState}
+use Rattle.lane_models.specs.NetEndState.{NetEndState}
 use Rattle.vnet_port.proofs.Keeping.{steps_keep}
 use Rattle.vnet_port.proofs.KeptPuts.{Fixed}
 use Rattle.vnet_port.proofs.net_end.NetEnd.step_into.Goals as goal

@@ -1,8 +1,8 @@
 use Rattle.std.proofs.Common.{◌≡◌, ◌+◌, true, refl, sym, subst, None, Option, ap, Some, ◌∙◌}
 use Rattle.cookie_copy.specs.Reach.{Reach}
-use Rattle.port_model.specs.NetEndRule.{Announces}
-use Rattle.port_model.specs.NetEndState.{NetEndState, NetSession}
-use Rattle.port_model.specs.NetEndPutting.{announcement}
+use Rattle.lane_models.specs.NetEndRule.{Announces}
+use Rattle.lane_models.specs.NetEndState.{NetEndState, NetSession}
+use Rattle.lane_models.specs.NetEndPutting.{announcement}
 use Rattle.std.specs.Prelude.{is_none}
 use Rattle.vio_tag.specs.declared.message.Message.{Message}
 use Rattle.vnet_port.specs.Putting.{put_of}

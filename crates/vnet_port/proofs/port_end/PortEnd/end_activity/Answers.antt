@@ -1,9 +1,9 @@
 use Rattle.std.proofs.Common.{◌≡◌, ℕ, List, Option, sym, ◌∙◌, ap, subst, true, None, Some}
 use Rattle.map_table.specs.declared.table.Entry.{Entry}
-use Rattle.port_model.specs.Fetching.{NotReady, fetched}
-use Rattle.port_model.specs.NetEndPutting.{answer}
-use Rattle.port_model.specs.NetEndRule.{Fetches}
-use Rattle.port_model.specs.NetEndState.{Activity, NetEndState, NetSession}
+use Rattle.lane_models.specs.Fetching.{NotReady, fetched}
+use Rattle.lane_models.specs.NetEndPutting.{answer}
+use Rattle.lane_models.specs.NetEndRule.{Fetches}
+use Rattle.lane_models.specs.NetEndState.{Activity, NetEndState, NetSession}
 use Rattle.std.specs.Prelude.{is_none}
 use Rattle.vio_tag.specs.declared.message.Message.{Message}
 use Rattle.vnet_port.specs.Putting.{put_of}

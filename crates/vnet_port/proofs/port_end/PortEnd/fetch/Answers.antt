@@ -1,7 +1,7 @@
 use Rattle.std.proofs.Common.{◌≡◌, Some, sym, ◌∙◌, ap}
-use Rattle.port_model.specs.Fetching.{NotReady, Refuses, fetched}
-use Rattle.port_model.specs.NetEndRule.{Fetches}
-use Rattle.port_model.specs.NetEndState.{NetEndState, NetSession}
+use Rattle.lane_models.specs.Fetching.{NotReady, Refuses, fetched}
+use Rattle.lane_models.specs.NetEndRule.{Fetches}
+use Rattle.lane_models.specs.NetEndState.{NetEndState, NetSession}
 use Rattle.port_frames.specs.Memories.{reach_over}
 use Rattle.port_frames.specs.Fetches.{found_fault}
 use Rattle.vnet_port.proofs.FetchEnds.{fetch_ends, fetch_refused, fetched_steps, still_fetches}

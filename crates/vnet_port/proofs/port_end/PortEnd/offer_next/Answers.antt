@@ -1,6 +1,6 @@
 use Rattle.std.proofs.Common.{sym, ◌∙◌, refl, List, ℕ, Option}
 use Rattle.map_table.specs.declared.table.Entry.{Entry}
-use Rattle.port_model.specs.NetEndState.{NetSession}
+use Rattle.lane_models.specs.NetEndState.{NetSession}
 use Rattle.vnet_port.proofs.RuleChosen.{announces_in, idles_in, publishes_in, tells_in}
 use Rattle.vnet_port.specs.Calls.{role_of}
 use Rattle.vnet_port.specs.Stepping.{rule_of}

@@ -2,8 +2,8 @@ use Rattle.std.proofs.Common.{◌≡◌, ◌≢◌, None, sym, subst, ◌∙◌,
 use Rattle.ldc_link.specs.Calls.{Sends}
 use Rattle.ldc_link.specs.declared.answers.SendOut.TheVariants as send
 use Rattle.ldc_queue.specs.declared.end.End.{End}
-use Rattle.port_model.specs.NetEndState.{NetEndState}
-use Rattle.channel_laws.specs.EndPuts.{put_opens}
+use Rattle.lane_models.specs.NetEndState.{NetEndState}
+use Rattle.lane_models.specs.EndPuts.{put_opens}
 use Rattle.vnet_port.proofs.SentSteps.{handshake_owes, put_sent}
 use Rattle.vnet_port.specs.declared.putting.PutOf.{PutOf}
 use Rattle.vnet_port.specs.Putting.{MayOpen, PutsHeld, kind_of, next_put, noted}

@@ -1,8 +1,8 @@
 use Rattle.std.proofs.Common.{◌≡◌, None, refl, sym, subst, true, Option, ap, Some, ◌∙◌}
 use Rattle.cookie_copy.specs.Reach.{Reach}
-use Rattle.port_model.specs.NetEndRule.{Replies}
-use Rattle.port_model.specs.NetEndState.{NetEndState, NetSession}
-use Rattle.port_model.specs.NetEndPutting.{groups_answer}
+use Rattle.lane_models.specs.NetEndRule.{Replies}
+use Rattle.lane_models.specs.NetEndState.{NetEndState, NetSession}
+use Rattle.lane_models.specs.NetEndPutting.{groups_answer}
 use Rattle.std.specs.Prelude.{is_none}
 use Rattle.vio_tag.specs.declared.message.Message.{Message}
 use Rattle.vnet_port.specs.Putting.{put_of}

@@ -3,8 +3,8 @@ use Rattle.ldc_queue.specs.ChannelView.{channel_without_first}
 use Rattle.ldc_queue.specs.declared.end.ChannelState.TheVariants.{Up}
 use Rattle.ldc_queue.specs.declared.end.End.{End}
 use Rattle.ldc_queue.specs.Wire.{state_of, waiting_for}
-use Rattle.port_model.specs.NetEndRule.{Takes}
-use Rattle.port_model.specs.NetEndState.{NetEndState}
+use Rattle.lane_models.specs.NetEndRule.{Takes}
+use Rattle.lane_models.specs.NetEndState.{NetEndState}
 use Rattle.vnet_port.proofs.Heard.{heard_resets, may_hear, takes_on}
 use Rattle.vnet_port.proofs.LinkTakes.{bytes_took}
 use Rattle.vnet_port.specs.Calls.{end_of}

@@ -1,7 +1,7 @@
 use Rattle.std.proofs.Common.{refl, sym, ap, ◌∙◌, subst}
 use Rattle.port_frames.specs.Memories.{reach_over}
-use Rattle.port_model.specs.Fetching.{fetched}
-use Rattle.port_model.specs.NetEndState.{NetEndState, peer_ring}
+use Rattle.lane_models.specs.Fetching.{fetched}
+use Rattle.lane_models.specs.NetEndState.{NetEndState, peer_ring}
 use Rattle.vnet_port.proofs.FetchEnds.{takes_frame}
 use Rattle.vnet_port.specs.contracts.port_end.PortEnd.{the_view}
 use Rattle.vnet_port.specs.Fetches.{TakesFrame}

@@ -1,8 +1,8 @@
 use Rattle.std.proofs.Common.{◌≡◌, true, false, refl, sym, subst, None, Option, ap, Some, ◌∙◌}
 use Rattle.cookie_copy.specs.Reach.{Reach}
-use Rattle.port_model.specs.NetEndRule.{Tells}
-use Rattle.port_model.specs.NetEndState.{NetEndState, NetSession}
-use Rattle.port_model.specs.Groups.{membership}
+use Rattle.lane_models.specs.NetEndRule.{Tells}
+use Rattle.lane_models.specs.NetEndState.{NetEndState, NetSession}
+use Rattle.lane_models.specs.Groups.{membership}
 use Rattle.std.specs.Prelude.{is_none}
 use Rattle.vio_tag.specs.declared.message.Message.{Message}
 use Rattle.vnet_port.specs.Putting.{put_of}

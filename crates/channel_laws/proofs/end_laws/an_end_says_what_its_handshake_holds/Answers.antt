@@ -1,5 +1,0 @@
-use Rattle.channel_laws.proofs.Sessions.{said_as_held}
-use Rattle.channel_laws.proofs.end_laws.an_end_says_what_its_handshake_holds.Goals as goal
-
-pub returns : goal.returns
-returns c = said_as_held

@@ -1,5 +1,0 @@
-use Rattle.channel_laws.proofs.Numbering.{heard_lawful}
-use Rattle.channel_laws.proofs.end_laws.what_an_end_hears_may_come.Goals as goal
-
-pub returns : goal.returns
-returns c = heard_lawful

@@ -1,5 +1,0 @@
-use Rattle.channel_laws.proofs.Sessions.{open_sessions_one, open_sessions_up}
-use Rattle.channel_laws.proofs.pair_laws.open_sessions_of_both_ends_are_one.Goals as goal
-
-pub returns : goal.returns
-returns c = record { up = open_sessions_up; one = open_sessions_one }

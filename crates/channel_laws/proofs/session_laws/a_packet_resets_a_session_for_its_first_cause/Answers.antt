@@ -1,6 +1,0 @@
-use Rattle.channel_laws.proofs.CausesSaid.{cause_said}
-use Rattle.channel_laws.proofs.PacketCauses.{run_judges}
-use Rattle.channel_laws.proofs.session_laws.a_packet_resets_a_session_for_its_first_cause.Goals as goal
-
-pub returns : goal.returns
-returns c = record { first = run_judges; says = cause_said }
