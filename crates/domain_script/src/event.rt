@@ -80,7 +80,7 @@ pub struct EndName {
 }
 
 /// What a line of a script tells the domains to do.
-#[derive(Clone, Copy, Debug)]
+#[derive(Clone, Copy)]
 pub enum Event {
     /// An empty line or a line that begins with `#`.
     Blank,

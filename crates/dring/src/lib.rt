@@ -11,4 +11,7 @@ mod ring;
 
 pub use laws::{one_lap_of_a_ring, one_slot_at_a_time};
 pub use peer::{PeerRing, RingFault, fetch, mark, put_word, range_length, slot_of};
-pub use ring::{Ring, VIO_DESC_ACCEPTED, VIO_DESC_DONE, VIO_DESC_FREE, VIO_DESC_READY};
+pub use ring::{
+    Ring, VIO_DESC_ACCEPTED, VIO_DESC_DONE, VIO_DESC_FREE, VIO_DESC_READY,
+    states_are_those_of_the_standard,
+};

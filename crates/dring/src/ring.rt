@@ -25,6 +25,14 @@ pub const VIO_DESC_ACCEPTED: u8 = 3;
 /// That of one that the other end is done with.
 pub const VIO_DESC_DONE: u8 = 4;
 
+/// The states have the numbers of the standard.
+pub fn states_are_those_of_the_standard()
+    ensures free { VIO_DESC_FREE ≡ 1 }
+    ensures ready { VIO_DESC_READY ≡ 2 }
+    ensures accepted { VIO_DESC_ACCEPTED ≡ 3 }
+    ensures done { VIO_DESC_DONE ≡ 4 }
+{}
+
 impl<const SLOT: usize> Ring<SLOT> {
     /// A ring of so many slots. Nothing is written.
     pub fn new(slots: u32) -> Ring<SLOT>

@@ -1,5 +1,7 @@
-ghost use Rattle.std.specs.Prelude.{◌≡◌, [], Some, IfOk};
-ghost use Rattle.vio_io.specs.Causes.{last_count};
+ghost use Rattle.std.specs.Prelude.{◌≡◌, ◌<◌, ◌≤◌, [], Some, IfOk, IsErr, length, min};
+ghost use Rattle.std.specs.Io.KnownBytes.{ReadConsumes};
+ghost use Rattle.vio_io.specs.Causes.{Fails, last_count};
+ghost use Rattle.vio_io.specs.Ends.{SaysEnd};
 
 use std::alloc::Global;
 use std::marker::Model;
@@ -12,13 +14,13 @@ pub struct InfallibleSource {
 }
 
 impl Model for InfallibleSource {
-    ghost use Rattle.std.specs.Prelude.{◌≡◌, ℕ, List, []};
+    ghost use Rattle.std.specs.Prelude.{◌≡◌, ℕ, ◌-◌, ◌^◌, List, []};
 
     ghost Value = { List ℕ };
 
     ghost view = { λ s. s.list.left };
 
-    ghost invariant = { λ s. s.list.plan.failing ≡ [] };
+    ghost invariant = { λ s. (s.list.plan.failing ≡ []) × (s.list.piece ≡ 2 ^ 64 - 1) };
 }
 
 impl InfallibleSource {
@@ -40,7 +42,15 @@ impl Source for InfallibleSource {
     // It doesn't count: the count stands at its last value.
     ghost ends = { λ _. last_count };
 
-    fn read(&mut self, buf: &mut [u8]) -> Result<usize, Failed> {
+    fn read(&mut self, buf: &mut [u8]) -> Result<usize, Failed>
+        requires { 0 < length buf.old }
+        ensures within { IfOk result (λ n. n ≤ length buf.old) }
+        ensures told { ReadConsumes (Some self.old) (Some self.new) result buf.new }
+        ensures faults { Fails (IsErr result) 0 0 }
+        ensures ends { SaysEnd (result ≡ Ok 0) last_count last_count }
+
+        ensures gives { IfOk result (λ n. n ≡ min (length buf.old) (length self.old)) }
+    {
         match self.list.read(buf) {
             Ok(taken) => Ok(taken),
             Err(Failed) => unreachable!(),

@@ -17,7 +17,7 @@ use Rattle.lane_models.specs.NetEndPutting.{answer, announcement, answers, group
 use Rattle.lane_models.specs.Groups.{membership}
 use Rattle.lane_models.specs.NetEndRule.{Announces, Fetches, NetRule, Publishes, Replies, Tells, port_rule}
 use Rattle.lane_models.specs.NetEndState.{Activity, NetEndState, NetSession, fresh_net_end, joined_net_end, unseen, unseen_in, with_frame}
-use Rattle.lane_models.specs.NetEndStep.{Frame, Given, Joined, Joining, NetAnswer, NetEndStep, NetGives, NetJoins, NetLeft, Published, Reset, Took, untold}
+use Rattle.lane_models.specs.NetEndStep.{Frame, Given, Joined, Joining, NetAnswer, NetEndStep, NetGives, NetJoins, NetLeft, Published, Reset, Took}
 use Rattle.lane_models.specs.NetEvent.{Asked, CalmTick, Declines, Gives, Injects, Joins, Loses, NetEvent, Pokes, Steps, Ticked}
 use Rattle.lane_models.specs.NetLaneState.{NetLaneState, fresh_net, memory_of, net_end, reach_of, seen_at}
 use Rattle.lane_models.specs.NetLaneStep.{NetLaneStep, Resets}

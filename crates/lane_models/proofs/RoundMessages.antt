@@ -2,7 +2,6 @@
 use Rattle.std.proofs.Common.{refl, arith}
 use Rattle.vio_tag.specs.Form as message_form
 use Rattle.lane_models.specs.FirstRounds.{attr_ack, attr_info, data_info, rdx_ack, rdx_info, reg_ack, reg_info, ver_ack, ver_info}
-use Rattle.map_table.specs.Cookies.{no_cookie}
 
 pub ver_info_form : message_form.IsWellFormed ver_info
 ver_info_form = tt

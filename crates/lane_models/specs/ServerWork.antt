@@ -3,7 +3,6 @@
 use Rattle.std.specs.Prelude.{◌≡◌, ℕ, ◌+◌, ◌-◌, ◌*◌, ◌/◌, ◌%◌, min, Bool, true, false, nat_lt, ◌==◌, if◌then◌else◌, List, [], length, slice_index, take, ◌⊎◌, Option, Some, None}
 use Rattle.cookie_copy.specs.declared.fault.Access.TheVariants.{Read, Write}
 use Rattle.cookie_copy.specs.declared.fault.CopyFault.{CopyFault}
-use Rattle.cookie_copy.specs.declared.fault.CopyFault.TheVariants as fault
 use Rattle.cookie_copy.specs.Faults.{first_copy_fault}
 use Rattle.cookie_copy.specs.Moved.{moved_in, moved_out}
 use Rattle.dring.specs.declared.peer.RingFault.{RingFault}

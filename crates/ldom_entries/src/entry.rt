@@ -29,7 +29,7 @@ pub enum Why {
 /// What happened at one step of a run. A disk goes by its number in the order of declaration, counted from 0, and so
 /// does a port; a request or a frame of it by its id, likewise; an end by the lane and the side. A packet is its 64
 /// bytes.
-#[derive(Debug, Drop)]
+#[derive(Drop)]
 pub enum Entry {
     /// A guest's request was taken up.
     Accepted {

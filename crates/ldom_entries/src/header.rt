@@ -25,7 +25,7 @@ pub struct EndMark {
 
 /// The kind of an entry, its lane and its flags, in eight bytes: the number stands last, so that no gap is before it.
 /// What else it has stands in lists beside it, and so does all of an entry that is kept whole.
-#[derive(Clone, Copy, Debug, PartialEq, Eq)]
+#[derive(Clone, Copy)]
 pub enum Header {
     /// Beside it: the id, and the request.
     Accepted {

@@ -5,7 +5,7 @@ use crate::Entry;
 use std::marker::Model;
 
 /// An entry of a kind that the journal keeps whole. A clause sees the entry.
-#[derive(Debug, Drop)]
+#[derive(Drop)]
 pub struct WholeEntry {
     entry: Entry,
 }

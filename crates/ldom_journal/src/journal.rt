@@ -16,7 +16,7 @@ use vio_tag::Cause;
 
 /// The entries of a run in the order in which they came, and the room that is left for more of them. Those that a
 /// report counts are counted as they come.
-#[derive(Debug, Drop)]
+#[derive(Drop)]
 pub struct Journal {
     kept: KeptEntries,
     accepted: usize,

@@ -11,7 +11,7 @@ use vio_tag::Cause;
 
 /// The entries of a journal as they are kept, and the room that is left for more of them. An entry is a header of eight
 /// bytes; what else it has stands in lists beside the headers, each in the order of the entries.
-#[derive(Debug, Drop)]
+#[derive(Drop)]
 pub(crate) struct KeptEntries {
     headers: Vec<Header>,
     parts: Parts,

@@ -9,7 +9,7 @@ use vio_tag::Cause;
 
 /// What stands beside the headers of a journal: eight lists, each in the order of the entries, and the room that is
 /// left for more of them.
-#[derive(Debug, Drop)]
+#[derive(Drop)]
 pub(crate) struct Parts {
     numbers: Vec<u64>,
     packets: TrimmedArrays,

@@ -1,6 +1,6 @@
 -- The sample script: its draws, and the events that its lines spell.
-use Rattle.std.proofs.Common.{◌≡◌, refl, sym, ap, subst, ◌∙◌, ℕ, zero, suc, ◌+◌, ◌*◌, ◌/◌, ◌%◌, ◌^◌, ◌<◌, ◌≤◌, Bool, true, false, List, [], ◌∷◌, ◌++◌, length, map, Some, Result, Ok, Err, IfOk, append_assoc, append-nil, arith}
-use Rattle.std.specs.Prelude.{◌==◌, nat_lt, if◌then◌else◌, decimal, replicate, take, ⊤}
+use Rattle.std.proofs.Common.{◌≡◌, refl, sym, ap, subst, ◌∙◌, ℕ, zero, suc, ◌+◌, ◌*◌, ◌/◌, ◌%◌, ◌<◌, ◌≤◌, Bool, true, false, List, [], ◌∷◌, ◌++◌, length, map, Some, Result, Ok, Err, IfOk, append_assoc, append-nil, arith}
+use Rattle.std.specs.Prelude.{◌==◌, nat_lt, if◌then◌else◌, decimal, ⊤}
 use Rattle.std.specs.Int.RustNames.{count_ones}
 use Rattle.std.specs.List.{range_with_len}
 use Rattle.std.proofs.lemmas.Fmt.{length-decimal-le}
@@ -12,8 +12,6 @@ use Rattle.hex.proofs.HexLemmas.{length-encode_with}
 use Rattle.kept_requests.specs.Bytes.{BytesState, filled}
 use Rattle.vdisk_msg.specs.Fills.{IsFill}
 use Rattle.vdisk_msg.specs.declared.request.Request.TheVariants.{Read, Write}
-use Rattle.domain_script.specs.declared.event.DiskDecl.{DiskDecl}
-use Rattle.domain_script.specs.declared.event.EndName.{EndName}
 use Rattle.domain_script.specs.declared.event.Event.{Event}
 use Rattle.domain_script.specs.declared.event.Event.TheVariants as line
 use Rattle.domain_script.specs.spelled.Name.{Name}
@@ -21,7 +19,7 @@ use Rattle.domain_script.specs.declared.fields.LaneKind.{LaneKind}
 use Rattle.domain_script.specs.declared.fields.LaneKind.TheVariants as lanes
 use Rattle.domain_script.specs.LaneKinds.{disk_lane, lane_at}
 use Rattle.domain_script.specs.NamesState.{NamesDiffer, NamesState, lane_name, noted}
-use Rattle.domain_script.specs.Printed.{CanPrint, EventBytes, followed_by, line_text}
+use Rattle.domain_script.specs.Printed.{CanPrint, followed_by, line_text}
 use Rattle.domain_script.specs.ScriptEvents.{AllSpell, no_names}
 use Rattle.domain_script.specs.ScriptLines.{AreShort, fed, script_lines}
 use Rattle.domain_script.specs.Spells.{Spells}

@@ -1,9 +1,9 @@
 // The layout of a disk descriptor.
 
-ghost use Rattle.std.specs.Prelude.{◌∷◌, []};
+ghost use Rattle.std.specs.Prelude.{◌≡◌, ◌*◌, ◌∷◌, []};
 ghost use Rattle.vio_bytes.specs.Layout.{IsLayout};
 
-use vio_bytes::Table;
+use vio_bytes::{PAGE, Table};
 
 /// The head of a disk descriptor, after which its cookies stand: `struct vio_disk_desc` of Linux's
 /// vio.h, which begins with `struct vio_dring_hdr`.
@@ -71,6 +71,18 @@ pub(crate) const NCOOKIES: usize = 8;
 
 /// The most cookies of one descriptor.
 pub(crate) const MOST_COOKIES: u32 = 5;
+
+/// A slot, the operations and the sizes have the numbers of the standard and of this profile.
+pub fn disks_have_the_numbers_of_the_standard()
+    ensures slot { SLOT ≡ 128 }
+    ensures read { VD_OP_BREAD ≡ 1 }
+    ensures write { VD_OP_BWRITE ≡ 2 }
+    ensures flush { VD_OP_FLUSH ≡ 3 }
+    ensures block { BLOCK ≡ 512 }
+    ensures blocks { MOST_BLOCKS ≡ 64 }
+    ensures bytes { MOST_BYTES ≡ MOST_BLOCKS * BLOCK }
+    ensures pages { BUFFER_PAGES * PAGE ≡ MOST_BYTES }
+{}
 
 /// The table has the struct's places, widths and length, so its fields don't overlap and lie within it.
 pub fn layouts_are_sound()

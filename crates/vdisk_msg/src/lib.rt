@@ -21,6 +21,6 @@ pub use encoding::encode;
 pub use laws::descriptors_read_back;
 pub use layout::{
     BLOCK, BUFFER_PAGES, MOST_BLOCKS, MOST_BYTES, SLOT, VD_OP_BREAD, VD_OP_BWRITE, VD_OP_FLUSH,
-    layouts_are_sound,
+    disks_have_the_numbers_of_the_standard, layouts_are_sound,
 };
 pub use request::{Fill, Request};

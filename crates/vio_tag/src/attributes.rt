@@ -1,6 +1,6 @@
 // The attributes of devices, and their bytes.
 
-ghost use Rattle.std.specs.Prelude.{◌≡◌};
+ghost use Rattle.std.specs.Prelude.{◌≡◌, ◌+◌, ◌^◌};
 ghost use Rattle.vio_tag.specs.Attributes.{DiskAttrHasWidths, NetAttrHasWidths, disk_attr_bytes, disk_attr_of, net_attr_bytes, net_attr_of};
 
 use crate::layout::{
@@ -15,6 +15,11 @@ use vio_bytes::{
 /// The operations of a disk in its attributes, a bit for each code (`VD_OP_BREAD`, `VD_OP_BWRITE` and `VD_OP_FLUSH`
 /// of Linux's vio.h): read, write and flush.
 pub const DISK_OPERATIONS: u64 = 0x0e;
+
+/// They are the bits of the three codes, 1 to 3.
+pub fn operations_have_the_bits_of_the_standard()
+    ensures { DISK_OPERATIONS ≡ 2 ^ 1 + 2 ^ 2 + 2 ^ 3 }
+{}
 
 /// The attributes of a disk (`struct vio_disk_attr_info` of Linux's vio.h).
 #[derive(Clone, Copy, Debug, PartialEq, Eq)]

@@ -1,7 +1,7 @@
 // The layouts of messages, by their places in the message, and of attributes, by their places in the 48
 // bytes after the tag: the structs of Linux's vio.h.
 
-ghost use Rattle.std.specs.Prelude.{◌∷◌, []};
+ghost use Rattle.std.specs.Prelude.{◌≡◌, ◌∷◌, []};
 ghost use Rattle.vio_bytes.specs.Layout.{IsLayout};
 
 use vio_bytes::Table;
@@ -106,6 +106,13 @@ pub const VIO_DRING_ACTIVE: u8 = 1;
 
 /// A ring isn't worked any more: the other state.
 pub const VIO_DRING_STOPPED: u8 = 2;
+
+/// A ring's most cookies and its states have the numbers of the standard.
+pub fn rings_have_the_numbers_of_the_standard()
+    ensures cookies { MOST_RING_COOKIES ≡ 14 }
+    ensures active { VIO_DRING_ACTIVE ≡ 1 }
+    ensures stopped { VIO_DRING_STOPPED ≡ 2 }
+{}
 
 /// The end of a ring's registration: `struct vio_dring_unregister`.
 pub(crate) const DRING_UNREG: Table<1> = Table {

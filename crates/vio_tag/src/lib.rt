@@ -15,11 +15,15 @@ mod layout;
 mod message;
 
 pub use attributes::{
-    DISK_OPERATIONS, DiskAttr, NetAttr, disk_attr, net_attr, put_disk_attr, put_net_attr,
+    DISK_OPERATIONS, DiskAttr, NetAttr, disk_attr, net_attr,
+    operations_have_the_bits_of_the_standard, put_disk_attr, put_net_attr,
 };
 pub use cause::{Cause, packet_word, tag_word};
 pub use decoding::decode;
 pub use encoding::encode;
 pub use laws::{attributes_read_back, bytes_decode_once, spellings_are_unique};
-pub use layout::{MOST_RING_COOKIES, VIO_DRING_ACTIVE, VIO_DRING_STOPPED, layouts_are_sound};
+pub use layout::{
+    MOST_RING_COOKIES, VIO_DRING_ACTIVE, VIO_DRING_STOPPED, layouts_are_sound,
+    rings_have_the_numbers_of_the_standard,
+};
 pub use message::{Message, MsgBody, TagFault};

@@ -1,6 +1,6 @@
 // The layout of a net descriptor.
 
-ghost use Rattle.std.specs.Prelude.{◌∷◌, []};
+ghost use Rattle.std.specs.Prelude.{◌≡◌, ◌∷◌, []};
 ghost use Rattle.vio_bytes.specs.Layout.{IsLayout};
 
 use vio_bytes::Table;
@@ -40,6 +40,13 @@ pub const LEAST_FRAME: u32 = 14;
 
 /// The most bytes of a frame.
 pub const MOST_FRAME: u32 = 1514;
+
+/// A slot and the lengths of a frame have the numbers of the standard.
+pub fn frames_have_the_numbers_of_the_standard()
+    ensures slot { SLOT ≡ 64 }
+    ensures least { LEAST_FRAME ≡ 14 }
+    ensures most { MOST_FRAME ≡ 1514 }
+{}
 
 /// The table has the struct's places, widths and length, so its fields don't overlap and lie within it.
 pub fn layouts_are_sound()

@@ -17,4 +17,6 @@ pub use decoding::decode;
 pub use desc::NetDesc;
 pub use encoding::encode;
 pub use laws::{descriptors_read_back, frames_have_descriptors};
-pub use layout::{LEAST_FRAME, MOST_FRAME, SLOT, layouts_are_sound};
+pub use layout::{
+    LEAST_FRAME, MOST_FRAME, SLOT, frames_have_the_numbers_of_the_standard, layouts_are_sound,
+};

@@ -1,4 +1,3 @@
-use Rattle.std.proofs.Common.{◌≡◌, ℕ, List, length, get_or, replicate, Decides, subst, sym}
 use Rattle.kept_requests.proofs.BlockWords.{repeats_one}
 use Rattle.kept_requests.proofs.block_words.is_one_byte.Goals as goal
 

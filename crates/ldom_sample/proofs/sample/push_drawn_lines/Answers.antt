@@ -1,4 +1,4 @@
-use Rattle.std.proofs.Common.{◌≡◌, ℕ, ◌*◌, ◌+◌, List, ◌++◌, map, ap, ◌∙◌, arith, rules}
+use Rattle.std.proofs.Common.{◌≡◌, ℕ, ◌*◌, ◌+◌, ◌++◌, map, ap, ◌∙◌, arith}
 use Rattle.domain_script.specs.ScriptLines.{fed}
 use Rattle.ldom_sample.specs.Sample.{draw, drawn_events, sample_line}
 use Rattle.ldom_sample.proofs.Sampling.{can_print_drawn, draws_on, first_draw, line_put, none_on, none_put}

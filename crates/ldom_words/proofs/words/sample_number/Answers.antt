@@ -1,4 +1,4 @@
-use Rattle.std.proofs.Common.{ℕ, ◌<◌, ◌≤◌, sym, arith, rules}
+use Rattle.std.proofs.Common.{◌<◌, ◌≤◌, sym, arith, rules}
 use Rattle.script_words.specs.Words.{SpellsNumber}
 use Rattle.ldom_words.specs.Words.{sample_count}
 use Rattle.ldom_words.proofs.Deciding.{sample_spelled, sample_too_large}
