@@ -21,3 +21,8 @@ abbrev pub IsWithin : Kept → Type 0
 IsWithin (kept.Read block count) = ⊤
 IsWithin (kept.Write block count len front) = length front.items ≤ 1024
 IsWithin kept.Flush = ⊤
+
+-- the word of a write has 16 bytes at most
+abbrev pub HasFewBytes : Request → Type 0
+HasFewBytes (Write block count fill) = fill.len ≤ 16
+HasFewBytes other = ⊤

@@ -1,4 +1,4 @@
-ghost use Rattle.std.specs.Prelude.{◌≡◌, ◌↔◌, ◌+◌, ◌-◌, ◌*◌, ◌%◌, ◌<◌, ◌≤◌, [], ◌∷◌, ◌++◌, length, take, IsTrue, IfOk, OnOk};
+ghost use Rattle.std.specs.Prelude.{◌≡◌, ◌↔◌, ◌+◌, ◌-◌, ◌*◌, ◌%◌, ◌<◌, ◌≤◌, [], ◌∷◌, ◌++◌, length, take, IsOk, IsTrue, IfOk, OnOk};
 ghost use Rattle.std.specs.List.{sum};
 ghost use Rattle.kept_requests.specs.Bytes.{filled};
 ghost use Rattle.kept_requests.specs.Packed.{AreKept, block_of, unpacked};
@@ -63,18 +63,20 @@ impl Bytes {
         }
     }
 
-    /// These bytes, and no room.
+    /// These bytes, and no room. Up to 16 take no memory.
     pub fn from_slice(alloc: Global, bytes: &[u8]) -> Result<Self, NoMemory>
-        ensures { IfOk result (λ b. b ≡ filled bytes.now) }
+        ensures bytes { IfOk result (λ b. b ≡ filled bytes.now) }
+        ensures few { length bytes.now ≤ 16 → IsOk result }
     {
         let mut all = Self::with_room(alloc, bytes.len())?;
         all.fill(bytes);
         Ok(all)
     }
 
-    /// No bytes, and room for n of them.
+    /// No bytes, and room for n of them. That for up to 16 takes no memory.
     pub fn with_room(alloc: Global, n: usize) -> Result<Self, NoMemory>
-        ensures { IfOk result (λ b. b ≡ record { items = []; room = n }) }
+        ensures room { IfOk result (λ b. b ≡ record { items = []; room = n }) }
+        ensures few { n ≤ 16 → IsOk result }
     {
         Ok(Bytes {
             lengths: Lengths::with_capacity(alloc, n / BLOCK)?,

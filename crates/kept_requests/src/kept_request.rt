@@ -1,4 +1,5 @@
-ghost use Rattle.std.specs.Prelude.{◌≡◌, ◌-◌, ◌≤◌, ◌↔◌, ◌++◌, length, take, drop, replicate, IfOk, IsTrue};
+ghost use Rattle.std.specs.Prelude.{◌≡◌, ◌-◌, ◌≤◌, ◌↔◌, ◌++◌, length, take, drop, replicate, IfOk, IsOk, IsTrue};
+ghost use Rattle.vdisk_msg.specs.Fills.{IsFill};
 
 use smallvec::SmallVec;
 use std::alloc::Global;
@@ -41,9 +42,13 @@ impl Model for KeptRequest {
 }
 
 impl KeptRequest {
+    ghost use Rattle.kept_requests.specs.Kept.{HasFewBytes};
+    ghost use Rattle.vdisk_msg.specs.Fills.{IsRequest};
+
     /// Keeps a copy of a request.
     pub fn new(alloc: Global, request: &Request) -> Result<Self, NoMemory>
-        ensures { IfOk result (λ kept. kept ≡ request.now) }
+        ensures kept { IfOk result (λ kept. kept ≡ request.now) }
+        ensures few { IsRequest request.now → HasFewBytes request.now → IsOk result }
     {
         let inner = match request {
             Request::Read { block, count } => Kept::Read {
@@ -93,6 +98,7 @@ fn front(fill: &Fill) -> &[u8]
     ensures within { length result.now ≤ 1024 }
     ensures front { result.now ≡ take (length result.now) fill.now.bytes }
     ensures zeros { drop (length result.now) fill.now.bytes ≡ replicate (1024 - length result.now) 0 }
+    ensures short { IsFill fill.now → length result.now ≤ fill.now.len }
 {
     let (front, behind) = fill.bytes.split_at(usize::from(fill.len).min(1024));
     if are_zeros(behind) {

@@ -44,7 +44,7 @@ impl Model for Journal {
 
 #[tactic(auto, using(crate::proofs::Counting::counted))]
 impl Journal {
-    ghost use Rattle.std.specs.Prelude.{◌↔◌, ◌^◌, max, Some, IsTrue, IfSome, IsNone, OnErr, OnOk, slice_get};
+    ghost use Rattle.std.specs.Prelude.{◌↔◌, ◌^◌, max, Some, IsOk, IsTrue, IfSome, IsNone, OnErr, OnOk, slice_get};
     ghost use Rattle.kept_requests.specs.Bytes.{filled};
     ghost use Rattle.ldom_entries.specs.JournalState.{PutsEntry};
     ghost use Rattle.ldom_entries.specs.Told.{told};
@@ -64,11 +64,13 @@ impl Journal {
     }
 
     /// Makes room for n more entries, if there isn't yet. The memory grows by doubling, so that asking for one entry at
-    /// a time costs no more than linear time. After `NoMemory` the journal is as it was.
+    /// a time costs no more than linear time. Where there is that room already, nothing is asked for. After `NoMemory`
+    /// the journal is as it was.
     pub fn reserve(&mut self, n: usize) -> Result<(), NoMemory>
         ensures entries { self.new.entries ≡ self.old.entries }
         ensures room { OnOk result (self.new.room ≡ max self.old.room n) }
         ensures same { OnErr result (self.new.room ≡ self.old.room) }
+        ensures there { n ≤ self.old.room → IsOk result }
     {
         self.kept.reserve(n)
     }

@@ -39,7 +39,7 @@ const MOST_AT_ONCE: usize = 1 << 31;
 
 #[tactic(auto, using(crate::proofs::Decoding::entries_more, ldom_entries::proofs::EntryCount::entries_count))]
 impl KeptEntries {
-    ghost use Rattle.std.specs.Prelude.{◌↔◌, ◌^◌, max, IsTrue};
+    ghost use Rattle.std.specs.Prelude.{◌↔◌, ◌^◌, max, IsOk, IsTrue};
     ghost use Rattle.ldom_entries.specs.Beside.{nothing, only_numbers, only_packets};
     ghost use Rattle.ldom_entries.specs.JournalState.{PutsEntry};
     ghost use Rattle.ldom_journal.specs.PartsState.{with_frame, with_read};
@@ -58,11 +58,13 @@ impl KeptEntries {
     }
 
     /// Makes room for n more entries, if there isn't yet. The memory grows by doubling, so that asking for one entry at
-    /// a time costs no more than linear time. After `NoMemory` the entries are as they were.
+    /// a time costs no more than linear time. Where there is that room already, nothing is asked for. After `NoMemory`
+    /// the entries are as they were.
     pub(crate) fn reserve(&mut self, n: usize) -> Result<(), NoMemory>
         ensures entries { self.new.entries ≡ self.old.entries }
         ensures room { OnOk result (self.new.room ≡ max self.old.room n) }
         ensures same { OnErr result (self.new.room ≡ self.old.room) }
+        ensures there { n ≤ self.old.room → IsOk result }
     {
         if self.room < n {
             if self.parts.ready() < n {

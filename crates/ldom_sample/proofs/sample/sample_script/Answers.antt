@@ -8,7 +8,7 @@ push_line-requires c = can_print_disk c.new-names.result c.new-names.ensures
 
 pub returns-clause-text : goal.returns-clause-text
 returns-clause-text c =
-    text_kept c.from_slice.result c.deref.result.now (sample_text c.args.number) c.from_slice.ensures
+    text_kept c.from_slice.result c.deref.result.now (sample_text c.args.number) c.from_slice.ensures.bytes
     (c.deref.ensures.value ∙ all_put c.args.number c.new-text.result.items c.push_line.new.text.items c.push_drawn_lines.new.text.items c.push_line-2.new.text.items
     c.new-text.ensures.items c.in_ok-push_line.ensures c.in_ok-push_drawn_lines.ensures c.in_ok-push_line-2.ensures)
 
