@@ -2,6 +2,10 @@
 use Rattle.std.specs.Prelude.{◌≡◌, ◌<◌, ℕ, length, List, ◌++◌, Option}
 use Rattle.std.specs.Io.KnownBytes.{Appends}
 
+-- the most bytes that are gathered
+abbrev pub most_gathered : ℕ
+most_gathered = 65536
+
 -- of a text, a front was written, and the rest is still gathered
 pub record Gathers (old new : Option (List ℕ)) (gathered text : List ℕ) : Type 0 where
   pub front : List ℕ

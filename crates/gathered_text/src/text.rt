@@ -1,4 +1,4 @@
-ghost use Rattle.std.specs.Prelude.{◌≡◌, ◌+◌, ◌*◌, ◌≤◌, [], ◌++◌, length, take, decimal, OnOk, OnErr, IsErr};
+ghost use Rattle.std.specs.Prelude.{◌≡◌, ◌+◌, ◌*◌, ◌≤◌, [], ◌++◌, length, take, decimal, OnOk, OnErr, IsOk, IsErr};
 ghost use Rattle.vio_io.specs.Causes.{Fails};
 ghost use Rattle.std.specs.Io.KnownBytes.{Appends};
 ghost use Rattle.hex.specs.Hex.{encode_lower};
@@ -89,9 +89,11 @@ impl Text {
         self.len = end;
     }
 
-    /// Makes room for n more bytes: what was gathered is written where it is in the way.
+    /// Makes room for n more bytes: what was gathered is written where it is in the way, and else the sink isn't called.
     pub fn make_room<K: Sink>(&mut self, n: usize, out: &mut K) -> Result<(), Failed>
         requires { n ≤ TEXT_ROOM }
+        ensures few { length self.old ≤ TEXT_ROOM }
+        ensures spared { length self.old + n ≤ TEXT_ROOM → IsOk result × (self.new ≡ self.old) × (out.new ≡ out.old) }
         ensures room { OnOk result (length self.new + n ≤ TEXT_ROOM) }
         ensures kept { OnErr result (self.new ≡ self.old) }
         ensures told { OnOk result (Gathers (K.written out.old) (K.written out.new) self.new self.old) }

@@ -1,24 +1,25 @@
 -- The lines of a dump, one after another.
-use Rattle.std.proofs.Common.{◌≡◌, ◌≢◌, inl, inr, ℕ, ◌+◌, ◌≤◌, ◌⊎◌, Bool, true, false, List, [], ◌∷◌, ◌++◌, length, map, refl, sym, ◌∙◌, ap, subst, length-append, arith, Option, Some, None}
+use Rattle.std.proofs.Common.{append-nil, append_assoc, ◌≡◌, ◌≢◌, inl, inr, ℕ, ◌+◌, ◌<◌, ◌≤◌, ◌⊎◌, Bool, true, false, List, [], ◌∷◌, ◌++◌, length, map, refl, sym, ◌∙◌, ap, subst, length-append, arith, Option, Some, None}
 use Rattle.std.specs.Io.KnownBytes.{Appends, Keeps, prepend_known}
 use Rattle.std.specs.List.{count_by}
 use Rattle.std.proofs.lemmas.List.{flat_map_more, length-map, map-append}
 use Rattle.std.proofs.lemmas.List.Sums.{sum_by-append}
+use Rattle.std.proofs.KnownBytes.{Appends-trans}
 use Rattle.domain_script.specs.ScriptLines.{LinesTaken, TakesLine}
 use Rattle.domain_script.proofs.ScriptLemmas.{taken_more, taken_none}
 use Rattle.script_reader.specs.declared.lines.LinesStop.{LinesStop}
 use Rattle.script_reader.specs.declared.lines.LinesStop.TheVariants.{Going}
-use Rattle.script_reader.specs.LinesState.{AllFed}
+use Rattle.script_reader.specs.LinesState.{AllFed, most_of_a_read}
 use Rattle.script_reader.proofs.FedLines.{fed_more, fed_none}
 use Rattle.ldom_report.specs.declared.status.Status.{Status}
 use Rattle.ldom_report.specs.declared.status.Status.TheVariants as the_status
-use Rattle.gathered_text.specs.Gathered.{Gathers, WroteFront}
+use Rattle.gathered_text.specs.Gathered.{Gathers, WroteFront, most_gathered}
 use Rattle.vio_io.specs.Causes.{Fails}
 use Rattle.ldom_report.specs.LinesEnd.{counted_lines}
-use Rattle.gathered_text.proofs.GatheredText.{appends_last, gathers_all, gathers_more, gathers_then, wrote_front_last}
+use Rattle.gathered_text.proofs.GatheredText.{appends_last, gathers_all, gathers_more, gathers_then}
 use Rattle.ldom_dump.specs.Decoded.{AreOfLines, Decoded, IsOfLine, decoded_lines, decoded_text, is_fault, is_ok, is_packet}
 use Rattle.ldom_dump.specs.declared.lines.Ended.{Ended}
-use Rattle.ldom_dump.specs.DumpReport.{Dumps, SourceTells, Written, dump_text, end_line}
+use Rattle.ldom_dump.specs.DumpReport.{Dumps, SourceTells, Written, WroteMostLines, dump_text, end_line}
 use Rattle.ldom_dump.specs.Going.{DumpsLines, Finishes, GathersUnlessSinkFault, PutsPacket, TellsCarried, TellsMessage}
 use Rattle.ldom_report.specs.Stops.{EndsTold, IsReaders}
 use Rattle.ldom_dump.specs.Reading.{ReadsBytes, DumpStops}
@@ -145,21 +146,48 @@ lines_stop stop start rest now old new held ended gathered count so_far readers 
   gathers = unless_sink_fault ended.why old new gathered (decoded_lines so_far.all) readers so_far.gathers;
 }
 
+-- the sink failed as what was gathered of these lines, and what is last, was written
+most_written : (old mid new : Option (List ℕ)) (gathered lines last text : List ℕ) → text ≡ lines ++ last → Gathers old mid gathered lines → WroteFront mid new (gathered ++ last)
+    → length gathered ≤ most_gathered → WroteMostLines old new lines text
+most_written old mid new gathered lines last text is g wrote few = record {
+  wrote = record {
+    front = g.front ++ wrote.front;
+    rest = wrote.rest;
+    more = wrote.more;
+    whole =
+        is ∙ ap (λ (l : List ℕ). l ++ last) g.whole ∙ append_assoc g.front gathered last ∙ ap (λ (l : List ℕ). g.front ++ l) wrote.whole
+        ∙ sym (append_assoc g.front wrote.front wrote.rest);
+    written = Appends-trans old mid new g.front wrote.front g.written wrote.written;
+  };
+  most = omega (arith, few, ap (λ (l : List ℕ). length l) g.whole, length-append g.front gathered, length-append g.front wrote.front);
+}
+
+-- and where nothing is last
+most_written_last : (old mid new : Option (List ℕ)) (gathered lines : List ℕ) → Gathers old mid gathered lines → WroteFront mid new gathered → length gathered ≤ most_gathered
+    → WroteMostLines old new lines lines
+most_written_last old mid new gathered lines g wrote few =
+    most_written old mid new gathered lines [] lines (sym (append-nil lines)) g (subst (λ (l : List ℕ). WroteFront mid new l) (sym (append-nil gathered)) wrote) few
+
 -- the sink failed before the next line's text was gathered
-pub lines_cut : (stop : LinesStop) (start rest now old mid new : Option (List ℕ)) (held line gathered after : List ℕ) (count lines packets faults : ℕ)
-    → LinesSoFar stop start rest old mid gathered count packets faults → TakesLine rest (prepend_known held now) line → WroteFront mid new gathered → DumpsLines start now (ended_so the_status.SinkFault lines packets faults) old new after
-lines_cut stop start rest now old mid new held line gathered after count lines packets faults so_far next front = record {
+pub lines_cut : (before stop : LinesStop) (start rest now old mid new : Option (List ℕ)) (held bytes gathered after : List ℕ) (count next lines packets faults : ℕ)
+    → LinesSoFar before start rest old mid gathered count packets faults → ReadsBytes stop rest (prepend_known held now) bytes → next ≡ count + 1 → next ≤ 20000 → length held ≤ most_of_a_read
+    → WroteFront mid new gathered → length gathered ≤ most_gathered → DumpsLines start now (ended_so the_status.SinkFault lines packets faults) old new after
+lines_cut before stop start rest now old mid new held bytes gathered after count next lines packets faults so_far reads is few short front room = record {
   all = so_far.all;
   left = rest;
   taken = so_far.taken;
   are = so_far.are;
   held = held;
-  stop = record { reason = tt; left = (line, next) };
+  stop = record {
+    reason = omega (arith, is, few, so_far.counts);
+    left = record { line = reads.line; taken = reads.taken; digits = record { bytes = bytes; spells = reads.digits } };
+    holds = short;
+  };
   feeds = λ failed. cc failed;
   lines_are = λ other. absurd (other refl);
   packets_are = so_far.packets_are;
   faults_are = so_far.faults_are;
-  gathers = wrote_front_last old mid new gathered (decoded_lines so_far.all) so_far.gathers front;
+  gathers = most_written_last old mid new gathered (decoded_lines so_far.all) so_far.gathers front room;
 }
 
 nothing_held : (start : Option (List ℕ)) → Keeps start (prepend_known [] start)
@@ -168,22 +196,22 @@ nothing_held (Some bytes) = refl
 
 -- memory was wanted before the first line
 pub lines_unread : (start old : Option (List ℕ)) (gathered : List ℕ) → gathered ≡ [] → DumpsLines start start (ended_so the_status.NoMemory 0 0 0) old old gathered
-lines_unread start old gathered none = lines_stop Going start start start old old [] (ended_so the_status.NoMemory 0 0 0) gathered 0 (so_far_none Going start old gathered 0 refl none) tt (record { reason = (refl, refl); left = nothing_held start }) (λ _. refl) refl
+lines_unread start old gathered none = lines_stop Going start start start old old [] (ended_so the_status.NoMemory 0 0 0) gathered 0 (so_far_none Going start old gathered 0 refl none) tt (record { reason = (refl, refl); left = nothing_held start; holds = tt }) (λ _. refl) refl
 
 -- how a last line was written after what was gathered
 ends : (why status : Status) (old mid new : Option (List ℕ)) (gathered text last whole : List ℕ) → whole ≡ text ++ last → Gathers old mid gathered text
-    → ((status ≡ why) × Appends mid new (gathered ++ last)) ⊎ ((status ≡ the_status.SinkFault) × WroteFront mid new (gathered ++ last))
-    → ((status ≡ why) × Appends old new whole) ⊎ ((status ≡ the_status.SinkFault) × WroteFront old new whole)
+    → ((status ≡ why) × Appends mid new (gathered ++ last)) ⊎ ((status ≡ the_status.SinkFault) × WroteFront mid new (gathered ++ last) × (length gathered ≤ most_gathered))
+    → ((status ≡ why) × Appends old new whole) ⊎ ((status ≡ the_status.SinkFault) × WroteMostLines old new text whole)
 ends why status old mid new gathered text last whole is g finishes =
     let more : Gathers old mid (gathered ++ last) whole = subst (λ (l : List ℕ). Gathers old mid (gathered ++ last) l) (sym is) (gathers_more old mid gathered (gathered ++ last) text last g refl) in
     elim finishes [
       | inl wrote ↦ inl (wrote.0, appends_last old mid new (gathered ++ last) whole more wrote.1)
-      | inr failed ↦ inr (failed.0, wrote_front_last old mid new (gathered ++ last) whole more failed.1)
+      | inr failed ↦ inr (failed.0, most_written old mid new gathered text last whole is g failed.1 failed.2)
     ]
 
 written : (why status : Status) (old mid new : Option (List ℕ)) (gathered last : List ℕ) (all : List Decoded) → (why ≢ the_status.SinkFault → dump_text all why ≡ decoded_lines all ++ last)
     → GathersUnlessSinkFault why old mid gathered (decoded_lines all) → Finishes why status mid new gathered last → Written why status old new all
-written the_status.SinkFault status old mid new gathered last all is g f = (f.0, subst (λ (k : Option (List ℕ)). WroteFront old k (decoded_lines all)) (sym f.1) g)
+written the_status.SinkFault status old mid new gathered last all is g f = (f.0, subst (λ (k : Option (List ℕ)). WroteMostLines old k (decoded_lines all) (decoded_lines all)) (sym f.1) g)
 written the_status.Done status old mid new gathered last all is g f = ends the_status.Done status old mid new gathered (decoded_lines all) last (dump_text all the_status.Done) (is (λ e. cc e)) g f
 written the_status.Usage status old mid new gathered last all is g f = ends the_status.Usage status old mid new gathered (decoded_lines all) last (dump_text all the_status.Usage) (is (λ e. cc e)) g f
 written (the_status.Script at fault) status old mid new gathered last all is g f = ends (the_status.Script at fault) status old mid new gathered (decoded_lines all) last (dump_text all (the_status.Script at fault)) (is (λ e. cc e)) g f
@@ -197,8 +225,9 @@ written the_status.NoMemory status old mid new gathered last all is g f = ends t
 -- the lines were read and the dump ended
 pub dumps : (before now : SourceTells) (old mid new : Option (List ℕ)) (ended : Ended) (status : Status) (gathered : List ℕ)
     → DumpsLines before.left now.left ended old mid gathered → Finishes ended.why status mid new gathered (end_line ended.lines ended.packets ended.faults ended.why)
-    → Fails (ended.why ≡ the_status.SourceFault) before.faults now.faults → EndsTold ended.why before.ends now.ends → Dumps before now status old new
-dumps before now old mid new ended status gathered read finishes told said =
+    → Fails (ended.why ≡ the_status.SourceFault) before.faults now.faults → EndsTold ended.why before.ends now.ends
+    → (ended.why ≡ the_status.NoMemory → now.ends ≡ before.ends) → Dumps before now status old new
+dumps before now old mid new ended status gathered read finishes told said unasked =
     let last : ended.why ≢ the_status.SinkFault → dump_text read.all ended.why ≡ decoded_lines read.all ++ end_line ended.lines ended.packets ended.faults ended.why =
     λ other. ap (λ (l : List ℕ). decoded_lines read.all ++ l)
     (ap (λ (n : ℕ). end_line n (count_by is_packet read.all) (count_by is_fault read.all) ended.why) (sym (read.lines_are other))
@@ -213,6 +242,7 @@ dumps before now old mid new ended status gathered read finishes told said =
       why = ended.why;
       told = told;
       ends = said;
+      unasked = unasked;
       stop = read.stop;
       feeds = read.feeds;
       written = written ended.why status old mid new gathered (end_line ended.lines ended.packets ended.faults ended.why) read.all last read.gathers finishes;

@@ -1,12 +1,12 @@
 -- The text of a dump, and what a dump did.
-use Rattle.std.specs.Prelude.{◌≡◌, ℕ, ◌⊎◌, List, ◌++◌, length, map, codes, Option}
+use Rattle.std.specs.Prelude.{◌≡◌, ℕ, ◌+◌, ◌≤◌, ◌⊎◌, List, ◌++◌, length, map, codes, Option}
 use Rattle.std.specs.Io.KnownBytes.{Appends}
 use Rattle.std.specs.List.{count_by}
 use Rattle.domain_script.specs.ScriptLines.{LinesTaken}
 use Rattle.ldom_report.specs.declared.status.Status.{Status}
-use Rattle.ldom_report.specs.declared.status.Status.TheVariants.{SinkFault, SourceFault}
+use Rattle.ldom_report.specs.declared.status.Status.TheVariants.{NoMemory, SinkFault, SourceFault}
 use Rattle.script_reader.specs.LinesState.{AllFed}
-use Rattle.gathered_text.specs.Gathered.{WroteFront}
+use Rattle.gathered_text.specs.Gathered.{WroteFront, most_gathered}
 use Rattle.vio_io.specs.Causes.{Fails}
 use Rattle.ldom_report.specs.LinesEnd.{counted_lines}
 use Rattle.ldom_report.specs.Stops.{EndsTold}
@@ -28,11 +28,17 @@ end_line lines packets faults why = counts_text lines packets faults ++ field_te
 abbrev pub dump_text : List Decoded → Status → List ℕ
 dump_text all why = decoded_lines all ++ end_line (counted_lines why (length all)) (count_by is_packet all) (count_by is_fault all) why
 
--- The sink failed after some front of the lines, or the lines were read to where reading ended; then the whole text was
--- written, or the sink failed after some front of it.
+-- of a text that begins with these lines some front was written, and of the lines no more is missing than may be gathered
+pub record WroteMostLines (old new : Option (List ℕ)) (lines text : List ℕ) : Type 0 where
+  pub wrote : WroteFront old new text
+  pub most : length lines ≤ length wrote.front + most_gathered
+
+-- The sink failed after most of the lines, or the lines were read to where reading ended; then the whole text was written, or
+-- the sink failed after most of its lines.
 abbrev pub Written : Status → Status → Option (List ℕ) → Option (List ℕ) → List Decoded → Type 0
-Written SinkFault status old new all = (status ≡ SinkFault) × WroteFront old new (decoded_lines all)
-Written why status old new all = ((status ≡ why) × Appends old new (dump_text all why)) ⊎ ((status ≡ SinkFault) × WroteFront old new (dump_text all why))
+Written SinkFault status old new all = (status ≡ SinkFault) × WroteMostLines old new (decoded_lines all) (decoded_lines all)
+Written why status old new all =
+    ((status ≡ why) × Appends old new (dump_text all why)) ⊎ ((status ≡ SinkFault) × WroteMostLines old new (decoded_lines all) (dump_text all why))
 
 -- A source at one moment: the bytes that it has left, where it tells them, and how often it failed and said that it is at
 -- its end.
@@ -59,6 +65,8 @@ pub record Dumps (before now : SourceTells) (status : Status) (old new : Option 
   pub why : Status
   pub told : Fails (why ≡ SourceFault) before.faults now.faults
   pub ends : EndsTold why before.ends now.ends
+  -- memory is wanted before the source is asked
+  pub unasked : why ≡ NoMemory → now.ends ≡ before.ends
   pub stop : DumpStops why left held now.left (length all)
   pub feeds : why ≡ SourceFault → AllFed before.left left (map (λ decoded. decoded.line) all)
   pub written : Written why status old new all

@@ -1,5 +1,5 @@
 -- The lines of a dump, one after another, while their text is gathered.
-use Rattle.std.specs.Prelude.{◌≡◌, ◌≢◌, ℕ, ◌⊎◌, Bool, List, ◌++◌, length, map, Option}
+use Rattle.std.specs.Prelude.{◌≡◌, ◌≢◌, ℕ, ◌≤◌, ◌⊎◌, Bool, List, ◌++◌, length, map, Option}
 use Rattle.std.specs.Io.KnownBytes.{Appends}
 use Rattle.std.specs.List.{count_by}
 use Rattle.domain_script.specs.ScriptLines.{LinesTaken}
@@ -13,10 +13,11 @@ use Rattle.vio_tag.specs.Decoding.{Decodes}
 use Rattle.ldom_report.specs.declared.status.Status.{Status}
 use Rattle.ldom_report.specs.declared.status.Status.TheVariants.{SinkFault, SourceFault}
 use Rattle.script_reader.specs.LinesState.{AllFed}
-use Rattle.gathered_text.specs.Gathered.{Gathers, WroteFront}
+use Rattle.gathered_text.specs.Gathered.{Gathers, WroteFront, most_gathered}
 use Rattle.ldom_report.specs.LinesEnd.{counted_lines}
 use Rattle.ldom_dump.specs.declared.lines.Ended.{Ended}
 use Rattle.ldom_dump.specs.Decoded.{AreOfLines, CarriesMessage, CarriesIn, Decoded, decoded_lines, is_fault, is_ok, is_packet}
+use Rattle.ldom_dump.specs.DumpReport.{WroteMostLines}
 use Rattle.ldom_dump.specs.MessageText.{carried_line, message_line}
 use Rattle.ldom_dump.specs.PacketText.{packet_line}
 use Rattle.ldom_dump.specs.Reading.{DumpStops}
@@ -48,9 +49,9 @@ pub record PutsPacket (bytes : List ℕ) (old new : Option (List ℕ)) (before a
   pub wrote : Gathers old new room before
   pub tells : TellsPacket bytes room after whether
 
--- of a text a front was written where the sink failed, and else the rest is still gathered
+-- of these lines most were written where the sink failed, and else the rest is still gathered
 abbrev pub GathersUnlessSinkFault : Status → Option (List ℕ) → Option (List ℕ) → List ℕ → List ℕ → Type 0
-GathersUnlessSinkFault SinkFault old new gathered text = WroteFront old new text
+GathersUnlessSinkFault SinkFault old new gathered text = WroteMostLines old new text text
 GathersUnlessSinkFault why old new gathered text = Gathers old new gathered text
 
 -- These lines were decoded from the front of what is to come, and then no further one, as `ended` says. Their text is
@@ -68,7 +69,9 @@ pub record DumpsLines (start now : Option (List ℕ)) (ended : Ended) (old new :
   pub faults_are : ended.faults ≡ count_by is_fault all
   pub gathers : GathersUnlessSinkFault ended.why old new gathered (decoded_lines all)
 
--- what was gathered and the last line were written, or a front of them; nothing after a fault of the sink
+-- What was gathered and the last line were written, or a front of them, where no more was gathered than may be; nothing after a
+-- fault of the sink.
 abbrev pub Finishes : Status → Status → Option (List ℕ) → Option (List ℕ) → List ℕ → List ℕ → Type 0
 Finishes SinkFault status old new gathered last = (status ≡ SinkFault) × (new ≡ old)
-Finishes why status old new gathered last = ((status ≡ why) × Appends old new (gathered ++ last)) ⊎ ((status ≡ SinkFault) × WroteFront old new (gathered ++ last))
+Finishes why status old new gathered last =
+    ((status ≡ why) × Appends old new (gathered ++ last)) ⊎ ((status ≡ SinkFault) × WroteFront old new (gathered ++ last) × (length gathered ≤ most_gathered))

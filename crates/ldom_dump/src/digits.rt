@@ -1,7 +1,7 @@
 // A line of hexadecimal digits.
-ghost use Rattle.std.specs.Prelude.{◌≡◌, ◌≢◌, ◌+◌, ◌≤◌, ℕ, List, IfErr, IfNone, IfOk, IfSome};
+ghost use Rattle.std.specs.Prelude.{◌≡◌, ◌≢◌, ◌+◌, ◌≤◌, ℕ, List, length, IfErr, IfNone, IfOk, IfSome, OnOk};
 ghost use Rattle.script_reader.specs.declared.lines.LinesStop.TheVariants.{Going};
-ghost use Rattle.script_reader.specs.LinesState.{GoesOn, KeepsEnds, to_come};
+ghost use Rattle.script_reader.specs.LinesState.{GoesOn, KeepsEnds, most_of_a_read, to_come};
 ghost use Rattle.ldom_report.specs.LinesEnd.{counted_lines};
 ghost use Rattle.ldom_dump.specs.Decoded.{SpellsBytes};
 ghost use Rattle.vio_io.specs.Causes.{Fails};
@@ -39,12 +39,14 @@ pub fn read_bytes<S: Source>(lines: &mut Lines, source: &mut S) -> Result<[u8; 6
         (to_come lines.new (S.left source.new))) }
     ensures next { IfOk result (λ _. (lines.new.number ≡ lines.old.number + 1) × (lines.new.number ≤ most_lines)
         × GoesOn lines.new (S.left source.new)) }
+    ensures held { OnOk result (length lines.new.held ≤ most_of_a_read) }
 
     ensures stop { IfErr result (λ stop. DumpStops (stop_status stop lines.new.number)
         (to_come lines.old (S.left source.old)) lines.new.held (S.left source.new) lines.old.number) }
     ensures lines { IfErr result (λ stop. lines.new.number ≡ counted_lines (stop_status stop lines.new.number)
         lines.old.number) }
     ensures most { lines.new.number ≤ most_lines }
+    ensures memory { IfErr result (λ stop. stop ≢ Stop.Memory) }
 
     // Behind a last line without a line feed the source isn't asked.
     ensures going { result ≢ Err Stop.End → lines.old.stop ≡ Going }

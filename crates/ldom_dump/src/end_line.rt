@@ -39,6 +39,7 @@ fn push_end(text: &mut Text, ended: &Ended)
 fn put_end<K: Sink>(text: &mut Text, ended: &Ended, out: &mut K) -> Result<(), Failed>
     ensures told { OnOk result (Appends (K.written out.old) (K.written out.new) (text.old ++ end_line ended.now.lines ended.now.packets ended.now.faults ended.now.why)) }
     ensures front { OnErr result (WroteFront (K.written out.old) (K.written out.new) (text.old ++ end_line ended.now.lines ended.now.packets ended.now.faults ended.now.why)) }
+    ensures few { length text.old ≤ TEXT_ROOM }
     ensures faults { Fails (IsErr result) (K.faults out.old) (K.faults out.new) }
 {
     text.make_room(END_ROOM, out)?;

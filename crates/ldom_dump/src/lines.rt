@@ -1,5 +1,5 @@
 // The lines of a dump, one after another.
-ghost use Rattle.std.specs.Prelude.{◌≡◌, ℕ, ◌+◌, ◌≤◌, [], length, IfOk, OnErr, IsErr};
+ghost use Rattle.std.specs.Prelude.{◌≡◌, ◌≢◌, ℕ, ◌+◌, ◌≤◌, [], length, IfOk, OnErr, IsErr};
 ghost use Rattle.script_reader.specs.LinesState.{GoesOn, ends_after, to_come};
 ghost use Rattle.ldom_report.specs.Stops.{EndsTold};
 ghost use Rattle.vio_io.specs.Causes.{Fails};
@@ -67,6 +67,7 @@ fn push_packet_of(text: &mut Text, bytes: &[u8; 64]) -> bool
 fn put_packet<K: Sink>(text: &mut Text, bytes: &[u8; 64], out: &mut K) -> Result<bool, Failed>
     ensures told { IfOk result (PutsPacket bytes.now (K.written out.old) (K.written out.new) text.old text.new) }
     ensures front { OnErr result (WroteFront (K.written out.old) (K.written out.new) text.old) }
+    ensures few { length text.old ≤ TEXT_ROOM }
     ensures faults { Fails (IsErr result) (K.faults out.old) (K.faults out.new) }
 {
     text.make_room(LINES_ROOM, out)?;
@@ -97,6 +98,7 @@ pub fn dump_all<S: Source, K: Sink>(
         text.new }
     ensures source { Fails (result.why ≡ Status.SourceFault) (S.faults source.old) (S.faults source.new) }
     ensures ends { EndsTold result.why (S.ends source.old) (S.ends source.new) }
+    ensures unasked { result.why ≡ Status.NoMemory → S.ends source.new ≡ S.ends source.old }
     ensures sink { Fails (result.why ≡ Status.SinkFault) (K.faults out.old) (K.faults out.new) }
 {
     match Lines::new(alloc) {
@@ -125,6 +127,7 @@ fn dump_lines<S: Source, K: Sink>(
     ensures source { Fails (result.why ≡ Status.SourceFault) (S.faults source.old) (S.faults source.new) }
     ensures ends { (base : ℕ) → S.ends source.old ≡ ends_after lines.old.stop base
         → EndsTold result.why base (S.ends source.new) }
+    ensures memory { result.why ≢ Status.NoMemory }
     ensures sink { Fails (result.why ≡ Status.SinkFault) (K.faults out.old) (K.faults out.new) }
 {
     let mut packets: u32 = 0;

@@ -35,6 +35,15 @@ failed_at_source Memory lines is = cc is
 failed_at_source (Faulty fault) lines is = cc is
 failed_at_source Entries lines is = cc is
 
+-- and only who runs the lines wants memory
+pub wanted_memory : (stop : Stop) (lines : ℕ) → stop_status stop lines ≡ status.NoMemory → stop ≡ Memory
+wanted_memory End lines is = cc is
+wanted_memory Source lines is = cc is
+wanted_memory (Limit kind) lines is = cc is
+wanted_memory Memory lines is = refl
+wanted_memory (Faulty fault) lines is = cc is
+wanted_memory Entries lines is = cc is
+
 -- a reader hears the end at most once
 pub told_once : (lines : LinesStop) (before now : ℕ) → now ≡ ends_after lines before → AtMostOnce before now
 told_once Ended before now is = inr is

@@ -1,6 +1,7 @@
 // The lines of requests, and of lanes as a whole, before the words of a read and the line feed.
 ghost use Rattle.std.specs.Prelude.{◌≡◌, ◌+◌, ◌≤◌, ◌++◌, length, take, codes};
 ghost use Rattle.domain_script.specs.LaneKinds.{disk_lane};
+ghost use Rattle.vdisk_msg.specs.Requests.{IsOperation};
 ghost use Rattle.ldom_report.specs.EntryText.{done_text, id_text, lane_name, range_text, request_text, who_name, why_word};
 ghost use Rattle.ldom_report.specs.HasWords.{IsDeclared, IsLane};
 
@@ -129,8 +130,7 @@ pub fn push_done(
     names: &LineNames<'_>,
 )
     requires declared { IsLane names.now (disk_lane disk) }
-    requires least { 1 ≤ operation }
-    requires most { operation ≤ 3 }
+    requires one { IsOperation operation }
     requires room { length text.old + 100 ≤ TEXT_ROOM }
     ensures text { text.new ≡ text.old ++ done_text names.now disk id operation status }
     ensures len { length text.new ≤ length text.old + 100 }

@@ -2,6 +2,7 @@
 ghost use Rattle.std.specs.Prelude.{◌≡◌, ◌+◌, ◌≤◌, ◌++◌, length, codes, decimal};
 ghost use Rattle.hex.specs.Hex.{encode_lower};
 ghost use Rattle.vio_tag.specs.CauseText.{cause_text};
+ghost use Rattle.vdisk_msg.specs.Requests.{IsOperation};
 ghost use Rattle.ldom_report.specs.EntryText.{bytes_text, call_text, end_text, lost_text, moved_text, number_text, opens_text, reset_text, stored_text, took_text};
 ghost use Rattle.ldom_report.specs.HasWords.{HasFault, IsEnd};
 
@@ -110,8 +111,7 @@ fn push_store_call(
     names: &LineNames<'_>,
 )
     requires declared { IsEnd names.now end }
-    requires least { 1 ≤ operation }
-    requires most { operation ≤ 3 }
+    requires one { IsOperation operation }
     requires room { length text.old + 100 ≤ TEXT_ROOM }
     ensures text { text.new ≡ text.old ++ call_text names.now end operation block count }
     ensures len { length text.new ≤ length text.old + 80 }
@@ -133,8 +133,7 @@ pub fn push_stored(
     names: &LineNames<'_>,
 )
     requires declared { IsEnd names.now end }
-    requires least { 1 ≤ operation }
-    requires most { operation ≤ 3 }
+    requires one { IsOperation operation }
     requires room { length text.old + 100 ≤ TEXT_ROOM }
     ensures text { text.new ≡ text.old ++ stored_text names.now end operation block count failed }
     ensures len { length text.new ≤ length text.old + 100 }

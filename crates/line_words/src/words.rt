@@ -2,6 +2,7 @@
 ghost use Rattle.std.specs.Prelude.{◌≡◌, ◌≤◌, length};
 ghost use Rattle.cookie_copy.specs.Reach.{copy_number};
 ghost use Rattle.vio_tag.specs.CauseText.{copy_word};
+ghost use Rattle.vdisk_msg.specs.Requests.{IsOperation};
 ghost use Rattle.line_words.specs.LineWords.{failed_word, fault_word, operation_word, opens_text, side_text, why_word};
 
 use cookie_copy::CopyFault;
@@ -35,8 +36,7 @@ pub fn why_word(why: Why) -> &'static [u8]
 
 /// What a request asks.
 pub fn operation_word(operation: u8) -> &'static [u8]
-    requires least { 1 ≤ operation }
-    requires most { operation ≤ 3 }
+    requires one { IsOperation operation }
     ensures bytes { result.now ≡ operation_word operation }
     ensures short { length result.now ≤ 5 }
 {

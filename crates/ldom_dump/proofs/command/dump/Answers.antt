@@ -10,7 +10,7 @@ returns-clause-dumps g c =
     (source_tells (g.S.Source.left c.dump_all-ended.new.source) (g.S.Source.faults c.dump_all-ended.new.source) (g.S.Source.ends c.dump_all-ended.new.source))
     (g.K.Sink.written c.args.out.now) (g.K.Sink.written c.dump_all-ended.new.out) (g.K.Sink.written c.finish.new.out)
     c.dump_all-ended.result c.finish.result c.dump_all-ended.new.text c.dump_all-ended.ensures.dumps c.finish.ensures.finishes
-    c.dump_all-ended.ensures.source c.dump_all-ended.ensures.ends
+    c.dump_all-ended.ensures.source c.dump_all-ended.ensures.ends c.dump_all-ended.ensures.unasked
 
 pub returns-clause-source_fault : goal.returns-clause-source_fault
 returns-clause-source_fault g c = search rules

@@ -2,8 +2,8 @@ use Rattle.std.proofs.Common.{◌∙◌, ℕ, arith, subst, sym}
 use Rattle.script_reader.specs.LinesState.{to_come}
 use Rattle.ldom_report.specs.declared.status.Status.{Status}
 use Rattle.ldom_report.specs.Stops.{EndsTold}
-use Rattle.ldom_report.proofs.StopLemmas.{ends_told, told_once}
-use Rattle.ldom_dump.proofs.DumpLemmas.{so_far_fault, so_far_packet}
+use Rattle.ldom_report.proofs.StopLemmas.{ends_told, told_once, wanted_memory}
+use Rattle.ldom_dump.proofs.DumpLemmas.{lines_cut, so_far_fault, so_far_packet}
 use Rattle.ldom_dump.proofs.lines.dump_lines.Goals as goal
 
 pub loop-bytes-preserved-in-Ok-true : goal.loop-bytes-preserved-in-Ok-true
@@ -49,3 +49,14 @@ returns-in-Err-clause-ends g c base is =
 pub returns-in-Err-put_packet-clause-ends : goal.returns-in-Err-put_packet-clause-ends
 returns-in-Err-put_packet-clause-ends g c base is =
     told_once c.read_bytes.new.lines.stop base (g.S.Source.ends c.read_bytes.new.source) (c.in-Ok.ensures.ends base (c.loop-bytes.invariant.ends base is))
+
+pub returns-in-Err-clause-memory : goal.returns-in-Err-clause-memory
+returns-in-Err-clause-memory g c is = c.in-Err.ensures.memory (wanted_memory c.in-Err.stop _ (sym c.status.ensures ∙ is))
+
+pub returns-in-Err-put_packet-clause-dumps : goal.returns-in-Err-put_packet-clause-dumps
+returns-in-Err-put_packet-clause-dumps g c =
+    let start = to_come c.args.lines.now (g.S.Source.left c.args.source.now) in
+    let rest = to_come c.loop-bytes.lines (g.S.Source.left c.loop-bytes.source) in
+    lines_cut c.loop-bytes.lines.stop c.read_bytes.new.lines.stop start rest (g.S.Source.left c.read_bytes.new.source) (g.K.Sink.written c.args.out.now) (g.K.Sink.written c.loop-bytes.out) (g.K.Sink.written c.put_packet.new.out)
+    c.read_bytes.new.lines.held c.in-Ok.bytes c.loop-bytes.text c.put_packet.new.text c.loop-bytes.lines.number c.read_bytes.new.lines.number c.number-in-Err-put_packet.result c.loop-bytes.packets c.loop-bytes.faults
+    c.loop-bytes.invariant.so_far c.in-Ok.ensures.bytes c.in-Ok.ensures.next.0 c.in-Ok.ensures.next.1 c.in-Ok.ensures.held c.in-Err-put_packet.ensures.front c.put_packet.ensures.few
