@@ -18,7 +18,7 @@ use Rattle.ldom_report.specs.declared.status.Status.TheVariants as status
 use Rattle.world_parts.specs.Endings.{EndsSo, JournalIs, ending}
 use Rattle.script_laws.specs.Going.{RunAt, RunsAll, RunsLines, run_at}
 use Rattle.ldom_report.specs.Stops.{IsReaders}
-use Rattle.script_laws.specs.Attached.{AreOpening, AttachesAt, ImageStands, is_opening}
+use Rattle.script_laws.specs.Attached.{AreOpening, AttachesAt, ImageStands, IsCutOff, is_opening}
 use Rattle.script_laws.specs.Behind.{StandsBehind}
 use Rattle.script_laws.specs.Opening.{OpensOrStops, Opens, OpensAndStops}
 use Rattle.world_parts.specs.Lines.{EventStep, line_of}
@@ -222,6 +222,7 @@ module _ (start now : Option (List ℕ)) (reader : LinesState) (began : Option (
           fits = all_fit;
           ends = behind_ends front runs.parts why readers runs.ends;
         };
+        wanted = runs.wanted;
         declared = same_declared names after.names (same_disks runs.read.texts names after.names (events_of runs.parts) opens.ended runs.read.spell)
             (same_ports runs.read.texts names after.names (events_of runs.parts) opens.ended runs.read.spell);
         attached = λ _ are. not_opening opens.opening event (other_line event opens.other)
@@ -230,7 +231,8 @@ module _ (start now : Option (List ℕ)) (reader : LinesState) (began : Option (
 
 -- memory was wanted in the midst of that first event
 pub runs_first_cut : (start now : Option (List ℕ)) (reader : LinesState) (event : Event) (names : NamesState) (s t : DomainState) (journal : List Entry)
-    → Opens start reader now event names → FitsSoFar s (line_of event) [] journal t → RunsAll start now names s status.NoMemory (run_at names journal t reader.number)
+    → Opens start reader now event names → FitsSoFar s (line_of event) [] journal t
+    → RunsAll start now names s status.NoMemory (run_at names journal t reader.number)
 runs_first_cut start now reader event names s t journal opens fits =
     let are : events_of (begun_parts opens.opening event fits.adds.part) ≡ opens.opening ++ event ∷ [] =
     first_events opens.opening event fits.adds.part in
@@ -238,7 +240,7 @@ runs_first_cut start now reader event names s t journal opens fits =
       parts = begun_parts opens.opening event fits.adds.part;
       stopped = stopped_behind start now reader event names status.NoMemory (λ failed. cc failed) opens
           (events_of (begun_parts opens.opening event fits.adds.part)) are (length journal)
-          (inr (inl (opens.ended, opens.held)), keeps_same (to_come reader now)) refl;
+          (inr (inl (opens.ended, opens.held)), keeps_same (to_come reader now), tt) refl;
       journal_is = record {
         is = first_entries opens.opening event fits.adds.part ∙ sym fits.adds.grew;
         fits = record {
@@ -249,6 +251,7 @@ runs_first_cut start now reader event names s t journal opens fits =
         };
         ends = tt;
       };
+      wanted = λ _. other_line event opens.other;
       declared = refl;
       attached = λ _ opening. not_opening opens.opening event (other_line event opens.other) (subst AreOpening are opening);
     }
@@ -269,6 +272,7 @@ runs_none_more start now names s lines opens = record {
   parts = declared_parts opens.opening;
   stopped = declared_stopped start now status.Done status.Done names lines opens opens.stopped.stop opens.stopped.feeds opens.stopped.lines_are;
   journal_is = record { is = opening_entries opens.opening; fits = declared_fit s opens.opening opens.are; ends = refl };
+  wanted = λ wanted. cc wanted;
   declared = refl;
   attached = λ other. absurd (other refl);
 }
@@ -293,9 +297,10 @@ ended_faults : {D : Type 0} (image : D) (why : Status) (faulty : Bool) (faults :
 ended_faults image why faulty faults readers tells = grind (arith, by_readers)
 
 -- a run in a world has an image
-ended_image : {D : Type 0} (image : D) (why : Status) (faulty : Bool) (events : List Event) (rest : Option (List ℕ)) (journal : List Entry) → IsReaders why → (why ≢ status.Done → AreOpening events → ⊥)
-    → ImageStands (ended_status why faulty) events rest journal (Some image)
-ended_image image why faulty events rest journal readers = grind (arith, by_readers)
+ended_image : {D : Type 0} (image : D) (why : Status) (faulty : Bool) (parts : ScriptParts) (rest : Option (List ℕ)) (journal : List Entry) → IsReaders why
+    → (why ≢ status.Done → AreOpening (events_of parts) → ⊥) → (why ≡ status.NoMemory → IsCutOff parts)
+    → ImageStands (ended_status why faulty) parts rest journal (Some image)
+ended_image image why faulty parts rest journal readers = grind (arith, by_readers)
 
 -- and its lanes
 ended_lanes : {D : Type 0} (image : D) (why : Status) (faulty : Bool) (lanes : Lanes) (t : DomainState) → IsReaders why → lanes ≡ lanes_in t
@@ -306,8 +311,9 @@ ended_lanes image why faulty lanes t readers left = grind (arith, by_readers)
 opening_lanes : (D : Type 0) (why : Status) (t : DomainState) → IsReaders why → LanesStand {D = D} why None None t
 opening_lanes D why t readers = by_readers (λ (w : Status). LanesStand {D = D} w None None t) refl (λ at fault. refl) refl (λ at kind. refl) refl why readers
 
-opening_image : (D : Type 0) (why : Status) (events : List Event) (rest : Option (List ℕ)) → IsReaders why → why ≢ status.Done → AreOpening events → ImageStands {D = D} why events rest [] None
-opening_image D why events rest readers other are = grind (arith, by_readers)
+opening_image : (D : Type 0) (why : Status) (parts : ScriptParts) (rest : Option (List ℕ)) → IsReaders why → why ≢ status.Done → AreOpening (events_of parts)
+    → ImageStands {D = D} why parts rest [] None
+opening_image D why parts rest readers other are = grind (arith, by_readers)
 
 opening_faults : {D : Type 0} (image : Option D) (why : Status) (faults : ℕ) → IsReaders why → why ≢ status.Done → FaultsAre why image faults
 opening_faults image why faults readers =
@@ -318,9 +324,10 @@ refused_lanes : (D : Type 0) (fault : AttachFault) (t : DomainState) → LanesSt
 refused_lanes D Failed t = refl
 refused_lanes D Memory t = refl
 
-refused_image : (D : Type 0) (fault : AttachFault) (events : List Event) (rest : Option (List ℕ)) → AttachesAt events rest → ImageStands {D = D} (attach_status fault) events rest [] None
-refused_image D Failed events rest at = (refl, at)
-refused_image D Memory events rest at = (refl, inr at)
+refused_image : (D : Type 0) (fault : AttachFault) (parts : ScriptParts) (rest : Option (List ℕ)) → AttachesAt (events_of parts) rest
+    → ImageStands {D = D} (attach_status fault) parts rest [] None
+refused_image D Failed parts rest at = (refl, at)
+refused_image D Memory parts rest at = (refl, inr at)
 
 refused_faults : {D : Type 0} (fault : AttachFault) (image : Option D) (faults : ℕ) → FaultsAre (attach_status fault) image faults
 refused_faults Failed image faults = tt
@@ -332,8 +339,8 @@ refused_ends Memory all none = tt
 
 refused_stop : (fault : AttachFault) (left now : Option (List ℕ)) (held : List ℕ) (names : NamesState) (count : ℕ) → IsDeclaredOut left held names → Keeps left (prepend_known held now)
     → StopsAt (attach_status fault) left held now names count 0
-refused_stop Failed left now held names count declared kept = (declared, kept)
-refused_stop Memory left now held names count declared kept = (inr declared, kept)
+refused_stop Failed left now held names count declared kept = (declared, kept, tt)
+refused_stop Memory left now held names count declared kept = (inr declared, kept, tt)
 
 refused_unfailed : (fault : AttachFault) → attach_status fault ≢ status.SourceFault
 refused_unfailed Failed failed = cc failed
@@ -380,7 +387,7 @@ module _ {D : Type 0} (seen : D → ImageState) (start now : Option (List ℕ)) 
             (subst (λ (x : DomainState). JournalIs (ending why) x runs.parts after.journal after.world) begin runs.journal_is);
         image_is = told;
         faults_are = ended_faults image why faulty after.world.first.image.faults readers tells;
-        image_stands = ended_image image why faulty (events_of runs.parts) runs.stopped.left after.journal readers runs.attached;
+        image_stands = ended_image image why faulty runs.parts runs.stopped.left after.journal readers runs.attached runs.wanted;
         lanes_stand = ended_lanes image why faulty lanes after.world readers left;
       }
 
@@ -397,7 +404,7 @@ module _ {D : Type 0} (seen : D → ImageState) (start now : Option (List ℕ)) 
     };
     image_is = tt;
     faults_are = opening_faults None why (start_of names gives).first.image.faults readers other;
-    image_stands = opening_image D why (events_of (declared_parts opens.opening)) opens.stopped.left readers other
+    image_stands = opening_image D why (declared_parts opens.opening) opens.stopped.left readers other
         (subst AreOpening (sym (opening_events opens.opening)) opens.are);
     lanes_stand = opening_lanes D why (start_of names gives) readers;
   }
@@ -421,7 +428,7 @@ module _ {D : Type 0} (seen : D → ImageState) (start now : Option (List ℕ)) 
         };
         image_is = tt;
         faults_are = refused_faults {D = D} fault None (start_of names gives).first.image.faults;
-        image_stands = refused_image D fault (events_of parts) opened.stopped.left
+        image_stands = refused_image D fault parts opened.stopped.left
             (declared_attaches opened.opening opened.stopped.left opened.are opened.stopped.stop.0);
         lanes_stand = refused_lanes D fault (start_of names gives);
       }
@@ -439,7 +446,7 @@ module _ {D : Type 0} (seen : D → ImageState) (start now : Option (List ℕ)) 
         };
         image_is = tt;
         faults_are = refused_faults {D = D} fault None (start_of names gives).first.image.faults;
-        image_stands = refused_image D fault (events_of parts) (to_come reader now)
+        image_stands = refused_image D fault parts (to_come reader now)
             (begun_attaches opened.opening event (to_come reader now) opened.are (other_line event opened.other));
         lanes_stand = refused_lanes D fault (start_of names gives);
       }
@@ -451,7 +458,7 @@ module _ {D : Type 0} (seen : D → ImageState) (start now : Option (List ℕ)) 
       let parts : ScriptParts = declared_parts opened.opening in
       record {
         parts = parts;
-        stopped = declared_stopped start now status.Done (status.ImageSize need have) names reader.number opened (inr opened.stopped.stop.0, opened.stopped.stop.1) (λ failed. cc failed) opened.stopped.lines_are;
+        stopped = declared_stopped start now status.Done (status.ImageSize need have) names reader.number opened (inr opened.stopped.stop.0, opened.stopped.stop.1, tt) (λ failed. cc failed) opened.stopped.lines_are;
         final = start_of names gives;
         journal_is = record {
           is = opening_entries opened.opening;
@@ -468,7 +475,7 @@ module _ {D : Type 0} (seen : D → ImageState) (start now : Option (List ℕ)) 
       record {
         parts = parts;
         stopped = stopped_behind start now reader event names (status.ImageSize need have) (λ failed. cc failed) opened (events_of parts) (first_events opened.opening event []) 0
-            (inl (opened.ended, opened.held), keeps_same (to_come reader now)) refl;
+            (inl (opened.ended, opened.held), keeps_same (to_come reader now), tt) refl;
         final = start_of names gives;
         journal_is = record {
           is = first_entries opened.opening event [];
@@ -485,7 +492,7 @@ module _ {D : Type 0} (seen : D → ImageState) (start now : Option (List ℕ)) 
   pub replayed_none : (names : NamesState) → names ≡ no_names → now ≡ start → Replayed seen start now gives status.NoMemory 0 names [] None None
   replayed_none names is same = record {
     parts = declared_parts [];
-    stopped = record { left = start; count = 0; read = read_none start names 0 is refl; held = []; stop = (inl (refl, refl), nothing_held start now same); feeds = λ failed. cc failed; lines_are = refl };
+    stopped = record { left = start; count = 0; read = read_none start names 0 is refl; held = []; stop = (inl (refl, refl), nothing_held start now same, tt); feeds = λ failed. cc failed; lines_are = refl };
     final = start_of names gives;
     journal_is = record { is = refl; fits = declared_fit (start_of names gives) [] tt; ends = tt };
     image_is = tt;

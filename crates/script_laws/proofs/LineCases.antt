@@ -19,7 +19,7 @@ use Rattle.lane_kinds.specs.Fronts.{SettleFront}
 use Rattle.lane_kinds.specs.Settles.{begin}
 use Rattle.world_parts.specs.world_laws.Begun.{RoundFront}
 use Rattle.world_parts.specs.domain_laws.Domain.{DomainState, Lanes, lanes}
-use Rattle.world_parts.specs.domain_laws.Lines.{AreFirstSteps, BeginsPart, EndTurn, fronts}
+use Rattle.world_parts.specs.domain_laws.Lines.{AreFirstSteps, BeginsPart, EndTurn, Nothing, fronts}
 use Rattle.script_laws.specs.Attached.{is_opening}
 use Rattle.world_parts.specs.Lines.{EventStep, HasMemory, IsForLanes, line_of, number_of_kind}
 
@@ -56,6 +56,13 @@ silent s e =
     (λ disk _. record { entries = []; says = refl; moves = record { part_of = refl; run = refl } })
     (λ port _. record { entries = []; says = refl; moves = record { part_of = refl; run = refl } })
     (λ x other names is. absurd (cc (other, is))) e
+
+-- one that asks for something is another line
+pub asks_something : (e : Event) → (line_of e ≡ Nothing → ⊥) → is_opening e ≡ false
+asks_something e asks =
+    by_line (λ (x : Event). (line_of x ≡ Nothing → ⊥) → is_opening x ≡ false)
+    (λ some. absurd (some refl)) (λ disk some. absurd (some refl)) (λ port some. absurd (some refl))
+    (λ x other names some. other) e asks
 
 no_steps : (turns : List EndTurn) → AreFirstSteps turns []
 no_steps turns = record { made = []; left = turns; turns_are = refl; steps = tt }

@@ -16,10 +16,10 @@ use Rattle.script_reader.specs.declared.lines.LinesStop.TheVariants.{Going}
 use Rattle.ldom_report.specs.LinesEnd.{counted_lines}
 use Rattle.ldom_report.specs.declared.status.Status.{Status}
 use Rattle.ldom_report.specs.declared.status.Status.TheVariants as status
-use Rattle.script_reader.specs.LinesState.{AllFed, LinesState, most_of_a_read, to_come}
+use Rattle.script_reader.specs.LinesState.{AllFed, LinesState, to_come}
 use Rattle.script_laws.specs.Attached.{AreOpening, is_opening}
 use Rattle.script_laws.specs.Opening.{Opens, OpensAndStops}
-use Rattle.script_laws.specs.Reading.{ReadsEvent, StopsAt}
+use Rattle.script_laws.specs.Reading.{HoldsLess, ReadsEvent, StopsAt}
 use Rattle.domain_script.specs.ScriptEvents.{AllSpell, no_names}
 use Rattle.script_laws.specs.Script.{ReadSoFar}
 use Rattle.script_reader.proofs.FedLines.{fed_more, fed_none}
@@ -79,7 +79,7 @@ opens_more was stop start rest left event names after count next so_far reads is
 
 pub opens : (was : LinesStop) (start rest : Option (List ℕ)) (reader : LinesState) (now : Option (List ℕ)) (event : Event) (names after : NamesState) (count : ℕ) → OpensSoFar was start rest names count
     → ReadsEvent reader.stop rest (to_come reader now) names event after → reader.number ≡ count + 1
-    → reader.number ≤ 20000 → length reader.held ≤ most_of_a_read → (AreOpening (event ∷ []) → ⊥) → Opens start reader now event after
+    → reader.number ≤ 20000 → HoldsLess reader.held → (AreOpening (event ∷ []) → ⊥) → Opens start reader now event after
 opens was start rest reader now event names after count so_far reads is few held not_opening = record {
   opening = so_far.opening;
   are = so_far.are;

@@ -1,5 +1,5 @@
 -- A script's lines run one after another.
-use Rattle.std.proofs.Common.{◌≡◌, inl, inr, true, ℕ, ◌+◌, ◌<◌, ◌≤◌, List, [], ◌∷◌, ◌++◌, length, refl, sym, ◌∙◌, ap, subst, append_assoc, length-append, arith, Option, Some, None}
+use Rattle.std.proofs.Common.{◌≡◌, ◌≢◌, inl, inr, true, false, ℕ, ◌+◌, ◌<◌, ◌≤◌, List, [], ◌∷◌, ◌++◌, length, refl, sym, ◌∙◌, ap, subst, append_assoc, length-append, arith, Option, Some, None}
 use Rattle.std.specs.Io.KnownBytes.{Keeps, prepend_known}
 use Rattle.std.proofs.lemmas.List.{append-nil}
 use Rattle.runs.specs.Run.{Run, run_push}
@@ -12,12 +12,13 @@ use Rattle.ldom_report.specs.declared.status.Status.TheVariants as status
 use Rattle.ldom_report.specs.Stops.{IsReaders}
 use Rattle.script_reader.specs.declared.lines.LinesStop.{LinesStop}
 use Rattle.script_reader.specs.declared.lines.LinesStop.TheVariants.{Going}
-use Rattle.script_reader.specs.LinesState.{AllFed, most_of_a_read}
+use Rattle.script_reader.specs.LinesState.{AllFed}
+use Rattle.script_laws.specs.Attached.{is_opening}
 use Rattle.script_laws.specs.Going.{ReadsOn, RunAt, RunsLines, run_at}
 use Rattle.world_parts.specs.Lines.{LineStarts, EventStep, line_of}
 use Rattle.world_parts.specs.Parts.{Fits, FitsSoFar}
 use Rattle.ldom_report.specs.LinesEnd.{counted_lines}
-use Rattle.script_laws.specs.Reading.{ReadsEvent, StopsAt}
+use Rattle.script_laws.specs.Reading.{HoldsLess, ReadsEvent, StopsAt}
 use Rattle.world_parts.specs.domain_laws.Domain.{DomainState}
 use Rattle.world_parts.specs.Script.{BeginBelow, entries_in, events_in}
 use Rattle.domain_script.proofs.ScriptLemmas.{short-append, takes-append, takes_none}
@@ -103,8 +104,8 @@ runs_more was stop start rest left before mid after event so_far reads is few be
 -- no further line is taken up: a source fails where the reader goes on
 pub runs_stop : (stop : LinesStop) (start rest now : Option (List ℕ)) (held : List ℕ) (before here : RunAt) (names : NamesState) (journal : List Entry) (lines : ℕ) (why : Status)
     → IsReaders why → RunsSoFar stop start rest before here → StopsAt why rest held now here.names here.count (length here.journal) → (why ≡ status.SourceFault → stop ≡ Going)
-    → lines ≡ counted_lines why here.count → names ≡ here.names → journal ≡ here.journal → RunsLines start now before why (run_at names journal here.world lines)
-runs_stop stop start rest now held before here names journal lines why readers so_far stops going is names_are journal_is =
+    → why ≢ status.NoMemory → lines ≡ counted_lines why here.count → names ≡ here.names → journal ≡ here.journal → RunsLines start now before why (run_at names journal here.world lines)
+runs_stop stop start rest now held before here names journal lines why readers so_far stops going other is names_are journal_is =
     subst (λ (n : NamesState). RunsLines start now before why (run_at n journal here.world lines)) (sym names_are)
     (subst (λ (l : List Entry). RunsLines start now before why (run_at here.names l here.world lines)) (sym journal_is) (record {
       parts = record { whole = so_far.lines; cut = None };
@@ -113,6 +114,7 @@ runs_stop stop start rest now held before here names journal lines why readers s
       grew = so_far.grew;
       fits = record { middle = here.world; run = so_far.run; last = refl; begin_below = so_far.below };
       ends = whole_ends so_far.lines why readers;
+      wanted = λ wanted. absurd (other wanted);
       held = held;
       stop = subst (λ (n : ℕ). StopsAt why rest held now here.names n (length here.journal)) so_far.counts stops;
       feeds = λ failed. so_far.feeds (going failed);
@@ -126,9 +128,9 @@ keeps_same (Some bytes) = refl
 -- memory was wanted in the midst of a line
 pub runs_cut : {was stop : LinesStop} (start rest now : Option (List ℕ)) (held : List ℕ) (before mid after : RunAt) (event : Event) → RunsSoFar was start rest before mid
     → ReadsEvent stop rest (prepend_known held now) mid.names event after.names → after.count ≡ mid.count + 1 → after.count ≤ 20000 → length mid.journal < 2000000
-    → FitsSoFar mid.world (line_of event) mid.journal after.journal after.world → after.names.ended ≡ true → length held ≤ most_of_a_read
+    → FitsSoFar mid.world (line_of event) mid.journal after.journal after.world → is_opening event ≡ false → after.names.ended ≡ true → HoldsLess held
     → RunsLines start now before status.NoMemory after
-runs_cut start rest now held before mid after event so_far reads is few below fits ended short = record {
+runs_cut start rest now held before mid after event so_far reads is few below fits other ended short = record {
   parts = record { whole = so_far.lines; cut = Some (event, fits.adds.part) };
   left = prepend_known held now;
   read = on_more start rest (prepend_known held now) before.names mid.names after.names before.count mid.count after.count (events_in so_far.lines)
@@ -137,8 +139,9 @@ runs_cut start rest now held before mid after event so_far reads is few below fi
   grew = more_entries so_far.lines event fits.adds.part before.journal mid.journal after.journal so_far.grew fits.adds.grew;
   fits = grind (arith, line_starts, below_push, below_here);
   ends = tt;
+  wanted = λ _. other;
   held = held;
-  stop = (inr (inl (ended, short)), keeps_same (prepend_known held now));
+  stop = (inr (inl (ended, short)), keeps_same (prepend_known held now), tt);
   feeds = λ failed. cc failed;
   counted = omega (arith, is, so_far.counts, length-append so_far.read.texts (reads.text ∷ []));
 }

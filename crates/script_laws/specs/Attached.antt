@@ -1,11 +1,12 @@
 -- Where a script's image is attached, and whether a run has one.
-use Rattle.std.specs.Prelude.{◌≡◌, ◌↔◌, ℕ, ◌⊎◌, Bool, true, false, IsTrue, List, [], ◌∷◌, ◌++◌, Option, Some, None, IsNone, IsSome, ⊤}
+use Rattle.std.specs.Prelude.{◌≡◌, ◌↔◌, ℕ, ◌⊎◌, Bool, true, false, IsTrue, List, [], ◌∷◌, ◌++◌, Option, Some, None, IsNone, IsSome, IsSomeAnd, ⊤}
 use Rattle.std.specs.Io.KnownBytes.{IsAtEnd}
 use Rattle.domain_script.specs.declared.event.Event.{Event}
 use Rattle.domain_script.specs.declared.event.Event.TheVariants as line
 use Rattle.ldom_entries.specs.declared.entry.Entry.{Entry}
 use Rattle.ldom_report.specs.declared.status.Status.{Status}
 use Rattle.ldom_report.specs.declared.status.Status.TheVariants as status
+use Rattle.world_parts.specs.Script.{ScriptParts, events_of}
 
 -- whether a line is blank or a declaration
 abbrev pub is_opening : Event → Bool
@@ -32,18 +33,22 @@ pub record EndsOpening (events : List Event) : Type 0 where
 abbrev pub AttachesAt : List Event → Option (List ℕ) → Type 0
 AttachesAt events rest = (AreOpening events × IsAtEnd rest) ⊎ EndsOpening events
 
+-- the last of these lines was cut off, which is neither blank nor a declaration
+abbrev pub IsCutOff : ScriptParts → Type 0
+IsCutOff parts = IsSomeAnd parts.cut (λ last. is_opening last.0 ≡ false)
+
 -- Whether there is an image where a run ended so after these lines: exactly where one was attached. At `HostFault`
--- attaching it failed, and at `ImageSize` it is too short; after want of memory it may have failed, where no step was made
--- yet: the host's count tells (`Gave`).
-abbrev pub ImageStands : {D : Type 0} → Status → List Event → Option (List ℕ) → List Entry → Option D → Type 0
-ImageStands status.Done events rest journal image = IsSome image
-ImageStands status.StoreFault events rest journal image = IsSome image
-ImageStands status.HostFault events rest journal image = IsNone image × AttachesAt events rest
-ImageStands (status.ImageSize need have) events rest journal image = IsSome image × AttachesAt events rest
-ImageStands status.NoMemory events rest journal None = (journal ≡ []) × (AreOpening events ⊎ AttachesAt events rest)
-ImageStands status.NoMemory events rest journal (Some image) = AreOpening events → IsAtEnd rest
-ImageStands (status.Script at fault) events rest journal image = IsNone image ↔ AreOpening events
-ImageStands (status.Limit at kind) events rest journal image = IsNone image ↔ AreOpening events
-ImageStands status.SourceFault events rest journal image = IsNone image ↔ AreOpening events
-ImageStands status.Usage events rest journal image = ⊥
-ImageStands status.SinkFault events rest journal image = ⊥
+-- attaching it failed, and at `ImageSize` it is too short; for want of memory it may have failed, where no step was made
+-- yet: the host's count tells (`Gave`). Over an image memory is wanted by the work of a line alone: so never at the end.
+abbrev pub ImageStands : {D : Type 0} → Status → ScriptParts → Option (List ℕ) → List Entry → Option D → Type 0
+ImageStands status.Done parts rest journal image = IsSome image
+ImageStands status.StoreFault parts rest journal image = IsSome image
+ImageStands status.HostFault parts rest journal image = IsNone image × AttachesAt (events_of parts) rest
+ImageStands (status.ImageSize need have) parts rest journal image = IsSome image × AttachesAt (events_of parts) rest
+ImageStands status.NoMemory parts rest journal None = (journal ≡ []) × (AreOpening (events_of parts) ⊎ AttachesAt (events_of parts) rest)
+ImageStands status.NoMemory parts rest journal (Some image) = IsCutOff parts
+ImageStands (status.Script at fault) parts rest journal image = IsNone image ↔ AreOpening (events_of parts)
+ImageStands (status.Limit at kind) parts rest journal image = IsNone image ↔ AreOpening (events_of parts)
+ImageStands status.SourceFault parts rest journal image = IsNone image ↔ AreOpening (events_of parts)
+ImageStands status.Usage parts rest journal image = ⊥
+ImageStands status.SinkFault parts rest journal image = ⊥

@@ -7,7 +7,7 @@ use Rattle.ldom_report.specs.declared.status.Status.{Status}
 use Rattle.ldom_report.specs.declared.status.Status.TheVariants as status
 use Rattle.ldom_report.specs.LinesEnd.{counted_lines}
 use Rattle.script_reader.specs.LinesState.{AllFed}
-use Rattle.script_laws.specs.Attached.{AreOpening}
+use Rattle.script_laws.specs.Attached.{AreOpening, IsCutOff}
 use Rattle.world_parts.specs.Endings.{EndsSo, JournalIs, ending}
 use Rattle.script_laws.specs.Reading.{StopsAt}
 use Rattle.script_laws.specs.Replayed.{Stopped}
@@ -36,7 +36,8 @@ pub record ReadsOn (start left : Option (List ℕ)) (before : NamesState) (numbe
   pub few : number + length texts ≤ most_lines
   pub spell : AllSpell texts before events after
 
--- They were read and run, and then no further one was taken up. Where the source failed, each had its line feed.
+-- They were read and run, and then no further one was taken up. Where the source failed, each had its line feed. Memory is
+-- wanted by the work of a line alone.
 pub record RunsLines (start now : Option (List ℕ)) (before : RunAt) (why : Status) (after : RunAt) : Type 0 where
   pub parts : ScriptParts
   pub left : Option (List ℕ)
@@ -44,6 +45,7 @@ pub record RunsLines (start now : Option (List ℕ)) (before : RunAt) (why : Sta
   pub grew : after.journal ≡ before.journal ++ journal_of parts
   pub fits : FitsScript (length before.journal) before.world parts after.world
   pub ends : EndsSo (ending why) parts
+  pub wanted : why ≡ status.NoMemory → IsCutOff parts
   pub held : List ℕ
   pub stop : StopsAt why left held now after.names (before.count + length read.texts) (length after.journal)
   pub feeds : why ≡ status.SourceFault → AllFed start left read.texts
@@ -56,5 +58,6 @@ pub record RunsAll (start now : Option (List ℕ)) (names : NamesState) (s : Dom
   pub stopped : Stopped start now why (events_of parts) after.names (length after.journal) after.count
   pub journal_is : JournalIs (ending why) s parts after.journal after.world
   pub declared : declared_by after.names ≡ declared_by names
+  pub wanted : why ≡ status.NoMemory → IsCutOff parts
   -- but at the input's end, a line came at which the image is attached
   pub attached : why ≢ status.Done → AreOpening (events_of parts) → ⊥

@@ -1,14 +1,15 @@
 -- The lines of a script before the first that is neither blank nor a declaration.
-use Rattle.std.specs.Prelude.{◌≡◌, ℕ, ◌≤◌, true, List, [], ◌∷◌, ◌++◌, length, Option, Some, None}
+use Rattle.std.specs.Prelude.{◌≡◌, ℕ, true, List, [], ◌∷◌, ◌++◌, Option, Some, None}
 use Rattle.domain_script.specs.declared.event.Event.{Event}
 use Rattle.domain_script.specs.NamesState.{NamesState}
 use Rattle.ldom_report.specs.declared.status.Status.{Status}
 use Rattle.ldom_report.specs.declared.status.Status.TheVariants as status
 use Rattle.script_laws.specs.Attached.{AreOpening}
+use Rattle.script_laws.specs.Reading.{HoldsLess}
 use Rattle.script_laws.specs.Replayed.{Stopped}
 use Rattle.script_laws.specs.Script.{ReadSoFar}
 use Rattle.script_reader.specs.declared.lines.LinesStop.TheVariants.{Going}
-use Rattle.script_reader.specs.LinesState.{AllFed, LinesState, most_of_a_read, to_come}
+use Rattle.script_reader.specs.LinesState.{AllFed, LinesState, to_come}
 
 -- After blank lines and declarations came this event; so the reader stands, and the source has `now` left. Where the
 -- reader goes on, each line had its line feed.
@@ -21,8 +22,7 @@ pub record Opens (start : Option (List ℕ)) (reader : LinesState) (now : Option
   pub other : AreOpening (event ∷ []) → ⊥
   -- it ends the declarations
   pub ended : names.ended ≡ true
-  -- behind it no more is held than one read gave
-  pub held : length reader.held ≤ most_of_a_read
+  pub held : HoldsLess reader.held
 
 -- after such lines no further one was taken up
 pub record OpensAndStops (start now : Option (List ℕ)) (why : Status) (names : NamesState) (lines : ℕ) : Type 0 where

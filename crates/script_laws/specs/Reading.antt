@@ -1,5 +1,5 @@
 -- One line of a script after another, and why no further one is taken up.
-use Rattle.std.specs.Prelude.{◌≡◌, ◌⊎◌, ℕ, ◌+◌, ◌<◌, ◌≤◌, true, List, [], length, Option, Some}
+use Rattle.std.specs.Prelude.{◌≡◌, ◌⊎◌, ℕ, ◌+◌, ◌<◌, ◌≤◌, true, List, [], length, Option, Some, ⊤}
 use Rattle.std.specs.Io.KnownBytes.{IsAtEnd, Keeps, prepend_known}
 use Rattle.domain_script.specs.declared.event.Event.{Event}
 use Rattle.domain_script.specs.declared.event.LineFault.{LineFault}
@@ -39,10 +39,13 @@ pub record IsRead (rest left : Option (List ℕ)) : Type 0 where
   pub taken : TakesLine rest left text
   pub short : length text ≤ most_line_bytes
 
--- THE DECLARATIONS ARE BEHIND: a line that isn't one was taken up, behind which no more is held than one read gave; or
--- nothing is to come
+-- behind a line that was taken up less is held than one read gives
+abbrev pub HoldsLess : List ℕ → Type 0
+HoldsLess held = length held < most_of_a_read
+
+-- THE DECLARATIONS ARE BEHIND: a line that isn't one was taken up; or nothing is to come
 abbrev pub IsDeclaredOut : Option (List ℕ) → List ℕ → NamesState → Type 0
-IsDeclaredOut rest held names = ((names.ended ≡ true) × (length held ≤ most_of_a_read)) ⊎ IsAtEnd rest
+IsDeclaredOut rest held names = ((names.ended ≡ true) × HoldsLess held) ⊎ IsAtEnd rest
 
 -- Memory was wanted before a byte was taken, or behind the declarations.
 abbrev pub WantsMemory : Option (List ℕ) → List ℕ → NamesState → ℕ → Type 0
@@ -70,6 +73,14 @@ LeavesUnread (status.Script at fault) rest left = IsRead rest left
 LeavesUnread (status.Limit at limit.Entries) rest left = IsRead rest left
 LeavesUnread _ rest left = Keeps rest left
 
--- both, where that which is left is what is `held` and what the source has left
+-- HOW MUCH OF IT is held: where no line was taken, the beginning of one and what one read gave, or that alone
+abbrev pub HoldsUnread : Status → List ℕ → Type 0
+HoldsUnread (status.Script at fault) held = HoldsLess held
+HoldsUnread (status.Limit at limit.Entries) held = HoldsLess held
+HoldsUnread (status.Limit at limit.Bytes) held = length held ≤ most_line_bytes + most_of_a_read
+HoldsUnread (status.Limit at limit.Lines) held = length held ≤ most_of_a_read
+HoldsUnread _ held = ⊤
+
+-- all three, where that which is left is what is `held` and what the source has left
 abbrev pub StopsAt : Status → Option (List ℕ) → List ℕ → Option (List ℕ) → NamesState → ℕ → ℕ → Type 0
-StopsAt why rest held now names count entries = HasReason why rest (prepend_known held now) held names count entries × LeavesUnread why rest (prepend_known held now)
+StopsAt why rest held now names count entries = HasReason why rest (prepend_known held now) held names count entries × LeavesUnread why rest (prepend_known held now) × HoldsUnread why held

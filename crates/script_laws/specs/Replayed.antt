@@ -65,5 +65,5 @@ pub record Replayed {D : Type 0} (seen : D → ImageState) (script now : Option 
   pub journal_is : JournalIs (ending why) (start_of names gives) parts journal final
   pub image_is : IfSome image (λ disk. StandsBehind (seen disk) final.first.image)
   pub faults_are : FaultsAre why image final.first.image.faults
-  pub image_stands : ImageStands why (events_of parts) stopped.left journal image
+  pub image_stands : ImageStands why parts stopped.left journal image
   pub lanes_stand : LanesStand why image lanes final
