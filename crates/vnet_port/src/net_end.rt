@@ -1,6 +1,5 @@
 ghost use Rattle.std.specs.Prelude.{◌≡◌, ◌-◌, ◌^◌, ◌<◌, ◌≤◌, length, is_some, IfOk};
 ghost use Rattle.cookie_copy.specs.Faults.{PagesWithin};
-ghost use Rattle.ldc_link.specs.declared.phase.Role.TheVariants.{Initiator};
 ghost use Rattle.ldc_queue.specs.ChannelView.{configured_channel};
 
 use crate::answers::{GroupsFull, SendFault};
@@ -165,11 +164,9 @@ impl NetEnd {
         self.end.frame()
     }
 
-    /// Puts a group's address last into a guest's list, which is told to the switch. The answer is false where it is in
-    /// the list. `GroupsFull` comes where it isn't, and seven others are. Then nothing changes. The switch's end joins
-    /// no group: its list is what the session told it.
+    /// Puts a group's address last into the list, which is told to the switch. The answer is false where it is in the
+    /// list. `GroupsFull` comes where it isn't, and seven others are. Then nothing changes.
     pub fn join_group(&mut self, address: [u8; 6]) -> Result<bool, GroupsFull>
-        requires guest { role_of self.old ≡ Initiator }
         ensures { NetJoins self.old (joining result address) self.new }
     {
         self.end.join_group(address)

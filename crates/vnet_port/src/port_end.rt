@@ -1,7 +1,6 @@
 // An end without what always holds of it: its fields, and the calls that change them.
 
 ghost use Rattle.std.specs.Prelude.{◌≡◌, ◌-◌, ◌^◌, ◌<◌, ◌≤◌, length, is_some, IfOk};
-ghost use Rattle.ldc_link.specs.declared.phase.Role.TheVariants.{Initiator};
 ghost use Rattle.ldc_queue.specs.ChannelView.{configured_channel};
 ghost use Rattle.lane_models.specs.RuleFacts.{IfOpen};
 ghost use Rattle.vnet_msg.specs.Frames.{is_frame_length};
@@ -130,9 +129,8 @@ impl PortEnd {
         Ok(id)
     }
 
-    /// Puts a group last into a guest's list. Tells whether it wasn't there.
+    /// Puts a group last into the list. Tells whether it wasn't there.
     pub(crate) fn join_group(&mut self, address: [u8; 6]) -> Result<bool, GroupsFull>
-        requires guest { role_of self.old ≡ Initiator }
         ensures { NetJoins self.old (joining result address) self.new }
     {
         if self.groups.contains(&address) {
