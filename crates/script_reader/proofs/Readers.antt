@@ -1,12 +1,12 @@
 -- What a reader of lines holds, seen from its fields.
-use Rattle.std.proofs.Common.{◌≡◌, ◌≢◌, ◌⊎◌, inl, inr, Ok, ℕ, Bool, true, false, cond, List, [], ◌∷◌, ◌++◌, Option, Some, None, IfSome, refl, sym, ap, ◌∙◌, subst}
+use Rattle.std.proofs.Common.{◌≡◌, ◌≢◌, ◌≤◌, ◌+◌, ◌⊎◌, inl, inr, Ok, ℕ, Bool, length, length-append, arith, true, false, cond, List, [], ◌∷◌, ◌++◌, Option, Some, None, IfSome, refl, sym, ap, ◌∙◌, subst}
 use Rattle.std.proofs.KnownBytes.{Keeps-refl}
 use Rattle.std.specs.Io.KnownBytes.{Keeps, IsAtEnd, prepend_known}
 use Rattle.script_reader.specs.declared.lines.Lines.TheInside.{Inside}
 use Rattle.script_reader.specs.declared.lines.LinesStop.{LinesStop}
 use Rattle.script_reader.specs.declared.lines.LinesStop.TheVariants.{Ended, TooLong, TooMany}
-use Rattle.script_reader.specs.LinesState.{LinesState, to_come, GivesNone, GoesFrom, GoesOn, ReaderAnswers}
-use Rattle.script_reader.specs.Reader.{reader_state}
+use Rattle.script_reader.specs.LinesState.{LinesState, to_come, GivesNone, GoesFrom, GoesOn, HoldsFew, ReaderAnswers}
+use Rattle.script_reader.specs.Reader.{IsReader, reader_state}
 
 held_by : (given : Bool) (line piece : List ℕ) → (cond given line []) ≡ [] → line ++ piece ≡ (cond given [] line) ++ piece
 held_by true line piece forgotten = ap (λ (l : List ℕ). l ++ piece) forgotten
@@ -50,6 +50,21 @@ gives_none reader s held left after why is forgotten told = record {
   line = refl;
   count = ap (λ (t : LinesState). t.number) is;
   stop = refl;
+}
+
+-- so much is held
+held_of : (given : Bool) (line piece : List ℕ) → length ((cond given [] line) ++ piece) ≤ length line + length piece
+held_of true line piece = omega arith
+held_of false line piece = omega (arith, length-append line piece)
+
+held_behind_all : (given : Bool) (line piece : List ℕ) → (given ≡ false → line ≡ []) → length ((cond given [] line) ++ piece) ≤ length piece
+held_behind_all true line piece none = omega arith
+held_behind_all false line piece none = omega (arith, ap (λ (l : List ℕ). length (l ++ piece)) (none refl))
+
+pub holds_few : (reader : Inside) → IsReader reader → HoldsFew (reader_state reader)
+holds_few reader is = record {
+  all = omega (arith, held_of reader.given reader.line.items reader.piece, is.short, is.piece);
+  last = λ all. omega (arith, held_behind_all reader.given reader.line.items reader.piece (is.all all), is.piece);
 }
 
 -- a reader that ended answers the end, and gives what it held no more

@@ -24,6 +24,12 @@ pub record LinesState : Type 0 where
   -- whether a further call can give a line, and else why not
   pub stop : LinesStop
 
+-- at any time no more is held than the beginning of a line and what one read gave, and after the last line that there
+-- may be no more than that
+pub record HoldsFew (lines : LinesState) : Type 0 where
+  pub all : length lines.held ≤ most_line_bytes + most_of_a_read
+  pub last : lines.number ≡ most_lines → length lines.held ≤ most_of_a_read
+
 -- the bytes that are still to come, where the source tells those that it has left
 abbrev pub to_come : LinesState → Option (List ℕ) → Option (List ℕ)
 to_come lines left = prepend_known lines.held left
@@ -55,8 +61,8 @@ pub record GivesLine (rest left : Option (List ℕ)) (before after : LinesState)
   pub count : after.number ≡ before.number + 1
   pub few : after.number ≤ most_lines
   pub ends : LineEnds after.stop rest left after.line
-  -- behind a line no more is held than one read gave
-  pub held : length after.held ≤ most_of_a_read
+  -- behind a line less is held than one read gives
+  pub held : length after.held < most_of_a_read
 
 -- no line was given, and all that was taken is kept
 pub record GivesNone (rest left : Option (List ℕ)) (before after : LinesState) (why : LinesStop) : Type 0 where

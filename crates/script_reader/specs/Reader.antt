@@ -2,7 +2,7 @@
 use Rattle.std.specs.Prelude.{◌≡◌, ◌≤◌, false, [], ◌++◌, length, if◌then◌else◌, vec_capacity}
 use Rattle.script_reader.specs.declared.lines.LinesStop.TheVariants.{TooLong, TooMany}
 use Rattle.script_reader.specs.declared.lines.Lines.TheInside.{Inside}
-use Rattle.script_reader.specs.LinesState.{LinesState}
+use Rattle.script_reader.specs.LinesState.{LinesState, most_of_a_read}
 use Rattle.domain_script.specs.Pieces.{HasNoFeed}
 use Rattle.domain_script.specs.Limits.{most_line_bytes, most_lines}
 
@@ -18,6 +18,8 @@ reader_state reader = record {
 pub record IsReader (reader : Inside) : Type 0 where
   pub short : length reader.line.items ≤ most_line_bytes
   pub no_feed : HasNoFeed reader.line.items
+  -- the piece is what is left of one read
+  pub piece : length reader.piece ≤ most_of_a_read
   -- there is room for the longest line
   pub room : most_line_bytes ≤ vec_capacity reader.line
   pub few : reader.number ≤ most_lines

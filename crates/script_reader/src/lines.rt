@@ -81,7 +81,7 @@ impl Model for Lines {
 impl Lines {
     ghost use Rattle.std.specs.Prelude.{◌≡◌, ◌≢◌, ℕ, ◌<◌, ◌≤◌, [], true, length, IfOk};
     ghost use Rattle.vio_io.specs.Causes.{Rose};
-    ghost use Rattle.script_reader.specs.LinesState.{Advances, EndsNow, GoesOn, ReaderAnswers, to_come};
+    ghost use Rattle.script_reader.specs.LinesState.{Advances, EndsNow, GoesOn, HoldsFew, ReaderAnswers, to_come};
 
     /// Nothing was read. No other call takes memory: the room of a line of the most bytes is taken here.
     pub fn new(alloc: Global) -> Result<Self, NoMemory>
@@ -128,9 +128,10 @@ impl Lines {
         if self.given { &self.line } else { &[] }
     }
 
-    /// How many lines were given.
+    /// How many lines were given. By this call too, how much is held at any time is known.
     pub fn number(&self) -> u32
-        ensures { result ≡ self.now.number }
+        ensures number { result ≡ self.now.number }
+        ensures held { HoldsFew self.now }
     {
         self.number
     }

@@ -1,4 +1,4 @@
-ghost use Rattle.std.specs.Prelude.{◌≡◌, ◌≢◌, ◌↔◌, ℕ, ◌<◌, ◌≤◌, [], ◌++◌, length, drop, false, IfOk, IsTrue, OnErr, IsErr};
+ghost use Rattle.std.specs.Prelude.{◌≡◌, ◌≢◌, ◌↔◌, ℕ, ◌+◌, ◌<◌, ◌≤◌, [], ◌++◌, length, drop, false, IfOk, IsTrue, OnErr, IsErr};
 ghost use Rattle.vio_io.specs.Causes.{Fails};
 ghost use Rattle.vio_io.specs.Ends.{SaysEnd};
 ghost use Rattle.std.specs.Io.KnownBytes.{IsAtEnd, Keeps, prepend_known};
@@ -61,7 +61,7 @@ impl Piece {
     pub fn skip(&mut self, n: usize)
         requires { n ≤ length self.old }
         ensures value { self.new ≡ drop n self.old }
-        ensures short { length self.new ≤ most_of_a_read }
+        ensures short { length self.new + n ≤ most_of_a_read }
     {
         self.start += n;
     }
@@ -80,6 +80,7 @@ impl Piece {
         ensures end { IfOk result (λ more. self.new ≡ [] → IsAtEnd (S.left source.new)) }
         ensures drained { OnErr result (self.old ≡ []) }
         ensures same { OnErr result (self.new ≡ []) }
+        ensures short { length self.new ≤ most_of_a_read }
         ensures faults { Fails (IsErr result) (S.faults source.old) (S.faults source.new) }
         ensures ends { SaysEnd (result ≡ Ok false) (S.ends source.old) (S.ends source.new) }
     {
@@ -96,6 +97,7 @@ impl Piece {
         ensures some { IfOk result (λ more. IsTrue more ↔ (self.new ≢ [])) }
         ensures end { IfOk result (λ more. self.new ≡ [] → IsAtEnd (S.left source.new)) }
         ensures same { OnErr result (self.new ≡ []) }
+        ensures short { length self.new ≤ most_of_a_read }
         ensures faults { Fails (IsErr result) (S.faults source.old) (S.faults source.new) }
         ensures ends { SaysEnd (result ≡ Ok false) (S.ends source.old) (S.ends source.new) }
     {

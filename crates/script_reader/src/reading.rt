@@ -1,4 +1,4 @@
-ghost use Rattle.std.specs.Prelude.{◌≡◌, ◌≢◌, ◌≤◌, ◌++◌, length, false, true, vec_capacity};
+ghost use Rattle.std.specs.Prelude.{◌≡◌, ◌≢◌, ◌<◌, ◌≤◌, ◌++◌, length, false, true, vec_capacity};
 ghost use Rattle.vio_io.specs.Causes.{Fails};
 ghost use Rattle.vio_io.specs.Ends.{SaysEnd};
 ghost use Rattle.std.specs.Io.KnownBytes.{prepend_known};
@@ -36,7 +36,8 @@ fn take_part(piece: &mut Piece, line: &mut Vec<u8>) -> Result<bool, LinesFault>
     requires no_feed { HasNoFeed line.old.items }
     requires room { most_line_bytes ≤ vec_capacity line.old }
     ensures moves { MovesPart piece.old line.old.items result piece.new line.new.items }
-    ensures rest { length piece.new ≤ most_of_a_read }
+    ensures rest { result ≡ Ok true → length piece.new < most_of_a_read }
+    ensures short { length piece.new ≤ most_of_a_read }
     ensures room { most_line_bytes ≤ vec_capacity line.new }
 {
     let rest = piece.rest();
@@ -65,7 +66,8 @@ pub fn read_line<S: Source>(
     requires no_feed { HasNoFeed line.old.items }
     requires room { most_line_bytes ≤ vec_capacity line.old }
     ensures reads { ReadsLine (prepend_known (line.old.items ++ piece.old) (S.left source.old)) result line.new.items piece.new (S.left source.new) }
-    ensures rest { result ≡ Ok true → length piece.new ≤ most_of_a_read }
+    ensures rest { result ≡ Ok true → length piece.new < most_of_a_read }
+    ensures short_rest { length piece.new ≤ most_of_a_read }
     ensures short { length line.new.items ≤ most_line_bytes }
     ensures no_feed { HasNoFeed line.new.items }
     ensures room { most_line_bytes ≤ vec_capacity line.new }
