@@ -5,11 +5,11 @@ use Rattle.std.specs.List.{count_by}
 use Rattle.std.proofs.lemmas.List.{flat_map_more, length-map, map-append}
 use Rattle.std.proofs.lemmas.List.Sums.{sum_by-append}
 use Rattle.std.proofs.KnownBytes.{Appends-trans}
-use Rattle.domain_script.specs.ScriptLines.{LinesTaken, TakesLine}
+use Rattle.domain_script.specs.ScriptLines.{LinesTaken}
 use Rattle.domain_script.proofs.ScriptLemmas.{taken_more, taken_none}
 use Rattle.script_reader.specs.declared.lines.LinesStop.{LinesStop}
 use Rattle.script_reader.specs.declared.lines.LinesStop.TheVariants.{Going}
-use Rattle.script_reader.specs.LinesState.{AllFed, most_of_a_read}
+use Rattle.script_reader.specs.LinesState.{AllFed, HoldsFew, LinesState, most_of_a_read}
 use Rattle.script_reader.proofs.FedLines.{fed_more, fed_none}
 use Rattle.ldom_report.specs.declared.status.Status.{Status}
 use Rattle.ldom_report.specs.declared.status.Status.TheVariants as the_status
@@ -21,8 +21,11 @@ use Rattle.ldom_dump.specs.Decoded.{AreOfLines, Decoded, IsOfLine, decoded_lines
 use Rattle.ldom_dump.specs.declared.lines.Ended.{Ended}
 use Rattle.ldom_dump.specs.DumpReport.{Dumps, SourceTells, Written, WroteMostLines, dump_text, end_line}
 use Rattle.ldom_dump.specs.Going.{DumpsLines, Finishes, GathersUnlessSinkFault, PutsPacket, TellsCarried, TellsMessage}
-use Rattle.ldom_report.specs.Stops.{EndsTold, IsReaders}
-use Rattle.ldom_dump.specs.Reading.{ReadsBytes, DumpStops}
+use Rattle.ldom_report.specs.declared.status.LimitKind.TheVariants as limit
+use Rattle.ldom_report.specs.declared.stop.Stop.{Stop}
+use Rattle.ldom_report.specs.declared.stop.Stop.TheVariants.{End, Source, Limit, Memory, Faulty, Entries}
+use Rattle.ldom_report.specs.Stops.{EndsTold, IsReaders, stop_status}
+use Rattle.ldom_dump.specs.Reading.{DumpHolds, DumpStops, HasDumpReason, HoldsBehind, ReadsBytes}
 
 -- the message that a packet carries was told
 pub tells_carried : (of : Option (List ℕ)) (bytes old new : List ℕ) → of ≡ Some bytes → TellsMessage bytes old new → TellsCarried of old new
@@ -131,20 +134,33 @@ ended_so why lines packets faults = record { why = why; lines = lines; packets =
 -- no further line is read
 pub lines_stop : (stop : LinesStop) (start rest now old new : Option (List ℕ)) (held : List ℕ) (ended : Ended) (gathered : List ℕ) (count : ℕ)
     → LinesSoFar stop start rest old new gathered count ended.packets ended.faults → IsReaders ended.why → DumpStops ended.why rest held now count → (ended.why ≡ the_status.SourceFault → stop ≡ Going)
-    → ended.lines ≡ counted_lines ended.why count → DumpsLines start now ended old new gathered
-lines_stop stop start rest now old new held ended gathered count so_far readers stops going is = record {
+    → ended.lines ≡ counted_lines ended.why count → DumpHolds ended.why held → DumpsLines start now ended old new gathered
+lines_stop stop start rest now old new held ended gathered count so_far readers stops going is holds = record {
   all = so_far.all;
   left = rest;
   taken = so_far.taken;
   are = so_far.are;
   held = held;
   stop = subst (λ (n : ℕ). DumpStops ended.why rest held now n) so_far.counts stops;
+  holds = holds;
   feeds = λ failed. so_far.feeds (going failed);
   lines_are = λ other. is ∙ ap (λ (n : ℕ). counted_lines ended.why n) so_far.counts;
   packets_are = so_far.packets_are;
   faults_are = so_far.faults_are;
   gathers = unless_sink_fault ended.why old new gathered (decoded_lines so_far.all) readers so_far.gathers;
 }
+
+-- how much is held where no further line was read
+pub dump_holds : (stop : Stop) (at count : ℕ) (lines : LinesState) (rest left : Option (List ℕ)) → HoldsBehind stop lines.held → HasDumpReason (stop_status stop at) rest left lines.held count
+    → lines.number ≡ counted_lines (stop_status stop at) count → HoldsFew lines → DumpHolds (stop_status stop at) lines.held
+dump_holds End at count lines rest left behind reason number few = tt
+dump_holds Source at count lines rest left behind reason number few = tt
+dump_holds (Limit limit.Lines) at count lines rest left behind reason number few = few.last (number ∙ reason.1.0)
+dump_holds (Limit limit.Bytes) at count lines rest left behind reason number few = few.all
+dump_holds (Limit limit.Entries) at count lines rest left behind reason number few = absurd reason.1
+dump_holds Memory at count lines rest left behind reason number few = tt
+dump_holds (Faulty fault) at count lines rest left behind reason number few = behind
+dump_holds Entries at count lines rest left behind reason number few = tt
 
 -- the sink failed as what was gathered of these lines, and what is last, was written
 most_written : (old mid new : Option (List ℕ)) (gathered lines last text : List ℕ) → text ≡ lines ++ last → Gathers old mid gathered lines → WroteFront mid new (gathered ++ last)
@@ -170,7 +186,7 @@ most_written_last old mid new gathered lines g wrote few =
 
 -- the sink failed before the next line's text was gathered
 pub lines_cut : (before stop : LinesStop) (start rest now old mid new : Option (List ℕ)) (held bytes gathered after : List ℕ) (count next lines packets faults : ℕ)
-    → LinesSoFar before start rest old mid gathered count packets faults → ReadsBytes stop rest (prepend_known held now) bytes → next ≡ count + 1 → next ≤ 20000 → length held ≤ most_of_a_read
+    → LinesSoFar before start rest old mid gathered count packets faults → ReadsBytes stop rest (prepend_known held now) bytes → next ≡ count + 1 → next ≤ 20000 → length held < most_of_a_read
     → WroteFront mid new gathered → length gathered ≤ most_gathered → DumpsLines start now (ended_so the_status.SinkFault lines packets faults) old new after
 lines_cut before stop start rest now old mid new held bytes gathered after count next lines packets faults so_far reads is few short front room = record {
   all = so_far.all;
@@ -181,8 +197,8 @@ lines_cut before stop start rest now old mid new held bytes gathered after count
   stop = record {
     reason = omega (arith, is, few, so_far.counts);
     left = record { line = reads.line; taken = reads.taken; digits = record { bytes = bytes; spells = reads.digits } };
-    holds = short;
   };
+  holds = short;
   feeds = λ failed. cc failed;
   lines_are = λ other. absurd (other refl);
   packets_are = so_far.packets_are;
@@ -196,7 +212,7 @@ nothing_held (Some bytes) = refl
 
 -- memory was wanted before the first line
 pub lines_unread : (start old : Option (List ℕ)) (gathered : List ℕ) → gathered ≡ [] → DumpsLines start start (ended_so the_status.NoMemory 0 0 0) old old gathered
-lines_unread start old gathered none = lines_stop Going start start start old old [] (ended_so the_status.NoMemory 0 0 0) gathered 0 (so_far_none Going start old gathered 0 refl none) tt (record { reason = (refl, refl); left = nothing_held start; holds = tt }) (λ _. refl) refl
+lines_unread start old gathered none = lines_stop Going start start start old old [] (ended_so the_status.NoMemory 0 0 0) gathered 0 (so_far_none Going start old gathered 0 refl none) tt (record { reason = (refl, refl); left = nothing_held start }) (λ _. refl) refl tt
 
 -- how a last line was written after what was gathered
 ends : (why status : Status) (old mid new : Option (List ℕ)) (gathered text last whole : List ℕ) → whole ≡ text ++ last → Gathers old mid gathered text
@@ -244,6 +260,7 @@ dumps before now old mid new ended status gathered read finishes told said unask
       ends = said;
       unasked = unasked;
       stop = read.stop;
+      holds = read.holds;
       feeds = read.feeds;
       written = written ended.why status old mid new gathered (end_line ended.lines ended.packets ended.faults ended.why) read.all last read.gathers finishes;
     }

@@ -14,7 +14,7 @@ use Rattle.ldom_report.specs.Report.{cause_text}
 use Rattle.ldom_report.specs.Status.{status_number}
 use Rattle.ldom_dump.specs.Decoded.{AreOfLines, Decoded, decoded_lines, is_fault, is_packet}
 use Rattle.ldom_dump.specs.Fields.{field_text}
-use Rattle.ldom_dump.specs.Reading.{DumpStops}
+use Rattle.ldom_dump.specs.Reading.{DumpHolds, DumpStops}
 
 -- how many lines were taken up, how many of them are packets, and how many aren't
 abbrev pub counts_text : ℕ → ℕ → ℕ → List ℕ
@@ -38,7 +38,8 @@ pub record WroteMostLines (old new : Option (List ℕ)) (lines text : List ℕ) 
 abbrev pub Written : Status → Status → Option (List ℕ) → Option (List ℕ) → List Decoded → Type 0
 Written SinkFault status old new all = (status ≡ SinkFault) × WroteMostLines old new (decoded_lines all) (decoded_lines all)
 Written why status old new all =
-    ((status ≡ why) × Appends old new (dump_text all why)) ⊎ ((status ≡ SinkFault) × WroteMostLines old new (decoded_lines all) (dump_text all why))
+    ((status ≡ why) × Appends old new (dump_text all why))
+    ⊎ ((status ≡ SinkFault) × WroteMostLines old new (decoded_lines all) (dump_text all why))
 
 -- A source at one moment: the bytes that it has left, where it tells them, and how often it failed and said that it is at
 -- its end.
@@ -68,5 +69,6 @@ pub record Dumps (before now : SourceTells) (status : Status) (old new : Option 
   -- memory is wanted before the source is asked
   pub unasked : why ≡ NoMemory → now.ends ≡ before.ends
   pub stop : DumpStops why left held now.left (length all)
+  pub holds : DumpHolds why held
   pub feeds : why ≡ SourceFault → AllFed before.left left (map (λ decoded. decoded.line) all)
   pub written : Written why status old new all

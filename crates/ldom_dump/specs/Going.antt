@@ -20,7 +20,7 @@ use Rattle.ldom_dump.specs.Decoded.{AreOfLines, CarriesMessage, CarriesIn, Decod
 use Rattle.ldom_dump.specs.DumpReport.{WroteMostLines}
 use Rattle.ldom_dump.specs.MessageText.{carried_line, message_line}
 use Rattle.ldom_dump.specs.PacketText.{packet_line}
-use Rattle.ldom_dump.specs.Reading.{DumpStops}
+use Rattle.ldom_dump.specs.Reading.{DumpHolds, DumpStops}
 
 -- the line of the message that these bytes spell was put after a text, or that of their fault
 pub record TellsMessage (bytes old new : List ℕ) : Type 0 where
@@ -63,6 +63,7 @@ pub record DumpsLines (start now : Option (List ℕ)) (ended : Ended) (old new :
   pub are : AreOfLines all
   pub held : List ℕ
   pub stop : DumpStops ended.why left held now (length all)
+  pub holds : DumpHolds ended.why held
   pub feeds : ended.why ≡ SourceFault → AllFed start left (map (λ decoded. decoded.line) all)
   pub lines_are : ended.why ≢ SinkFault → ended.lines ≡ counted_lines ended.why (length all)
   pub packets_are : ended.packets ≡ count_by is_packet all
@@ -74,4 +75,5 @@ pub record DumpsLines (start now : Option (List ℕ)) (ended : Ended) (old new :
 abbrev pub Finishes : Status → Status → Option (List ℕ) → Option (List ℕ) → List ℕ → List ℕ → Type 0
 Finishes SinkFault status old new gathered last = (status ≡ SinkFault) × (new ≡ old)
 Finishes why status old new gathered last =
-    ((status ≡ why) × Appends old new (gathered ++ last)) ⊎ ((status ≡ SinkFault) × WroteFront old new (gathered ++ last) × (length gathered ≤ most_gathered))
+    ((status ≡ why) × Appends old new (gathered ++ last))
+    ⊎ ((status ≡ SinkFault) × WroteFront old new (gathered ++ last) × (length gathered ≤ most_gathered))

@@ -5,8 +5,11 @@ use Rattle.domain_script.specs.declared.event.LineFault.{LineFault}
 use Rattle.domain_script.specs.declared.event.LineFault.TheVariants.{Hex}
 use Rattle.domain_script.specs.Pieces.{DecidesNothing}
 use Rattle.domain_script.specs.ScriptLines.{TakesLine}
+use Rattle.ldom_report.specs.declared.status.LimitKind.TheVariants as limit
 use Rattle.ldom_report.specs.declared.status.Status.{Status}
 use Rattle.ldom_report.specs.declared.status.Status.TheVariants as status
+use Rattle.ldom_report.specs.declared.stop.Stop.{Stop}
+use Rattle.ldom_report.specs.declared.stop.Stop.TheVariants.{Faulty}
 use Rattle.ldom_report.specs.LinesEnd.{IsPast}
 use Rattle.ldom_dump.specs.Decoded.{SpellsBytes}
 use Rattle.ldom_dump.specs.Whole.{IsDigits}
@@ -57,14 +60,21 @@ DumpLeaves (status.Script at fault) rest left = (line : List ℕ) × TakesLine r
 DumpLeaves status.SinkFault rest left = TakesDigits rest left
 DumpLeaves why rest left = Keeps rest left
 
--- HOW MUCH OF IT is held: behind a line that was taken no more than one read gave
-abbrev pub DumpHolds : Status → List ℕ → Type 0
-DumpHolds (status.Script at fault) held = length held ≤ most_of_a_read
-DumpHolds status.SinkFault held = length held ≤ most_of_a_read
-DumpHolds why held = ⊤
-
--- all three, where `held` and then what the source has are left
+-- both, where `held` and then what the source has are left
 pub record DumpStops (why : Status) (rest : Option (List ℕ)) (held : List ℕ) (now : Option (List ℕ)) (count : ℕ) : Type 0 where
   pub reason : HasDumpReason why rest (prepend_known held now) held count
   pub left : DumpLeaves why rest (prepend_known held now)
-  pub holds : DumpHolds why held
+
+-- HOW MUCH OF IT is held: behind a line that was taken less than one read gives, and where none was, the beginning of one and what
+-- one read gave, or that alone
+abbrev pub DumpHolds : Status → List ℕ → Type 0
+DumpHolds (status.Script at fault) held = length held < most_of_a_read
+DumpHolds status.SinkFault held = length held < most_of_a_read
+DumpHolds (status.Limit at limit.Bytes) held = length held ≤ most_line_bytes + most_of_a_read
+DumpHolds (status.Limit at limit.Lines) held = length held ≤ most_of_a_read
+DumpHolds why held = ⊤
+
+-- less than one read gives is held behind a line that was taken and spells nothing
+abbrev pub HoldsBehind : Stop → List ℕ → Type 0
+HoldsBehind (Faulty fault) held = length held < most_of_a_read
+HoldsBehind stop held = ⊤

@@ -1,12 +1,12 @@
 // A line of hexadecimal digits.
-ghost use Rattle.std.specs.Prelude.{◌≡◌, ◌≢◌, ◌+◌, ◌≤◌, ℕ, List, length, IfErr, IfNone, IfOk, IfSome, OnOk};
+ghost use Rattle.std.specs.Prelude.{◌≡◌, ◌≢◌, ◌+◌, ◌<◌, ◌≤◌, ℕ, List, length, IfErr, IfNone, IfOk, IfSome, OnOk};
 ghost use Rattle.script_reader.specs.declared.lines.LinesStop.TheVariants.{Going};
 ghost use Rattle.script_reader.specs.LinesState.{GoesOn, KeepsEnds, most_of_a_read, to_come};
 ghost use Rattle.ldom_report.specs.LinesEnd.{counted_lines};
 ghost use Rattle.ldom_dump.specs.Decoded.{SpellsBytes};
 ghost use Rattle.vio_io.specs.Causes.{Fails};
 ghost use Rattle.ldom_report.specs.Stops.{ReaderStandsAt, stop_status};
-ghost use Rattle.ldom_dump.specs.Reading.{ReadsBytes, DumpStops};
+ghost use Rattle.ldom_dump.specs.Reading.{ReadsBytes, DumpStops, HoldsBehind};
 ghost use Rattle.domain_script.specs.Limits.{most_lines};
 
 use domain_script::decode_lower;
@@ -39,10 +39,11 @@ pub fn read_bytes<S: Source>(lines: &mut Lines, source: &mut S) -> Result<[u8; 6
         (to_come lines.new (S.left source.new))) }
     ensures next { IfOk result (λ _. (lines.new.number ≡ lines.old.number + 1) × (lines.new.number ≤ most_lines)
         × GoesOn lines.new (S.left source.new)) }
-    ensures held { OnOk result (length lines.new.held ≤ most_of_a_read) }
+    ensures held { OnOk result (length lines.new.held < most_of_a_read) }
 
     ensures stop { IfErr result (λ stop. DumpStops (stop_status stop lines.new.number)
         (to_come lines.old (S.left source.old)) lines.new.held (S.left source.new) lines.old.number) }
+    ensures behind { IfErr result (λ stop. HoldsBehind stop lines.new.held) }
     ensures lines { IfErr result (λ stop. lines.new.number ≡ counted_lines (stop_status stop lines.new.number)
         lines.old.number) }
     ensures most { lines.new.number ≤ most_lines }

@@ -1,9 +1,11 @@
-use Rattle.std.proofs.Common.{◌∙◌, ℕ, arith, subst, sym}
+use Rattle.std.proofs.Common.{◌≡◌, ◌∙◌, ℕ, List, ap, arith, subst, sym}
 use Rattle.script_reader.specs.LinesState.{to_come}
 use Rattle.ldom_report.specs.declared.status.Status.{Status}
-use Rattle.ldom_report.specs.Stops.{EndsTold}
-use Rattle.ldom_report.proofs.StopLemmas.{ends_told, told_once, wanted_memory}
-use Rattle.ldom_dump.proofs.DumpLemmas.{lines_cut, so_far_fault, so_far_packet}
+use Rattle.ldom_report.specs.LinesEnd.{counted_lines}
+use Rattle.ldom_report.specs.Stops.{EndsTold, IsReaders, stop_status}
+use Rattle.ldom_report.proofs.StopLemmas.{ends_told, failed_at_source, readers_of, told_once, wanted_memory}
+use Rattle.ldom_dump.specs.Reading.{DumpHolds, DumpStops}
+use Rattle.ldom_dump.proofs.DumpLemmas.{dump_holds, ended_so, lines_cut, lines_stop, so_far_fault, so_far_packet}
 use Rattle.ldom_dump.proofs.lines.dump_lines.Goals as goal
 
 pub loop-bytes-preserved-in-Ok-true : goal.loop-bytes-preserved-in-Ok-true
@@ -60,3 +62,21 @@ returns-in-Err-put_packet-clause-dumps g c =
     lines_cut c.loop-bytes.lines.stop c.read_bytes.new.lines.stop start rest (g.S.Source.left c.read_bytes.new.source) (g.K.Sink.written c.args.out.now) (g.K.Sink.written c.loop-bytes.out) (g.K.Sink.written c.put_packet.new.out)
     c.read_bytes.new.lines.held c.in-Ok.bytes c.loop-bytes.text c.put_packet.new.text c.loop-bytes.lines.number c.read_bytes.new.lines.number c.number-in-Err-put_packet.result c.loop-bytes.packets c.loop-bytes.faults
     c.loop-bytes.invariant.so_far c.in-Ok.ensures.bytes c.in-Ok.ensures.next.0 c.in-Ok.ensures.next.1 c.in-Ok.ensures.held c.in-Err-put_packet.ensures.front c.put_packet.ensures.few
+
+pub returns-in-Err-clause-dumps : goal.returns-in-Err-clause-dumps
+returns-in-Err-clause-dumps g c =
+    let start = to_come c.args.lines.now (g.S.Source.left c.args.source.now) in
+    let rest = to_come c.loop-bytes.lines (g.S.Source.left c.loop-bytes.source) in
+    let held : List ℕ = c.read_bytes.new.lines.held in
+    let at : ℕ = c.read_bytes.new.lines.number in
+    let count : ℕ = c.loop-bytes.lines.number in
+    let now = g.S.Source.left c.read_bytes.new.source in
+    let why : c.status.result ≡ stop_status c.in-Err.stop at = c.status.ensures ∙ ap (λ (n : ℕ). stop_status c.in-Err.stop n) c.number.ensures.number in
+    lines_stop c.loop-bytes.lines.stop start rest now (g.K.Sink.written c.args.out.now) (g.K.Sink.written c.loop-bytes.out) held
+    (ended_so c.status.result c.number-in-Err.result c.loop-bytes.packets c.loop-bytes.faults) c.loop-bytes.text count c.loop-bytes.invariant.so_far
+    (subst IsReaders (sym why) (readers_of c.in-Err.stop at))
+    (subst (λ (w : Status). DumpStops w rest held now count) (sym why) c.in-Err.ensures.stop)
+    (λ is. c.in-Err.ensures.going (λ end. cc (failed_at_source c.in-Err.stop at (sym why ∙ is), end)))
+    (c.number-in-Err.ensures.number ∙ c.in-Err.ensures.lines ∙ ap (λ (w : Status). counted_lines w count) (sym why))
+    (subst (λ (w : Status). DumpHolds w held) (sym why)
+    (dump_holds c.in-Err.stop at count c.read_bytes.new.lines rest _ c.in-Err.ensures.behind c.in-Err.ensures.stop.reason c.in-Err.ensures.lines c.number.ensures.held))
