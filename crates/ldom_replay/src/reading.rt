@@ -1,13 +1,13 @@
 // What a run has read of its script.
 ghost use Rattle.std.specs.Prelude.{◌≡◌, ◌≢◌, ◌+◌, ◌<◌, ◌≤◌, [], length, IfErr, IfOk, OnOk};
 ghost use Rattle.script_reader.specs.declared.lines.LinesStop.TheVariants.{Going};
-ghost use Rattle.script_reader.specs.LinesState.{GoesOn, KeepsEnds, most_of_a_read, to_come};
+ghost use Rattle.script_reader.specs.LinesState.{GoesOn, KeepsEnds, to_come};
 ghost use Rattle.domain_script.specs.ScriptEvents.{no_names};
 ghost use Rattle.domain_script.specs.Spells.{IsDeclared};
 ghost use Rattle.ldom_report.specs.LinesEnd.{counted_lines, most_entries};
 ghost use Rattle.ldom_report.specs.Stops.{ReaderStandsAt, stop_lines, stop_status};
 ghost use Rattle.vio_io.specs.Causes.{Fails};
-ghost use Rattle.script_laws.specs.Reading.{ReadsEvent, StopsAt};
+ghost use Rattle.script_laws.specs.Reading.{HoldsLess, ReadsEvent, StopsAt};
 ghost use Rattle.domain_script.specs.Limits.{most_lines};
 
 use crate::run::Run;
@@ -44,6 +44,7 @@ impl Reader {
 
     /// Reads the event of the next line, which is noted in the names; else says why no line was taken up. A line that
     /// begins with too many entries is read, and nothing is made of it.
+    #[tactic(auto, using(crate::proofs::ReaderStops::reader_stops))]
     pub fn read_event<S: Source>(&mut self, source: &mut S, event: &mut Event) -> Result<(), Stop>
         requires goes { GoesOn self.old.lines (S.left source.old) }
         requires few { self.old.lines.number ≤ most_lines }
@@ -53,10 +54,13 @@ impl Reader {
         ensures declared { OnOk result (IsDeclared self.new.names event.new) }
         ensures next { OnOk result ((self.new.lines.number ≡ self.old.lines.number + 1)
             × (self.new.lines.number ≤ most_lines) × GoesOn self.new.lines (S.left source.new)) }
-        ensures held { OnOk result (length self.new.lines.held ≤ most_of_a_read) }
+        ensures held { OnOk result (HoldsLess self.new.lines.held) }
         ensures most { self.new.lines.number ≤ most_lines }
         ensures below { OnOk result (length self.old.journal.entries < most_entries) }
         ensures journal { self.new.journal ≡ self.old.journal }
+
+        // Reading takes no memory.
+        ensures memory { IfErr result (λ stop. stop ≢ Stop.Memory) }
 
         // Behind a last line without a line feed the source isn't asked.
         ensures going { result ≢ Err Stop.End → self.old.lines.stop ≡ Going }
@@ -69,7 +73,11 @@ impl Reader {
             (stop_status stop self.new.lines.number) self.old.lines.number) × (self.new.names ≡ self.old.names)) }
         ensures source { Fails (result ≡ Err Stop.Source) (S.faults source.old) (S.faults source.new) }
     {
-        next_line(&mut self.lines, source)?;
+        if let Err(stop) = next_line(&mut self.lines, source) {
+            // How much is held is known by this call.
+            let _number = self.lines.number();
+            return Err(stop);
+        }
         if self.journal.len() >= MOST_ENTRIES {
             return Err(Stop::Entries);
         }

@@ -5,11 +5,11 @@ use Rattle.script_laws.specs.Going.{run_at}
 use Rattle.script_reader.specs.LinesState.{to_come}
 use Rattle.ldom_report.specs.Stops.{stop_lines, stop_status}
 use Rattle.script_laws.proofs.ReadLemmas.{same_disks, same_ports, still_ended}
-use Rattle.script_laws.proofs.LineCases.{for_declared}
+use Rattle.script_laws.proofs.LineCases.{asks_something, for_declared}
 use Rattle.ldom_world.specs.world_parts.Lines.{line_of}
 use Rattle.ldom_world.specs.world_parts.Parts.{Fits, FitsSoFar}
 use Rattle.ldom_replay.specs.NamesLanes.{HasLanes}
-use Rattle.ldom_replay.proofs.Beginning.{has_still}
+use Rattle.ldom_replay.proofs.Beginning.{has_still, wants_memory}
 use Rattle.script_laws.proofs.RunLemmas.{runs_cut, runs_more, runs_none, runs_stop}
 use Rattle.ldom_report.proofs.StopLemmas.{failed_at_source, readers_of}
 use Rattle.ldom_replay.proofs.run.run_lines.Goals as goal
@@ -64,6 +64,7 @@ returns-in-Err-apply-clause-runs g c =
     (run_at c.read_event.new.self.names c.apply.new.journal.entries c.apply.new.self c.read_event.new.self.lines.number) c.read_event.new.event
     c.loop-stop.invariant.so_far c.in-Ok.ensures.event c.in-Ok.ensures.next.0 c.in-Ok.ensures.next.1 c.in-Ok.ensures.below
     (subst (λ (j : JournalState). FitsSoFar c.loop-stop.world (line_of c.read_event.new.event) j.entries c.apply.new.journal.entries c.apply.new.self) c.in-Ok.ensures.journal c.in-Err-apply.ensures.so_far)
+    (asks_something c.read_event.new.event (λ none. cc (c.in-Err-apply.ensures.nothing none).0))
     (still_ended (to_come c.loop-stop.reader.lines (g.S.Source.left c.loop-stop.source)) (to_come c.read_event.new.self.lines (g.S.Source.left c.read_event.new.source)) c.read_event.new.event
     c.loop-stop.reader.names c.read_event.new.self.names c.in-Ok.ensures.event c.loop-stop.invariant.ended)
     c.in-Ok.ensures.held
@@ -79,7 +80,8 @@ returns-in-Err-clause-runs g c =
     (run_at c.args.reader.now.names c.args.reader.now.journal.entries c.args.world.now c.args.reader.now.lines.number)
     (run_at c.loop-stop.reader.names c.loop-stop.reader.journal.entries c.loop-stop.world c.loop-stop.reader.lines.number)
     read.names read.journal.entries (stop_lines c.in-Err.stop read.lines.number) why (readers_of c.in-Err.stop read.lines.number) c.loop-stop.invariant.so_far c.in-Err.ensures.stop
-    (λ failed. c.in-Err.ensures.going (λ is. let at_source = failed_at_source c.in-Err.stop read.lines.number failed in cc (at_source, is))) c.in-Err.ensures.lines.0 c.in-Err.ensures.lines.1
+    (λ failed. c.in-Err.ensures.going (λ is. let at_source = failed_at_source c.in-Err.stop read.lines.number failed in cc (at_source, is)))
+    (λ wanted. c.in-Err.ensures.memory (wants_memory c.in-Err.stop read.lines.number wanted)) c.in-Err.ensures.lines.0 c.in-Err.ensures.lines.1
     (ap (λ (j : JournalState). j.entries) c.in-Err.ensures.journal)
 
 pub apply-requires-clause-event : goal.apply-requires-clause-event
