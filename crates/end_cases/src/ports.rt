@@ -2,6 +2,8 @@
 
 ghost use Rattle.std.specs.Prelude.{◌≡◌, ◌+◌, ◌*◌, ◌≤◌, length, IfSome};
 ghost use Rattle.cookie_copy.specs.Faults.{PagesWithin};
+ghost use Rattle.ldc_link.specs.declared.phase.Role.TheVariants.{Initiator};
+ghost use Rattle.net_lane.specs.Calls.{role_of};
 
 use crate::answers::net_text;
 use crate::cases::Stage;
@@ -26,6 +28,7 @@ pub struct Port {
     guest_table: MapTable,
     hub_table: MapTable,
     given: u64,
+    ghost guest_role: { role_of guest ≡ Initiator },
     ghost guest_ring: { 8192 + 2048 * guest.slots ≤ length guest_memory },
     ghost hub_ring: { 8192 + 2048 * hub.slots ≤ length hub_memory },
     ghost guest_pages: { PagesWithin guest_table (length guest_memory) },
@@ -80,6 +83,7 @@ impl Port {
 
     // With a memory for each end.
     fn between(alloc: Global, guest: NetEnd, hub: NetEnd) -> Option<Port>
+        requires guest_role { role_of guest ≡ Initiator }
         requires guest_slots { guest.slots ≤ 64 }
         requires hub_slots { hub.slots ≤ 64 }
         requires guest_ids { guest.next_id ≡ 0 }
@@ -98,6 +102,7 @@ impl Port {
         guest_memory: Memory,
         hub_memory: Memory,
     ) -> Option<Port>
+        requires guest_role { role_of guest ≡ Initiator }
         requires guest_ring { 8192 + 2048 * guest.slots ≤ length guest_memory }
         requires hub_ring { 8192 + 2048 * hub.slots ≤ length hub_memory }
         requires guest_pages { 139264 ≡ length guest_memory }
@@ -329,6 +334,7 @@ fn between_ends(alloc: Global) -> Option<(Channel, MapTable, MapTable)>
 fn end_of(alloc: Global, role: Role, slots: u32) -> Option<NetEnd>
     requires some { 2 ≤ slots }
     requires most { slots ≤ 64 }
+    ensures role { IfSome result (λ end. role_of end ≡ role) }
     ensures slots { IfSome result (λ end. end.slots ≡ slots) }
     ensures ids { IfSome result (λ end. end.next_id ≡ 0) }
 {
