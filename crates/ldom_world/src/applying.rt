@@ -1,7 +1,7 @@
 // What a line of a script says, done to a world.
 
-ghost use Rattle.std.specs.Prelude.{◌≡◌, ◌<◌, length, take, OnErr, OnOk};
-ghost use Rattle.recorded_lanes.specs.world_parts.domain_laws.Lines.{Asked, Joins, Sends};
+ghost use Rattle.std.specs.Prelude.{◌≡◌, ◌<◌, length, take, IsOk, OnErr, OnOk};
+ghost use Rattle.recorded_lanes.specs.world_parts.domain_laws.Lines.{Asked, Joins, Nothing, Sends};
 ghost use Rattle.domain_script.specs.Fills.{IsPiece};
 ghost use Rattle.recorded_lanes.specs.Steps.{Counted};
 ghost use Rattle.ldom_world.specs.TurnsMade.{SameNumbers};
@@ -17,8 +17,8 @@ use vio_bytes::NoMemory;
 use vio_io::Store;
 
 impl<D: Store> World<D> {
-    /// Does what a line of the script says, and adds its part to the journal. After want of memory the journal holds
-    /// every step that was made and no other.
+    /// Does what a line of the script says, and adds its part to the journal. A blank line and a declaration say nothing
+    /// and want no memory. After want of memory the journal holds every step that was made and no other.
     #[tactic(auto, using(crate::proofs::NumbersStay::line_many, crate::proofs::Calling::calls_on))]
     pub fn apply(&mut self, event: &Event, journal: &mut Journal) -> Result<(), NoMemory>
         requires event { IsForLanes self.old event.now }
@@ -28,6 +28,7 @@ impl<D: Store> World<D> {
             journal.new.entries self.new) }
         ensures agrees { Counted journal.new.entries self.new }
         ensures many { SameNumbers self.old self.new }
+        ensures nothing { line_of event.now ≡ Nothing → IsOk result × (journal.new ≡ journal.old) }
     {
         match event {
             Event::Blank => Ok(()),
