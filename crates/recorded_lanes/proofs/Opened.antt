@@ -26,6 +26,11 @@ lane_there w lanes image k s is within at =
     subst (λ (l : List LaneState). slice_get l k ≡ Some s) same
     (there_at lanes k s (subst (λ (l : List LaneState). k < length l) (sym same) within) at)
 
+-- so it is the one that is there
+pub lane_is : (w : WorldState) (lanes : List LaneState) (image : ImageState) (k : ℕ) (s x : LaneState)
+    → over lanes image ≡ w → k < length w.lanes → s ≡ get_or lanes k s → slice_get w.lanes k ≡ Some x → x ≡ s
+lane_is w lanes image k s x is within at found = let there = lane_there w lanes image k s is within at in cc
+
 -- and the world after a call of it
 pub one_set : (w : WorldState) (lanes : List LaneState) (image behind : ImageState) (k : ℕ) (t : LaneState)
     → over lanes image ≡ w

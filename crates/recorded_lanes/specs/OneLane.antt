@@ -1,6 +1,8 @@
 -- One event of one lane, and what it leaves in the journal.
 use Rattle.std.specs.Prelude.{◌≡◌, ℕ, Bool, true, false, ◌&&◌, Some}
+use Rattle.disk_lane.specs.vdisk_client.Calls.{front_count}
 use Rattle.ldc_queue.specs.declared.end.End.{End}
+use Rattle.ldc_queue.specs.declared.end.End.TheVariants.{A, B}
 use Rattle.disk_law.specs.ListState.{ImageState}
 use Rattle.world_parts.specs.lane_models.DiskEvent.{DiskEvent}
 use Rattle.world_parts.specs.lane_models.LaneState.{LaneState}
@@ -61,3 +63,8 @@ pub record EndSteps (in_settle : Bool) (k : ℕ) (e : End) (w : WorldState) (old
   pub of_end : IsStep e event
   pub moves : OneMoves w k event v
   pub leaves : LeavesEntry in_settle k event old calm new
+
+-- HOW MANY BYTES a step of this end of a lane may have to keep: those that a completion of a client's first request carries
+abbrev pub kept_bytes : End → LaneState → ℕ
+kept_bytes A s = front_count s.client.pending
+kept_bytes B s = 0

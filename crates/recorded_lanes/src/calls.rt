@@ -1,7 +1,7 @@
 // What a script does to a lane beside asking and stepping it: resets, restarts, stops, starts, losses, ticks, and packets
 // that it forges.
 
-ghost use Rattle.std.specs.Prelude.{◌≡◌, ◌<◌, length, None, OnErr, OnOk};
+ghost use Rattle.std.specs.Prelude.{◌≡◌, ◌<◌, length, None, IsOk, OnErr, OnOk};
 ghost use Rattle.domain_script.specs.LaneKinds.{disk_lane};
 ghost use Rattle.ldom_report.specs.LaneEvents.{end_of};
 ghost use Rattle.ldom_report.specs.Report.{accepted_count};
@@ -67,6 +67,7 @@ impl<D: Store> Disks<D> {
         ensures same { OnErr result ((self.new ≡ self.old) × (journal.new.entries ≡ journal.old.entries)) }
         ensures many { length self.new.lanes ≡ length self.old.lanes }
         ensures agrees { accepted_count journal.new.entries ≡ issued_on self.new.lanes }
+        ensures there { 0 < journal.old.room → IsOk result }
     {
         journal.reserve(1)?;
         call_lane(&mut self.lanes[disk as usize], disk, call, journal);

@@ -1,7 +1,8 @@
 // Requests of guests.
 
-ghost use Rattle.std.specs.Prelude.{◌≡◌, ◌<◌, ◌-◌, ◌^◌, length, OnErr, OnOk};
+ghost use Rattle.std.specs.Prelude.{◌≡◌, ◌<◌, ◌-◌, ◌^◌, length, IsOk, OnErr, OnOk};
 ghost use Rattle.world_parts.specs.domain_laws.Lines.{AnswersRequest, Asked};
+ghost use Rattle.kept_requests.specs.Kept.{HasFewBytes};
 ghost use Rattle.ldom_report.specs.Report.{accepted_count};
 ghost use Rattle.recorded_lanes.specs.Called.{refused_entry};
 ghost use Rattle.recorded_lanes.specs.OneLane.{RecordsAnswer};
@@ -20,7 +21,8 @@ use vio_io::Store;
 
 #[tactic(auto, using(crate::proofs::Opened::answered))]
 impl<D: Store> Disks<D> {
-    /// A guest asks its disk: the request is accepted with its id, or refused, or finds no room.
+    /// A guest asks its disk: the request is accepted with its id, or refused, or finds no room. Memory beside the
+    /// journal's is wanted only for a write's word of more than 16 bytes.
     pub fn issue(
         &mut self,
         disk: u32,
@@ -35,6 +37,7 @@ impl<D: Store> Disks<D> {
         ensures same { OnErr result ((self.new ≡ self.old) × (journal.new.entries ≡ journal.old.entries)) }
         ensures many { length self.new.lanes ≡ length self.old.lanes }
         ensures agrees { accepted_count journal.new.entries ≡ issued_on self.new.lanes }
+        ensures there { HasFewBytes request.now → 0 < journal.old.room → IsOk result }
     {
         journal.reserve(1)?;
         // That there are fewer than 2^63 entries is known by this call alone. So the ids never run out.

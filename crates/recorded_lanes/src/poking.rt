@@ -1,6 +1,6 @@
 // Bytes that a script writes into the memory of an end, though the end never wrote them.
 
-ghost use Rattle.std.specs.Prelude.{◌≡◌, ◌<◌, length, OnErr, OnOk};
+ghost use Rattle.std.specs.Prelude.{◌≡◌, ◌<◌, ◌≤◌, length, IsOk, OnErr, OnOk};
 ghost use Rattle.kept_requests.specs.Bytes.{filled};
 ghost use Rattle.ldc_queue.specs.declared.end.End.TheVariants.{A};
 ghost use Rattle.ldom_report.specs.Report.{accepted_count};
@@ -21,7 +21,8 @@ use vio_io::Store;
 
 #[tactic(auto, using(crate::proofs::Opened::answered))]
 impl<D: Store> Disks<D> {
-    /// Pokes the memory of the disk with this number, once there is room for the entry and a copy of the bytes.
+    /// Pokes the memory of the disk with this number, once there is room for the entry and a copy of the bytes, which
+    /// takes memory where they are more than 16.
     pub fn poke(
         &mut self,
         disk: u32,
@@ -37,6 +38,7 @@ impl<D: Store> Disks<D> {
         ensures same { OnErr result ((self.new ≡ self.old) × (journal.new.entries ≡ journal.old.entries)) }
         ensures many { length self.new.lanes ≡ length self.old.lanes }
         ensures agrees { accepted_count journal.new.entries ≡ issued_on self.new.lanes }
+        ensures there { length bytes.now ≤ 16 → 0 < journal.old.room → IsOk result }
     {
         journal.reserve(1)?;
         let kept = Bytes::from_slice(self.alloc, bytes)?;

@@ -1,7 +1,7 @@
 // What a script does to a port beside stepping it: frames and groups for its guest, resets, losses, ticks, packets and
 // bytes that it forges.
 
-ghost use Rattle.std.specs.Prelude.{◌≡◌, ◌<◌, ◌+◌, ◌-◌, ◌^◌, length, OnErr, OnOk};
+ghost use Rattle.std.specs.Prelude.{◌≡◌, ◌<◌, ◌≤◌, ◌+◌, ◌-◌, ◌^◌, length, IsOk, OnErr, OnOk};
 ghost use Rattle.world_parts.specs.domain_laws.Domain.{PortsStep};
 ghost use Rattle.world_parts.specs.domain_laws.Lines as script;
 ghost use Rattle.world_parts.specs.domain_laws.Lines.{AnswersFrame, AnswersGroup, AnswersPortCall, Calls, Joins, Pokes, Sends};
@@ -37,6 +37,7 @@ impl PortLanes {
         ensures many { length self.new ≡ length self.old }
         ensures agrees { GivenBelow (length journal.new.entries + 1) self.new }
         ensures accepted { accepted_count journal.new.entries ≡ accepted_count journal.old.entries }
+        ensures there { 0 < journal.old.room → IsOk result }
     {
         journal.reserve(1)?;
         // That there are fewer than 2^63 entries is known by this call alone. So the ids never run out.
@@ -61,6 +62,7 @@ impl PortLanes {
         ensures many { length self.new ≡ length self.old }
         ensures agrees { GivenBelow (length journal.new.entries + 1) self.new }
         ensures accepted { accepted_count journal.new.entries ≡ accepted_count journal.old.entries }
+        ensures there { 0 < journal.old.room → IsOk result }
     {
         journal.reserve(1)?;
         let entry = join_group(&mut self.lanes, port, address);
@@ -85,13 +87,15 @@ impl PortLanes {
         ensures many { length self.new ≡ length self.old }
         ensures agrees { GivenBelow (length journal.new.entries + 1) self.new }
         ensures accepted { accepted_count journal.new.entries ≡ accepted_count journal.old.entries }
+        ensures there { 0 < journal.old.room → IsOk result }
     {
         journal.reserve(1)?;
         call_port(&mut self.lanes, port, call, journal);
         Ok(())
     }
 
-    /// Pokes the memory of an end of a port, once there is room for the entry and a copy of the bytes.
+    /// Pokes the memory of an end of a port, once there is room for the entry and a copy of the bytes, which takes memory
+    /// where they are more than 16.
     pub fn poke(
         &mut self,
         port: u32,
@@ -110,6 +114,7 @@ impl PortLanes {
         ensures many { length self.new ≡ length self.old }
         ensures agrees { GivenBelow (length journal.new.entries + 1) self.new }
         ensures accepted { accepted_count journal.new.entries ≡ accepted_count journal.old.entries }
+        ensures there { length bytes.now ≤ 16 → 0 < journal.old.room → IsOk result }
     {
         journal.reserve(1)?;
         let kept = Bytes::from_slice(self.alloc, bytes)?;

@@ -1,6 +1,6 @@
 // Steps of the ends of ports.
 
-ghost use Rattle.std.specs.Prelude.{◌≡◌, ◌<◌, ◌+◌, ◌-◌, ◌^◌, length, IfOk, OnErr, OnOk};
+ghost use Rattle.std.specs.Prelude.{◌≡◌, ◌<◌, ◌+◌, ◌-◌, ◌^◌, length, IfOk, IsOk, OnErr, OnOk};
 ghost use Rattle.world_parts.specs.domain_laws.Domain.{PortsStep};
 ghost use Rattle.domain_script.specs.LaneKinds.{port_lane};
 ghost use Rattle.ldom_report.specs.LaneEvents.{end_of};
@@ -29,6 +29,7 @@ impl PortLanes {
         ensures many { length self.new ≡ length self.old }
         ensures agrees { GivenBelow (length journal.new.entries + 1) self.new }
         ensures accepted { accepted_count journal.new.entries ≡ accepted_count journal.old.entries }
+        ensures there { 0 < journal.old.room → IsOk result }
     {
         journal.reserve(1)?;
         // That there are fewer than 2^63 entries is known by this call alone. So the ids never run out.
@@ -52,6 +53,7 @@ impl PortLanes {
         ensures many { length self.new ≡ length self.old }
         ensures agrees { GivenBelow (length journal.new.entries + 1) self.new }
         ensures accepted { accepted_count journal.new.entries ≡ accepted_count journal.old.entries }
+        ensures there { 0 < journal.old.room → IsOk result }
     {
         journal.reserve(1)?;
         // That there are fewer than 2^63 entries is known by this call alone. So the ids never run out.

@@ -1,13 +1,14 @@
 // Steps of the ends of disks.
 
-ghost use Rattle.std.specs.Prelude.{◌≡◌, ◌<◌, ◌≤◌, [], length, IfOk, OnErr, OnOk};
+ghost use Rattle.std.specs.Prelude.{◌≡◌, ◌<◌, ◌≤◌, [], length, slice_get, Some, IfOk, IsOk, OnErr, OnOk};
 ghost use Rattle.disk_law.specs.ListState.{as_image, ImageState};
 ghost use Rattle.domain_script.specs.LaneKinds.{disk_lane};
 ghost use Rattle.ldc_queue.specs.declared.end.End.TheVariants.{A, B};
 ghost use Rattle.ldom_report.specs.LaneEvents.{end_of};
 ghost use Rattle.ldom_report.specs.Report.{accepted_count};
-ghost use Rattle.recorded_lanes.specs.OneLane.{EndSteps, LaneSteps};
+ghost use Rattle.recorded_lanes.specs.OneLane.{EndSteps, LaneSteps, kept_bytes};
 ghost use Rattle.recorded_lanes.specs.Steps.{MakesQuietStep, MakesStep, moment};
+ghost use Rattle.world_parts.specs.lane_models.LaneState.{LaneState};
 ghost use Rattle.world_parts.specs.world_laws.Issued.{issued_on};
 ghost use Rattle.world_parts.specs.world_laws.World.{WorldStep};
 ghost use Rattle.world_parts.specs.Declared.{LiesWithin};
@@ -22,7 +23,8 @@ use vio_bytes::NoMemory;
 use vio_io::Store;
 
 impl<D: Store> Disks<D> {
-    /// One step of an end of the disk with this number, once there is room for its entry.
+    /// One step of an end of the disk with this number, once there is room for its entry. More memory is wanted only for
+    /// the bytes that a completion of a client's first request may carry.
     pub fn step(&mut self, disk: u32, side: Side, journal: &mut Journal) -> Result<(), NoMemory>
         requires disk { disk < length self.old.lanes }
         requires agrees { accepted_count journal.old.entries ≡ issued_on self.old.lanes }
@@ -31,6 +33,8 @@ impl<D: Store> Disks<D> {
         ensures same { OnErr result ((self.new ≡ self.old) × (journal.new.entries ≡ journal.old.entries)) }
         ensures many { length self.new.lanes ≡ length self.old.lanes }
         ensures agrees { accepted_count journal.new.entries ≡ issued_on self.new.lanes }
+        ensures there { (lane : LaneState) → slice_get self.old.lanes disk ≡ Some lane
+            → kept_bytes (end_of side) lane ≤ 16 → 0 < journal.old.room → IsOk result }
     {
         journal.reserve(1)?;
         self.step_end(disk, side, false, journal)?;
@@ -52,6 +56,8 @@ impl<D: Store> Disks<D> {
         ensures same { OnErr result ((self.new ≡ self.old) × (journal.new.entries ≡ journal.old.entries)) }
         ensures many { length self.new.lanes ≡ length self.old.lanes }
         ensures agrees { accepted_count journal.new.entries ≡ issued_on self.new.lanes }
+        ensures there { (lane : LaneState) → slice_get self.old.lanes disk ≡ Some lane
+            → kept_bytes (end_of side) lane ≤ 16 → 0 < journal.old.room → IsOk result }
     {
         journal.reserve(1)?;
         let calm = self.step_end(disk, side, true, journal)?;
@@ -71,6 +77,8 @@ impl<D: Store> Disks<D> {
         ensures steps { IfOk result (λ calm. EndSteps in_settle disk (end_of side) self.old journal.old calm
             journal.new self.new) }
         ensures same { OnErr result ((self.new ≡ self.old) × (journal.new ≡ journal.old)) }
+        ensures there { (lane : LaneState) → slice_get self.old.lanes disk ≡ Some lane
+            → kept_bytes (end_of side) lane ≤ 16 → IsOk result }
     {
         match side {
             Side::Client => self.step_client(disk, in_settle, journal),
@@ -89,6 +97,8 @@ impl<D: Store> Disks<D> {
         ensures steps { IfOk result (λ calm. EndSteps in_settle disk A self.old journal.old calm journal.new
             self.new) }
         ensures same { OnErr result ((self.new ≡ self.old) × (journal.new ≡ journal.old)) }
+        ensures there { (lane : LaneState) → slice_get self.old.lanes disk ≡ Some lane
+            → kept_bytes A lane ≤ 16 → IsOk result }
     {
         let lane = &mut self.lanes[disk as usize];
         client_step(lane, disk, in_settle, &mut self.room, self.alloc, journal)
@@ -121,6 +131,7 @@ fn client_step(
     ensures same { OnErr result ((lane.new ≡ lane.old) × (journal.new ≡ journal.old)) }
     ensures shape { lane.new.shape ≡ lane.old.shape }
     ensures empty { room.new.items ≡ [] }
+    ensures there { kept_bytes A lane.old ≤ 16 → IsOk result }
 {
     make_room(room, lane.front_len() as usize, alloc)?;
     let mut out = ClientOut::Idle;
@@ -129,11 +140,13 @@ fn client_step(
     Ok(calm)
 }
 
-/// Makes room for so many bytes, if there isn't yet.
+/// Makes room for so many bytes, if there isn't yet. That for up to 16 takes no memory.
 fn make_room(room: &mut Bytes, least: usize, alloc: Global) -> Result<(), NoMemory>
     requires empty { room.old.items ≡ [] }
     ensures made { OnOk result (least ≤ room.new.room) }
     ensures empty { room.new.items ≡ [] }
+    ensures there { least ≤ room.old.room → IsOk result }
+    ensures few { least ≤ 16 → IsOk result }
 {
     if room.room() < least {
         *room = Bytes::with_room(alloc, least)?;

@@ -1,11 +1,12 @@
-use Rattle.std.proofs.Common.{Bool, slice_set}
+use Rattle.std.proofs.Common.{◌≤◌, Bool, slice_set, subst}
 use Rattle.std.proofs.lemmas.Result.{IfOk-weaker}
 use Rattle.disk_law.specs.ListState.{ImageState}
+use Rattle.world_parts.specs.lane_models.LaneState.{LaneState}
 use Rattle.world_parts.specs.world_laws.World.{WorldState}
 use Rattle.ldc_queue.specs.declared.end.End.TheVariants.{A}
 use Rattle.recorded_lanes.proofs.Lifting.{end_steps}
-use Rattle.recorded_lanes.proofs.Opened.{lane_set, lane_there, over}
-use Rattle.recorded_lanes.specs.OneLane.{EndSteps, LaneSteps}
+use Rattle.recorded_lanes.proofs.Opened.{lane_is, lane_set, lane_there, over}
+use Rattle.recorded_lanes.specs.OneLane.{EndSteps, LaneSteps, kept_bytes}
 use Rattle.recorded_lanes.specs.CachedImage.{cached_image}
 use Rattle.recorded_lanes.proofs.disks.Disks.step_client.Goals as goal
 
@@ -28,3 +29,10 @@ returns-clause-steps g c =
     c.index_mut-lane.ensures.value)
     (steps w.image) (lane_set w lanes image c.args.disk t c.self.view_is))
     c.client_step.ensures.steps
+
+pub returns-clause-there : goal.returns-clause-there
+returns-clause-there g c =
+    λ lane found few. c.client_step.ensures.there (subst (λ (s : LaneState). kept_bytes A s ≤ 16)
+    (lane_is c.args.self.now c.self.inside.lanes.items
+    (cached_image g.D.Store c.self.inside.image) c.args.disk c.index_mut-lane.result.now lane c.self.view_is
+    c.requires.disk c.index_mut-lane.ensures.value found) few)
