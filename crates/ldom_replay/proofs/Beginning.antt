@@ -10,10 +10,7 @@ use Rattle.ldom_world.specs.world_parts.lane_models.PortState.{PortState, fresh_
 use Rattle.script_laws.specs.Replayed.{attach_status, start_of}
 use Rattle.vio_io.specs.declared.host.AttachFault.{AttachFault}
 use Rattle.vio_io.specs.declared.host.AttachFault.TheVariants.{Failed, Memory}
-use Rattle.ldom_report.specs.declared.status.Status.TheVariants as status
-use Rattle.ldom_report.specs.declared.stop.Stop.{Stop}
-use Rattle.ldom_report.specs.declared.stop.Stop.TheVariants as stops
-use Rattle.ldom_report.specs.Stops.{AtMostOnce, EndsTold, stop_status}
+use Rattle.ldom_report.specs.Stops.{AtMostOnce, EndsTold}
 use Rattle.ldom_world.specs.world_parts.lane_models.LaneState.{LaneState, fresh}
 use Rattle.ldom_world.specs.world_parts.world_laws.World.{WorldState}
 use Rattle.ldom_world.specs.world_parts.Declared.{nets_of, shapes_of}
@@ -88,15 +85,6 @@ same_lanes left w disks ports = ap (λ (l : List LaneState). both l left.second)
   where
     both : List LaneState → List PortState → Lanes
     both disks ports = record { first = disks; second = ports }
-
--- lines that stop for want of memory
-pub wants_memory : (stop : Stop) (lines : ℕ) → stop_status stop lines ≡ status.NoMemory → stop ≡ stops.Memory
-wants_memory stops.End lines is = cc is
-wants_memory stops.Source lines is = cc is
-wants_memory (stops.Limit kind) lines is = cc is
-wants_memory stops.Memory lines is = refl
-wants_memory (stops.Faulty fault) lines is = cc is
-wants_memory stops.Entries lines is = cc is
 
 -- where a host gave no image, the end of the script may have been told
 pub attach_told : (fault : AttachFault) (before now : ℕ) → AtMostOnce before now → EndsTold (attach_status fault) before now

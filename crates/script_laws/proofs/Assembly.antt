@@ -324,10 +324,10 @@ refused_lanes : (D : Type 0) (fault : AttachFault) (t : DomainState) → LanesSt
 refused_lanes D Failed t = refl
 refused_lanes D Memory t = refl
 
-refused_image : (D : Type 0) (fault : AttachFault) (parts : ScriptParts) (rest : Option (List ℕ)) → AttachesAt (events_of parts) rest
-    → ImageStands {D = D} (attach_status fault) parts rest [] None
-refused_image D Failed parts rest at = (refl, at)
-refused_image D Memory parts rest at = (refl, inr at)
+refused_image : (D : Type 0) (fault : AttachFault) (all : ScriptParts) (rest : Option (List ℕ)) → AttachesAt (events_of all) rest
+    → ImageStands {D = D} (attach_status fault) all rest [] None
+refused_image D Failed all rest at = (refl, at)
+refused_image D Memory all rest at = (refl, inr at)
 
 refused_faults : {D : Type 0} (fault : AttachFault) (image : Option D) (faults : ℕ) → FaultsAre (attach_status fault) image faults
 refused_faults Failed image faults = tt

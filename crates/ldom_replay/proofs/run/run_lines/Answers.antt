@@ -9,9 +9,9 @@ use Rattle.script_laws.proofs.LineCases.{asks_something, for_declared}
 use Rattle.ldom_world.specs.world_parts.Lines.{line_of}
 use Rattle.ldom_world.specs.world_parts.Parts.{Fits, FitsSoFar}
 use Rattle.ldom_replay.specs.NamesLanes.{HasLanes}
-use Rattle.ldom_replay.proofs.Beginning.{has_still, wants_memory}
+use Rattle.ldom_replay.proofs.Beginning.{has_still}
 use Rattle.script_laws.proofs.RunLemmas.{runs_cut, runs_more, runs_none, runs_stop}
-use Rattle.ldom_report.proofs.StopLemmas.{failed_at_source, readers_of}
+use Rattle.ldom_report.proofs.StopLemmas.{failed_at_source, readers_of, wanted_memory}
 use Rattle.ldom_replay.proofs.run.run_lines.Goals as goal
 
 pub loop-stop-init : goal.loop-stop-init
@@ -81,7 +81,7 @@ returns-in-Err-clause-runs g c =
     (run_at c.loop-stop.reader.names c.loop-stop.reader.journal.entries c.loop-stop.world c.loop-stop.reader.lines.number)
     read.names read.journal.entries (stop_lines c.in-Err.stop read.lines.number) why (readers_of c.in-Err.stop read.lines.number) c.loop-stop.invariant.so_far c.in-Err.ensures.stop
     (λ failed. c.in-Err.ensures.going (λ is. let at_source = failed_at_source c.in-Err.stop read.lines.number failed in cc (at_source, is)))
-    (λ wanted. c.in-Err.ensures.memory (wants_memory c.in-Err.stop read.lines.number wanted)) c.in-Err.ensures.lines.0 c.in-Err.ensures.lines.1
+    (λ wanted. c.in-Err.ensures.memory (wanted_memory c.in-Err.stop read.lines.number wanted)) c.in-Err.ensures.lines.0 c.in-Err.ensures.lines.1
     (ap (λ (j : JournalState). j.entries) c.in-Err.ensures.journal)
 
 pub apply-requires-clause-event : goal.apply-requires-clause-event
