@@ -175,11 +175,12 @@ AreSteps [] [] = ⊤
 AreSteps (next ∷ turns) (entry ∷ part) = IsStepOf next.lane next.side entry × AreSteps turns part
 AreSteps _ _ = ⊥
 
--- and so far a front of them
+-- and so far a front of them: where a turn was made, another is left
 pub record AreFirstSteps (turns : List EndTurn) (part : List SettleEntry) : Type 0 where
   pub made : List EndTurn
   pub left : List EndTurn
   pub turns_are : turns ≡ made ++ left
+  pub another : left ≡ [] → part ≡ []
   pub steps : AreSteps made part
 
 -- THE PART OF A LINE, over the lanes before it and those after it

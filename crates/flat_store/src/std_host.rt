@@ -163,6 +163,7 @@ impl<R: Files<File = File> + Drop> Host for StdHost<R> {
         ensures once { result ≡ Err AttachFault.Failed → self.new.faults ≡ next_count self.old.faults }
         ensures zeros { IsTrue (bytes_eq name.now (codes "-")) → result ≢ Err AttachFault.Failed }
         ensures files { result ≡ Err AttachFault.Memory → IsTrue (bytes_eq name.now (codes "-")) }
+        ensures no_bytes { IsTrue (bytes_eq name.now (codes "-")) → least ≡ 0 → IsOk result }
         ensures memory_image { IfOk result (λ disk. is_in_memory disk ≡ bytes_eq name.now (codes "-")) }
         ensures uncalled { IfOk result (λ disk. IsUncalled ⟦<StdFile as ImageFile>⟧ disk) }
     {

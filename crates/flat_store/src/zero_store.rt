@@ -1,4 +1,4 @@
-ghost use Rattle.std.specs.Prelude.{◌≡◌, Some, length, replicate, refl, IfOk};
+ghost use Rattle.std.specs.Prelude.{◌≡◌, Some, length, replicate, refl, IfOk, IsOk};
 
 use std::alloc::Global;
 use std::marker::Model;
@@ -29,10 +29,11 @@ impl Model for ZeroStore {
 }
 
 impl ZeroStore {
-    /// A store of so many zeros.
+    /// A store of so many zeros. The one refusal is for want of memory, and a store of no bytes wants none.
     #[tactic(auto, using(crate::proofs::ZeroSizes::size_zeros))]
     pub fn new(alloc: Global, size: usize) -> Result<Self, NoMemory>
-        ensures { IfOk result (λ s. s ≡ record { bytes = replicate size 0; calls = 0; flushes = 0; writes = 0 }) }
+        ensures zeros { IfOk result (λ s. s ≡ record { bytes = replicate size 0; calls = 0; flushes = 0; writes = 0 }) }
+        ensures none { size ≡ 0 → IsOk result }
     {
         Ok(ZeroStore {
             pages: ZeroPages::new(alloc, size.div_ceil(ZERO_PAGE))?,

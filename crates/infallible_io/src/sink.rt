@@ -1,5 +1,6 @@
-ghost use Rattle.std.specs.Prelude.{◌≡◌, ◌≤◌, ◌<◌, [], Some};
+ghost use Rattle.std.specs.Prelude.{◌≡◌, ◌≤◌, ◌<◌, [], Some, length, IfOk, IsErr};
 ghost use Rattle.std.specs.Io.KnownBytes.{WriteAppends};
+ghost use Rattle.vio_io.specs.Causes.{Fails};
 ghost use Rattle.infallible_io.specs.States.{GrowingSinkState};
 
 use std::alloc::Global;
@@ -43,7 +44,15 @@ impl Sink for GrowingSink {
 
     ghost faults = { λ s. s.faults };
 
-    fn write(&mut self, buf: &[u8]) -> Result<usize, Failed> {
+    fn write(&mut self, buf: &[u8]) -> Result<usize, Failed>
+        requires { 0 < length buf.now }
+        ensures some { IfOk result (λ n. 0 < n) }
+        ensures within { IfOk result (λ n. n ≤ length buf.now) }
+        ensures told { WriteAppends (Some self.old.written) (Some self.new.written) result buf.now }
+        ensures faults { Fails (IsErr result) self.old.faults self.new.faults }
+        // all that it is given, however long
+        ensures takes { IfOk result (λ n. n ≡ length buf.now) }
+    {
         match self.written.extend_from_slice(buf) {
             Ok(()) => Ok(buf.len()),
             Err(_) => {

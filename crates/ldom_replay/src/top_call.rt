@@ -21,7 +21,7 @@ ghost use Rattle.ldom_report.specs.DiskEvents.{history};
 ghost use Rattle.script_laws.specs.Objects.{host_tells, run_leaves, tells};
 ghost use Rattle.script_laws.specs.Outcomes.{Reports, RunsScript};
 ghost use Rattle.script_laws.specs.Quiet.{IsQuietScript};
-ghost use Rattle.script_laws.specs.Stored.{flush_count, stored_count, write_count};
+ghost use Rattle.script_laws.specs.Stored.{fault_count, flush_count, stored_count, write_count};
 ghost use Rattle.script_laws.specs.Whole.{RunsPlainly};
 ghost use Rattle.ldom_world.specs.world_parts.Declared.{bytes_needed};
 ghost use Rattle.ldom_words.specs.Words.{AsksDump, AsksRun, AsksSample};
@@ -133,10 +133,12 @@ pub fn replay<H: Host, S: Source, K: Sink>(
     ensures failures { IfSome result.image (λ image. FailuresCounted result.journal.entries (H.Disk.faults image)) }
 
     // The image was asked to flush or to write once for each entry `stored` of the journal of a flush or a write, whether
-    // the call failed or not. It was called at most once for each of all: reads may have been spared it.
+    // the call failed or not. It was called at most once for each of all: reads may have been spared it. Each call that
+    // it counts as failed is one that the journal says failed, and so the other way.
     ensures calls { IfSome result.image (λ image. H.Disk.calls image ≤ stored_count result.journal.entries) }
     ensures flushes { IfSome result.image (λ image. H.Disk.flushes image ≡ flush_count result.journal.entries) }
     ensures writes { IfSome result.image (λ image. H.Disk.writes image ≡ write_count result.journal.entries) }
+    ensures image_faults { IfSome result.image (λ image. H.Disk.faults image ≡ fault_count result.journal.entries) }
 
     // For all words and every status: the image is the one disk that the host gave in this call, and there is none
     // exactly where it gave none, as attaching failed or wanted memory, or was never asked for.

@@ -82,10 +82,11 @@ module _ (first second : List EndTurn) (w m v : DomainState) (old mid new : List
   }
 
 -- FRONTS: nothing yet, a front of what follows, and less than what there is
-pub none_begun : (turns : List EndTurn) (w v : DomainState) (old new : List Entry) → v ≡ w → new ≡ old
-    → TurnsBegun turns w old new v
-none_begun turns w v old new same none = record {
+pub none_begun : (next : EndTurn) (turns : List EndTurn) (w v : DomainState) (old new : List Entry) → v ≡ w → new ≡ old
+    → TurnsBegun (next ∷ turns) w old new v
+none_begun next turns w v old new same none = record {
   made = [];
+  next = next;
   left = turns;
   turns_are = refl;
   turned = none_turned w v old new same none;
@@ -95,8 +96,9 @@ begun_behind : (first second : List EndTurn) (w m v : DomainState) (old mid new 
     → TurnsBegun second m mid new v → TurnsBegun (first ++ second) w old new v
 begun_behind first second w m v old mid new one two = record {
   made = first ++ two.made;
+  next = two.next;
   left = two.left;
-  turns_are = ap (λ (l : List EndTurn). first ++ l) two.turns_are ∙ sym (append_assoc first two.made two.left);
+  turns_are = ap (λ (l : List EndTurn). first ++ l) two.turns_are ∙ sym (append_assoc first two.made (two.next ∷ two.left));
   turned = both_turned first two.made w m v old mid new one two.turned;
 }
 
@@ -104,8 +106,10 @@ begun_before : (first second : List EndTurn) (w v : DomainState) (old new : List
     → TurnsBegun (first ++ second) w old new v
 begun_before first second w v old new begun = record {
   made = begun.made;
+  next = begun.next;
   left = begun.left ++ second;
-  turns_are = ap (λ (l : List EndTurn). l ++ second) begun.turns_are ∙ append_assoc begun.made begun.left second;
+  turns_are =
+      ap (λ (l : List EndTurn). l ++ second) begun.turns_are ∙ append_assoc begun.made (begun.next ∷ begun.left) second;
   turned = begun.turned;
 }
 
@@ -123,7 +127,7 @@ pub first_alone : (lane : LaneName) (w m v : DomainState) (old mid new : List En
     → v ≡ m → new ≡ mid → TurnsBegun (turn lane A ∷ turn lane B ∷ []) w old new v
 first_alone lane w m v old mid new first same none =
     begun_behind (turn lane A ∷ []) (turn lane B ∷ []) w m v old mid new first
-    (none_begun (turn lane B ∷ []) m v mid new same none)
+    (none_begun (turn lane B) [] m v mid new same none)
 
 -- THE LANES OF A KIND in a round, one by one
 turns_join : (kind : LaneKind) (k n more : ℕ) → lane_turns kind k (n + more) ≡ lane_turns kind k n ++ lane_turns kind (k + n) more
@@ -228,7 +232,13 @@ rounds_so_far count w v old new begun = record {
   entries = begun.turned.entries;
   adds = begun.turned.adds (Rounds count);
   begins = record {
-    begins = record { made = begun.made; left = begun.left; turns_are = begun.turns_are; steps = begun.turned.steps };
+    begins = record {
+      made = begun.made;
+      left = begun.next ∷ begun.left;
+      turns_are = begun.turns_are;
+      another = λ none. absurd (cc none);
+      steps = begun.turned.steps;
+    };
     run = begun.turned.run;
   };
 }
@@ -282,8 +292,8 @@ module _ (lane : LaneName) (e : End) (n : ℕ) (w m v : DomainState) (first old 
   pub steps_want : (count : ℕ) → n < count → TurnsMade (replicate n (turn lane e)) w first old m → v ≡ m → new ≡ old
       → FitsSoFar w (Steps lane e count) first new v
   steps_want count less before same none =
-      let rest = count - n in
-      let all : n + rest ≡ count = omega (arith, less) in
+      let rest = count - (n + 1) in
+      let all : n + suc rest ≡ count = omega (arith, less) in
       let turned =
       both_turned (replicate n (turn lane e)) [] w m v first old new before (none_turned m v old new same none) in
       record {
@@ -292,9 +302,10 @@ module _ (lane : LaneName) (e : End) (n : ℕ) (w m v : DomainState) (first old 
         begins = record {
           begins = record {
             made = replicate n (turn lane e) ++ [];
-            left = replicate rest (turn lane e);
-            turns_are = sym (ap (λ (i : ℕ). replicate i (turn lane e)) all) ∙ same_both n rest (turn lane e)
-                ∙ ap (λ (l : List EndTurn). l ++ replicate rest (turn lane e)) (sym (append-nil (replicate n (turn lane e))));
+            left = replicate (suc rest) (turn lane e);
+            turns_are = sym (ap (λ (i : ℕ). replicate i (turn lane e)) all) ∙ same_both n (suc rest) (turn lane e)
+                ∙ ap (λ (l : List EndTurn). l ++ replicate (suc rest) (turn lane e)) (sym (append-nil (replicate n (turn lane e))));
+            another = λ none. absurd (cc none);
             steps = turned.steps;
           };
           run = turned.run;

@@ -1,4 +1,5 @@
 pub mod TurnsMade
 pub mod SettleParts
+pub mod OneEntry
 pub use Rattle.recorded_lanes.specs.Steps
 pub use Rattle.recorded_lanes.specs.world_parts as world_parts

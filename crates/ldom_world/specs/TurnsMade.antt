@@ -1,5 +1,5 @@
 -- Steps of ends, turn by turn, and the part of the journal that they give.
-use Rattle.std.specs.Prelude.{◌≡◌, ℕ, List, ◌++◌, length}
+use Rattle.std.specs.Prelude.{◌≡◌, ℕ, List, ◌∷◌, ◌++◌, length}
 use Rattle.runs.specs.Run.{Run}
 use Rattle.ldom_entries.specs.declared.entry.Entry.{Entry}
 use Rattle.recorded_lanes.specs.world_parts.world_laws.Settle.{SettleEntry}
@@ -17,11 +17,12 @@ pub record TurnsMade (turns : List EndTurn) (w : DomainState) (old new : List En
   pub steps : AreSteps turns entries
   pub run : Run DomainStep w entries v
 
--- and so far a front of them
+-- and so far a front of them: memory was wanted for the next
 pub record TurnsBegun (turns : List EndTurn) (w : DomainState) (old new : List Entry) (v : DomainState) : Type 0 where
   pub made : List EndTurn
+  pub next : EndTurn
   pub left : List EndTurn
-  pub turns_are : turns ≡ made ++ left
+  pub turns_are : turns ≡ made ++ next ∷ left
   pub turned : TurnsMade made w old new v
 
 -- the turns of both ends of so many lanes of a kind, from this number on; and of all of them

@@ -4,7 +4,9 @@ ghost use Rattle.std.specs.Prelude.{◌≡◌, ◌<◌, length, take, IsOk, OnEr
 ghost use Rattle.recorded_lanes.specs.world_parts.domain_laws.Lines.{Asked, Joins, Nothing, Sends};
 ghost use Rattle.domain_script.specs.Fills.{IsPiece};
 ghost use Rattle.recorded_lanes.specs.Steps.{Counted};
+ghost use Rattle.ldom_world.specs.OneEntry.{MakesOneEntry};
 ghost use Rattle.ldom_world.specs.TurnsMade.{SameNumbers};
+ghost use Rattle.recorded_lanes.specs.kept_requests.Kept.{HasFewBytes};
 ghost use Rattle.vdisk_msg.specs.Fills.{IsRequest};
 ghost use Rattle.recorded_lanes.specs.world_parts.Lines.{IsForLanes, line_of};
 ghost use Rattle.recorded_lanes.specs.world_parts.Parts.{Fits, FitsSoFar};
@@ -18,7 +20,8 @@ use vio_io::Store;
 
 impl<D: Store> World<D> {
     /// Does what a line of the script says, and adds its part to the journal. A blank line and a declaration say nothing
-    /// and want no memory. After want of memory the journal holds every step that was made and no other.
+    /// and want no memory. A line that makes one entry wants none either, where the journal has room for it. After want
+    /// of memory the journal holds every step that was made and no other.
     #[tactic(auto, using(crate::proofs::NumbersStay::line_many, crate::proofs::Calling::calls_on))]
     pub fn apply(&mut self, event: &Event, journal: &mut Journal) -> Result<(), NoMemory>
         requires event { IsForLanes self.old event.now }
@@ -29,6 +32,7 @@ impl<D: Store> World<D> {
         ensures agrees { Counted journal.new.entries self.new }
         ensures many { SameNumbers self.old self.new }
         ensures nothing { line_of event.now ≡ Nothing → IsOk result × (journal.new ≡ journal.old) }
+        ensures there { MakesOneEntry event.now → 0 < journal.old.room → IsOk result }
     {
         match event {
             Event::Blank => Ok(()),
@@ -65,6 +69,7 @@ impl<D: Store> World<D> {
         ensures so_far { OnErr result (FitsSoFar self.old (Asked disk request.now) journal.old.entries
             journal.new.entries self.new) }
         ensures agrees { Counted journal.new.entries self.new }
+        ensures there { HasFewBytes request.now → 0 < journal.old.room → IsOk result }
     {
         self.disks.issue(disk, request, journal)
     }
@@ -78,6 +83,7 @@ impl<D: Store> World<D> {
         ensures so_far { OnErr result (FitsSoFar self.old (Sends port frame.now)
             journal.old.entries journal.new.entries self.new) }
         ensures agrees { Counted journal.new.entries self.new }
+        ensures there { 0 < journal.old.room → IsOk result }
     {
         self.ports.send(port, frame, journal)
     }
@@ -91,6 +97,7 @@ impl<D: Store> World<D> {
         ensures so_far { OnErr result (FitsSoFar self.old (Joins port address)
             journal.old.entries journal.new.entries self.new) }
         ensures agrees { Counted journal.new.entries self.new }
+        ensures there { 0 < journal.old.room → IsOk result }
     {
         self.ports.join(port, address, journal)
     }

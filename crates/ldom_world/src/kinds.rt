@@ -1,6 +1,6 @@
 // What a lane of any kind is asked goes to its own kind, whose module has a function of that name.
 
-ghost use Rattle.std.specs.Prelude.{◌≡◌, ◌≤◌, ◌∷◌, [], slice_get, Some, IfOk, OnErr, OnOk};
+ghost use Rattle.std.specs.Prelude.{◌≡◌, ◌≤◌, ◌<◌, ◌∷◌, [], length, slice_get, Some, IfOk, IsOk, OnErr, OnOk};
 ghost use Rattle.recorded_lanes.specs.world_parts.domain_laws.Lines.{Calls, Pokes, turn};
 ghost use Rattle.recorded_lanes.specs.ldom_report.LaneEvents.{end_of};
 ghost use Rattle.recorded_lanes.specs.Called.{call_of};
@@ -101,6 +101,7 @@ impl<D: Store> World<D> {
         ensures so_far { OnErr result (FitsSoFar self.old (Calls (lane_named lane) (call_of call.entry)) journal.old.entries
             journal.new.entries self.new) }
         ensures agrees { Counted journal.new.entries self.new }
+        ensures there { 0 < journal.old.room → IsOk result }
     {
         of_kind!(lane.kind, answer(self, lane.number, call, journal))
     }
@@ -122,6 +123,7 @@ impl<D: Store> World<D> {
             (Calls (lane_named end.lane) (Pokes (end_of end.side) at bytes.now)) journal.old.entries
             journal.new.entries self.new) }
         ensures agrees { Counted journal.new.entries self.new }
+        ensures there { length bytes.now ≤ 16 → 0 < journal.old.room → IsOk result }
     {
         of_kind!(
             end.lane.kind,

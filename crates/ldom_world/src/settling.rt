@@ -1,6 +1,6 @@
 // A settle: rounds, until one in which all lanes are quiet and after which none gets a tick.
 
-ghost use Rattle.std.specs.Prelude.{◌≡◌, ◌&&◌, ◌<◌, ◌≤◌, length, not, replicate, slice_get, slice_set, take, Some, IfOk, OnErr, OnOk};
+ghost use Rattle.std.specs.Prelude.{◌≡◌, ◌&&◌, ◌<◌, ◌≤◌, length, not, replicate, slice_get, slice_set, take, Some, IfOk, IsOk, OnErr, OnOk};
 ghost use Rattle.recorded_lanes.specs.world_parts.domain_laws.Going.{most_rounds};
 ghost use Rattle.recorded_lanes.specs.world_parts.domain_laws.Lines.{Settles};
 ghost use Rattle.recorded_lanes.specs.world_parts.domain_laws.RoundMade.{all_quiet};
@@ -278,6 +278,7 @@ impl<D: Store> World<D> {
         ensures named { OnOk result (NamesGoOn lane calm self.now journal.old.entries journal.new.entries) }
         ensures same { OnErr result (journal.new.entries ≡ journal.old.entries) }
         ensures agrees { Counted journal.new.entries self.now }
+        ensures there { 0 < journal.old.room → IsOk result }
     {
         if self.rests(lane, calm) {
             return Ok(());

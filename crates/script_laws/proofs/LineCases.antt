@@ -65,7 +65,7 @@ asks_something e asks =
     (λ x other names some. other) e asks
 
 no_steps : (turns : List EndTurn) → AreFirstSteps turns []
-no_steps turns = record { made = []; left = turns; turns_are = refl; steps = tt }
+no_steps turns = record { made = []; left = turns; turns_are = refl; another = λ none. refl; steps = tt }
 
 no_round : (w : List LaneState) → RoundFront w [] w
 no_round w = record { turns = []; between = w; made = refl; within = omega arith; begun = []; run = refl; next = inl refl; is = refl }

@@ -22,9 +22,9 @@ use Rattle.script_laws.specs.Failures.{FailuresCounted, SucceedOrFail}
 use Rattle.script_laws.specs.Headline.{Headline}
 use Rattle.script_laws.specs.Replayed.{Replayed, start_of}
 use Rattle.script_laws.specs.Sized.{SizeIs}
-use Rattle.script_laws.specs.Stored.{flush_count, is_stored_that, stored_count, write_count}
+use Rattle.script_laws.specs.Stored.{fault_count, flush_count, is_stored_that, stored_count, write_count}
 use Rattle.script_laws.proofs.HeadlineLaw.{headline_law}
-use Rattle.script_laws.proofs.ScriptLaws.{script_admits, script_calls, script_failed, script_flushes, script_once, script_statuses, script_worded, script_writes}
+use Rattle.script_laws.proofs.ScriptLaws.{script_admits, script_calls, script_failed, script_faults, script_flushes, script_once, script_statuses, script_worded, script_writes}
 use Rattle.script_laws.proofs.ReadLemmas.{read_declared, read_disks, read_few}
 use Rattle.script_laws.proofs.ReadPorts.{many_nets, read_nets}
 use Rattle.script_laws.proofs.Sizes.{lanes_long}
@@ -135,3 +135,10 @@ module _ {D : Type 0} (seen : D → ImageState) (script now : Option (List ℕ))
         (λ disk is. is.writes
         ∙ script_writes names.disks nets start 0 run.parts run.final disks_are fits refl parts_short
         ∙ ap write_count run.journal_is.is)
+
+    pub image_faults : IfSome image (λ disk. (seen disk).faults ≡ fault_count journal)
+    image_faults =
+        IfSome_then image run.image_is
+        (λ disk is. is.faults
+        ∙ script_faults names.disks nets start 0 run.parts run.final disks_are fits refl parts_short
+        ∙ ap fault_count run.journal_is.is)

@@ -30,10 +30,10 @@ use Rattle.lane_kinds.proofs.Places.{get_within}
 use Rattle.world_parts.specs.world_laws.World.{IsWorld, WorldState, WorldStep, fresh_world}
 use Rattle.world_parts.specs.lane_models.NetLaneState.{IsNetShape, NetShape}
 use Rattle.world_parts.specs.domain_laws.Domain.{DomainState}
-use Rattle.world_parts.specs.world_laws.Failures.{in_entry, is_failed_done, is_flush, is_store, is_store_that, is_write}
+use Rattle.world_parts.specs.world_laws.Failures.{in_entry, is_failed_done, is_failed_store, is_flush, is_store, is_store_that, is_write}
 use Rattle.world_parts.specs.world_laws.Forged.{NobodyForges}
 use Rattle.world_parts.specs.world_laws.NamesNo.{AllLeaveAlone}
-use Rattle.world_parts.proofs.world_laws.ImageFaults.{few_counted, run_calls, run_flushes, run_writes}
+use Rattle.world_parts.proofs.world_laws.ImageFaults.{few_counted, run_calls, run_faults, run_flushes, run_writes}
 use Rattle.ldom_report.specs.DiskEvents.{history}
 use Rattle.ldom_report.specs.HasWords.{HasWords}
 use Rattle.ldom_entries.specs.declared.entry.Entry.{Entry}
@@ -51,7 +51,7 @@ use Rattle.script_laws.specs.Admitting.{AdmitsAll}
 use Rattle.script_laws.specs.Failures.{FailuresCounted, SucceedOrFail, SucceedsOrFails, failed_count, has_failed}
 use Rattle.script_laws.specs.Forged.{IsUnforged}
 use Rattle.script_laws.specs.Outside.{IsOutsideDisks, KeepsOthers}
-use Rattle.script_laws.specs.Stored.{flush_count, is_stored_that, stored_count, write_count}
+use Rattle.script_laws.specs.Stored.{fault_count, flush_count, is_stored_that, stored_count, write_count}
 use Rattle.script_laws.proofs.DiskHistory.{all_seen, history_kept, issued_kept, kept_once, nothing_once}
 use Rattle.script_laws.proofs.DeclaredWorlds.{declared_world}
 use Rattle.script_laws.proofs.DiskShapes.{are_shapes, many_shapes, shape_there}
@@ -233,6 +233,12 @@ module _ (disks : List DiskDecl) (nets : List NetShape) (image : ImageState) (en
       let means = means_of tells.tellings in
       run_writes (fresh_world (shapes_of 0 disks) image) means v.first tells.run ∙ ap (λ (n : ℕ). count_after (count_by (in_entry is_write) means) n) none
       ∙ counted (λ operation failed. operation == 2) short
+
+  pub script_faults : image.faults ≡ 0 → length journal < 2 ^ 63 → v.first.image.faults ≡ fault_count journal
+  script_faults none short =
+      let means = means_of tells.tellings in
+      run_faults (fresh_world (shapes_of 0 disks) image) means v.first tells.run ∙ ap (λ (n : ℕ). count_after (count_by (in_entry is_failed_store) means) n) none
+      ∙ counted (λ operation failed. failed) short
 
   -- nothing happened where it has no entry
   pub script_nothing : journal ≡ [] → v.first ≡ fresh_world (shapes_of 0 disks) image

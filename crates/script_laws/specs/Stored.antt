@@ -1,4 +1,4 @@
--- How often a journal says that the image was called, and that it was asked to flush and to write.
+-- How often a journal says that the image was called, that it was asked to flush and to write, and that a call of it failed.
 use Rattle.std.specs.Prelude.{ℕ, Bool, true, false, ◌==◌, List}
 use Rattle.std.specs.List.{count_by}
 use Rattle.ldom_entries.specs.declared.entry.Entry.{Entry}
@@ -19,3 +19,6 @@ flush_count entries = count_by (is_stored_that (λ operation failed. operation =
 -- and a write is 2
 abbrev pub write_count : List Entry → ℕ
 write_count entries = count_by (is_stored_that (λ operation failed. operation == 2)) entries
+
+abbrev pub fault_count : List Entry → ℕ
+fault_count entries = count_by (is_stored_that (λ operation failed. failed)) entries

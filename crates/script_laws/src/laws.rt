@@ -14,7 +14,7 @@ ghost use Rattle.ldom_report.specs.HasWords.{HasWords};
 ghost use Rattle.script_laws.specs.Admitting.{AdmitsAll};
 ghost use Rattle.script_laws.specs.Failures.{FailuresCounted, SucceedOrFail};
 ghost use Rattle.script_laws.specs.Outside.{IsOutsideDisks, KeepsOthers};
-ghost use Rattle.script_laws.specs.Stored.{flush_count, stored_count, write_count};
+ghost use Rattle.script_laws.specs.Stored.{fault_count, flush_count, stored_count, write_count};
 ghost use Rattle.world_parts.specs.Declared.{bytes_needed, nets_of, world_of};
 ghost use Rattle.world_parts.specs.Script.{FitsScript, ScriptParts, all_lines, events_of, journal_of};
 
@@ -65,8 +65,9 @@ pub fn failed_completions_are_counted()
 {}
 
 /// Each call of the image is told: it was called as often as the journal says `stored`, whether that failed or not. So
-/// many of them were flushes and so many writes as the journal says. It is so where nothing was asked of it at first and
-/// its count can't have stopped at the last value. These are counts: as many were asked as are told, and no more.
+/// many of them were flushes, so many writes, and so many failed as the journal says. It is so where nothing was asked of
+/// it at first and its count can't have stopped at the last value. These are counts: as many were asked as are told, and
+/// no more.
 pub fn calls_of_the_image_are_told()
     ensures calls { (disks : List DiskDecl) (nets : List NetShape) (image : ImageState) (entries : ℕ)
         (parts : ScriptParts) (v : DomainState) → AreDisks disks → FitsScript entries (world_of disks nets image) parts v
@@ -79,6 +80,10 @@ pub fn calls_of_the_image_are_told()
         (parts : ScriptParts) (v : DomainState) → AreDisks disks → FitsScript entries (world_of disks nets image) parts v
         → image.writes ≡ 0 → length (journal_of parts) < 2 ^ 63
         → v.first.image.writes ≡ write_count (journal_of parts) }
+    ensures faults { (disks : List DiskDecl) (nets : List NetShape) (image : ImageState) (entries : ℕ)
+        (parts : ScriptParts) (v : DomainState) → AreDisks disks → FitsScript entries (world_of disks nets image) parts v
+        → image.faults ≡ 0 → length (journal_of parts) < 2 ^ 63
+        → v.first.image.faults ≡ fault_count (journal_of parts) }
 {}
 
 /// Each completion of a disk that nobody forged has the status 0, or 5 where the image failed.

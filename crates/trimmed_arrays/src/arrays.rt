@@ -1,4 +1,4 @@
-ghost use Rattle.std.specs.Prelude.{◌≡◌, ◌+◌, ◌^◌, ◌≤◌, ◌<◌, [], ◌∷◌, ◌++◌, length, OnErr, OnOk};
+ghost use Rattle.std.specs.Prelude.{◌≡◌, ◌+◌, ◌^◌, ◌≤◌, ◌<◌, [], ◌∷◌, ◌++◌, length, IsOk, OnErr, OnOk};
 
 use crate::rest::TrimmedRest;
 use crate::strings::ByteStrings;
@@ -49,6 +49,7 @@ impl TrimmedArrays {
         ensures room { OnOk result (n ≤ self.new.room) }
         ensures more { self.old.room ≤ self.new.room }
         ensures same { OnErr result (self.new.room ≡ self.old.room) }
+        ensures there { n ≤ self.old.room → IsOk result }
     {
         self.fronts.reserve(n)
     }

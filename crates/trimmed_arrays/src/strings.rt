@@ -1,4 +1,4 @@
-ghost use Rattle.std.specs.Prelude.{◌≡◌, ◌+◌, ◌^◌, ◌≤◌, ◌<◌, [], ◌∷◌, ◌++◌, length, vec_capacity, OnErr, OnOk};
+ghost use Rattle.std.specs.Prelude.{◌≡◌, ◌+◌, ◌^◌, ◌≤◌, ◌<◌, [], ◌∷◌, ◌++◌, length, vec_capacity, IsOk, OnErr, OnOk};
 
 use crate::strings_rest::StringsRest;
 use std::alloc::Global;
@@ -61,6 +61,7 @@ impl ByteStrings {
         ensures room { OnOk result (n ≤ self.new.room) }
         ensures more { self.old.room ≤ self.new.room }
         ensures same { OnErr result (self.new.room ≡ self.old.room) }
+        ensures there { n ≤ self.old.room → IsOk result }
     {
         if self.room < n {
             self.lengths.reserve(n)?;

@@ -60,7 +60,8 @@ fn the_block_that_was_used_least_lately_goes_first(rt: HostRuntime) -> Result<()
     Ok(())
 }
 
-/// A store of four blocks that tells no bytes: a read gives the number of its call, in each byte. The first has 1.
+/// A store of four blocks that tells no bytes. A read gives in each byte 16 times the number of its call, where the first
+/// has 1, and the number of its first block.
 #[derive(Drop)]
 struct NumberedStore {
     calls: u64,
@@ -89,9 +90,9 @@ impl Store for NumberedStore {
         2048
     }
 
-    fn read_at(&mut self, _: u64, buf: &mut [u8]) -> Result<(), Failed> {
+    fn read_at(&mut self, at: u64, buf: &mut [u8]) -> Result<(), Failed> {
         self.calls = self.calls.saturating_add(1);
-        buf.fill((self.calls % 256) as u8);
+        buf.fill((16 * (self.calls % 16) + at / 512 % 16) as u8);
         Ok(())
     }
 
@@ -149,6 +150,6 @@ fn numbered_cache(alloc: Global) -> Result<Cached<NumberedStore>, NoMemory> {
 #[test]
 fn a_range_that_is_kept_in_part_is_asked_for_whole(rt: HostRuntime) -> Result<(), Fail> {
     let mut cached = numbered_cache(rt.alloc())?;
-    assert!(rt; numbers(&mut cached, &[(1, 1), (0, 2), (1, 3), (1, 3)]));
+    assert!(rt; numbers(&mut cached, &[(1, 17), (0, 32), (1, 49), (1, 49)]));
     Ok(())
 }

@@ -1,4 +1,4 @@
-ghost use Rattle.std.specs.Prelude.{◌≡◌, ◌≢◌, ◌+◌, ◌-◌, ◌*◌, ◌/◌, ◌%◌, ◌^◌, ◌<◌, ◌≤◌, ◌↔◌, ◌++◌, length, get_or, replicate, vec_capacity, IfOk, IsTrue};
+ghost use Rattle.std.specs.Prelude.{◌≡◌, ◌≢◌, ◌+◌, ◌-◌, ◌*◌, ◌/◌, ◌%◌, ◌^◌, ◌<◌, ◌≤◌, ◌↔◌, ◌++◌, length, get_or, replicate, vec_capacity, IfOk, IsOk, IsTrue};
 ghost use Rattle.vio_bytes.specs.Place.{put_at};
 ghost use Rattle.vio_bytes.specs.Range.{range_at};
 ghost use Rattle.zero_pages.specs.Zeros.{AreKept, page_at, pages_at};
@@ -31,9 +31,10 @@ impl Model for ZeroPages {
 }
 
 impl ZeroPages {
-    /// So many pages of zeros. The one refusal is for want of memory.
+    /// So many pages of zeros. The one refusal is for want of memory, and none of them want none.
     pub fn new(alloc: Global, count: usize) -> Result<Self, NoMemory>
-        ensures { IfOk result (λ pages. pages ≡ replicate (4096 * count) 0) }
+        ensures zeros { IfOk result (λ pages. pages ≡ replicate (4096 * count) 0) }
+        ensures none { count ≡ 0 → IsOk result }
     {
         let Some(size) = count.checked_mul(ZERO_PAGE) else {
             return Err(NoMemory);
@@ -78,7 +79,8 @@ fn page_rest(at: usize) -> usize
 
 /// The places of so many pages of zeros.
 fn no_places(alloc: Global, count: usize) -> Result<Vec<usize>, NoMemory>
-    ensures { IfOk result (λ places. places.items ≡ replicate count 0) }
+    ensures places { IfOk result (λ places. places.items ≡ replicate count 0) }
+    ensures none { count ≡ 0 → IsOk result }
 {
     let mut places = Vec::with_capacity(alloc, count)?;
     places.resize(count, 0)?;

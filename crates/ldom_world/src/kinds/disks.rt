@@ -1,6 +1,6 @@
 // What a lane is asked, among the disks of a world.
 
-ghost use Rattle.std.specs.Prelude.{◌≡◌, ◌<◌, ◌≤◌, length, slice_get, Some, IfOk, OnErr, OnOk};
+ghost use Rattle.std.specs.Prelude.{◌≡◌, ◌<◌, ◌≤◌, length, slice_get, Some, IfOk, IsOk, OnErr, OnOk};
 ghost use Rattle.recorded_lanes.specs.world_parts.lane_models.LaneState.{LaneState};
 ghost use Rattle.recorded_lanes.specs.world_parts.domain_laws.Domain.{DomainStep};
 ghost use Rattle.recorded_lanes.specs.world_parts.domain_laws.Lines as script;
@@ -88,6 +88,7 @@ pub(crate) fn answer<D: Store>(
     ensures so_far { OnErr result (FitsSoFar world.old (Calls (script.DiskLane disk) (call_of call.entry))
         journal.old.entries journal.new.entries world.new) }
     ensures agrees { Counted journal.new.entries world.new }
+    ensures there { 0 < journal.old.room → IsOk result }
 {
     world.disks.answer_call(disk, call, journal)
 }
@@ -109,6 +110,7 @@ pub(crate) fn poke<D: Store>(
     ensures so_far { OnErr result (FitsSoFar world.old (Calls (script.DiskLane disk) (Pokes (end_of side) at bytes.now))
         journal.old.entries journal.new.entries world.new) }
     ensures agrees { Counted journal.new.entries world.new }
+    ensures there { length bytes.now ≤ 16 → 0 < journal.old.room → IsOk result }
 {
     match side {
         Side::Client => poke_client(world, disk, at, bytes, journal),
@@ -131,6 +133,7 @@ fn poke_client<D: Store>(
     ensures so_far { OnErr result (FitsSoFar world.old (Calls (script.DiskLane disk) (Pokes A at bytes.now))
         journal.old.entries journal.new.entries world.new) }
     ensures agrees { Counted journal.new.entries world.new }
+    ensures there { length bytes.now ≤ 16 → 0 < journal.old.room → IsOk result }
 {
     world.disks.poke(disk, at, bytes, journal)
 }

@@ -1,6 +1,6 @@
 // What a lane is asked, among the ports of a world.
 
-ghost use Rattle.std.specs.Prelude.{◌≡◌, ◌<◌, ◌≤◌, length, slice_get, Some, IfOk, OnErr, OnOk};
+ghost use Rattle.std.specs.Prelude.{◌≡◌, ◌<◌, ◌≤◌, length, slice_get, Some, IfOk, IsOk, OnErr, OnOk};
 ghost use Rattle.recorded_lanes.specs.world_parts.lane_models.PortState.{PortState};
 ghost use Rattle.recorded_lanes.specs.world_parts.domain_laws.Domain.{DomainStep};
 ghost use Rattle.recorded_lanes.specs.world_parts.domain_laws.Lines as script;
@@ -87,6 +87,7 @@ pub(crate) fn answer<D: Store>(
     ensures so_far { OnErr result (FitsSoFar world.old (Calls (script.PortLane port) (call_of call.entry))
         journal.old.entries journal.new.entries world.new) }
     ensures agrees { Counted journal.new.entries world.new }
+    ensures there { 0 < journal.old.room → IsOk result }
 {
     world.ports.answer_call(port, call, journal)
 }
@@ -107,6 +108,7 @@ pub(crate) fn poke<D: Store>(
     ensures so_far { OnErr result (FitsSoFar world.old (Calls (script.PortLane port) (Pokes (end_of side) at bytes.now))
         journal.old.entries journal.new.entries world.new) }
     ensures agrees { Counted journal.new.entries world.new }
+    ensures there { length bytes.now ≤ 16 → 0 < journal.old.room → IsOk result }
 {
     world.ports.poke(port, side, at, bytes, journal)
 }

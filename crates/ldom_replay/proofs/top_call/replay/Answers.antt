@@ -16,8 +16,8 @@ use Rattle.ldom_sample.specs.Sample.{sample_text}
 use Rattle.ldom_replay.proofs.Commands.{as_asked, no_sample_too, one_asked, one_sample}
 use Rattle.ldom_replay.proofs.Holding.{all_otherwise, gave_as, gave_none}
 use Rattle.script_laws.proofs.MoreFacts.{others_told}
-use Rattle.script_laws.proofs.RunFacts.{admits, calls, failures, flushes, headline, none_once, once, said_otherwise, statuses, worded, writes}
-use Rattle.script_laws.specs.Stored.{flush_count, stored_count, write_count}
+use Rattle.script_laws.proofs.RunFacts.{admits, calls, failures, flushes, headline, image_faults, none_once, once, said_otherwise, statuses, worded, writes}
+use Rattle.script_laws.specs.Stored.{fault_count, flush_count, stored_count, write_count}
 use Rattle.script_laws.proofs.WholeScript.{runs_plainly, runs_whole}
 use Rattle.ldom_report.specs.declared.status.Status.{Status}
 use Rattle.ldom_report.specs.declared.status.Mode.{Mode}
@@ -218,6 +218,18 @@ returns-in-Some-Sample-clause-writes g c =
     said_otherwise (λ (j : JournalState) d. IfSome d (λ image. g.H.Disk.Store.writes image ≡ write_count j.entries)) c.run_sample.result.journal c.report_run-in-Some-Sample.result.journal c.run_sample.result.image c.report_run-in-Some-Sample.result.image
     c.report_run-in-Some-Sample.ensures.journal c.report_run-in-Some-Sample.ensures.image
     (writes _ _ _ _ _ _ _ _ _ _ c.run_sample.ensures.replayed.replayed (subst (λ (j : JournalState). length j.entries < 2 ^ 63) c.report_run-in-Some-Sample.ensures.journal c.report_run-in-Some-Sample.ensures.small))
+
+pub returns-in-Some-Script-clause-image_faults : goal.returns-in-Some-Script-clause-image_faults
+returns-in-Some-Script-clause-image_faults g c =
+    said_otherwise (λ (j : JournalState) d. IfSome d (λ image. g.H.Disk.Store.faults image ≡ fault_count j.entries)) c.run_script.result.journal c.report_run.result.journal c.run_script.result.image c.report_run.result.image
+    c.report_run.ensures.journal c.report_run.ensures.image
+    (image_faults _ _ _ _ _ _ _ _ _ _ c.run_script.ensures.replayed (subst (λ (j : JournalState). length j.entries < 2 ^ 63) c.report_run.ensures.journal c.report_run.ensures.small))
+
+pub returns-in-Some-Sample-clause-image_faults : goal.returns-in-Some-Sample-clause-image_faults
+returns-in-Some-Sample-clause-image_faults g c =
+    said_otherwise (λ (j : JournalState) d. IfSome d (λ image. g.H.Disk.Store.faults image ≡ fault_count j.entries)) c.run_sample.result.journal c.report_run-in-Some-Sample.result.journal c.run_sample.result.image c.report_run-in-Some-Sample.result.image
+    c.report_run-in-Some-Sample.ensures.journal c.report_run-in-Some-Sample.ensures.image
+    (image_faults _ _ _ _ _ _ _ _ _ _ c.run_sample.ensures.replayed.replayed (subst (λ (j : JournalState). length j.entries < 2 ^ 63) c.report_run-in-Some-Sample.ensures.journal c.report_run-in-Some-Sample.ensures.small))
 
 pub returns-in-Some-Script-clause-quiet : goal.returns-in-Some-Script-clause-quiet
 returns-in-Some-Script-clause-quiet g c image asks bytes content disk events known quiet gives done =

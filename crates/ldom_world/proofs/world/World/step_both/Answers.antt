@@ -8,7 +8,7 @@ use Rattle.ldom_world.proofs.world.World.step_both.Goals as goal
 pub returns-in_err-step-clause-begun : goal.returns-in_err-step-clause-begun
 returns-in_err-step-clause-begun g c =
     at_error c.from_residual.result _
-    (none_begun (turn (lane_named c.args.lane) A ∷ turn (lane_named c.args.lane) B ∷ []) c.args.self.now c.step.new.self
+    (none_begun (turn (lane_named c.args.lane) A) (turn (lane_named c.args.lane) B ∷ []) c.args.self.now c.step.new.self
     c.args.journal.now.entries c.step.new.journal.entries
     c.in_err-step.ensures.same.0 c.in_err-step.ensures.same.1)
 
