@@ -1,4 +1,5 @@
-//! Runs the cases of the files that its arguments name, prints what differs from what a case wants, and counts them.
+//! Prints the report of an example, and runs the cases of the files that its arguments name. It prints what differs
+//! from what a case wants, and counts them.
 //! A case is a command with its input and what must come of it. So tests over whole scripts are data, and a test more
 //! is lines of text.
 //!
@@ -33,6 +34,7 @@
 #![tactic(auto)]
 
 mod case;
+mod example;
 mod fault;
 mod files;
 mod filling;
@@ -40,10 +42,12 @@ mod looking;
 mod replaying;
 mod spelling;
 
+use example::print_example;
 use files::run_file;
 use std::{env, io};
 
 fn main(rt: HostRuntime) -> io::Result<()> {
+    print_example(&rt)?;
     let mut all = 0u64;
     for file in env::args(&rt)?.skip(1) {
         let count = run_file(&rt, file.as_str())?;

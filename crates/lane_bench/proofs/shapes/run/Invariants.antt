@@ -1,8 +1,0 @@
-use Rattle.std.proofs.Common.{◌≤◌, ◌+◌, ◌*◌}
-use Rattle.lane_bench.proofs.shapes.run.Given as goal
-
-abbrev pub invariant-loop-k : goal.invariant-loop-k
-invariant-loop-k l = record {
-  ids : l.lane ≤ l.k;
-  few : l.done ≤ 100000 * (l.k + 1);
-}

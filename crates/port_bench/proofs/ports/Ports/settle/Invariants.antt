@@ -1,5 +1,0 @@
-use Rattle.std.proofs.Common.{◌≤◌, ◌*◌}
-use Rattle.port_bench.proofs.ports.Ports.settle.Given as goal
-
-abbrev pub invariant-loop : goal.invariant-loop
-invariant-loop l = l.taken ≤ 2 * l.counter
