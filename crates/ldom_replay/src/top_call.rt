@@ -133,8 +133,8 @@ pub fn replay<H: Host, S: Source, K: Sink>(
     ensures failures { IfSome result.image (λ image. FailuresCounted result.journal.entries (H.Disk.faults image)) }
 
     // The image was asked to flush or to write once for each entry `stored` of the journal of a flush or a write, whether
-    // the call failed or not. It was called at most once for each of all: reads may have been spared it. Each call that
-    // it counts as failed is one that the journal says failed, and so the other way.
+    // the call failed or not. It was called at most once for each of all: reads may have been spared it. It counts as many
+    // failed calls as the journal says failed.
     ensures calls { IfSome result.image (λ image. H.Disk.calls image ≤ stored_count result.journal.entries) }
     ensures flushes { IfSome result.image (λ image. H.Disk.flushes image ≡ flush_count result.journal.entries) }
     ensures writes { IfSome result.image (λ image. H.Disk.writes image ≡ write_count result.journal.entries) }

@@ -4,7 +4,7 @@ use Rattle.domain_script.specs.declared.event.Event.{Event}
 use Rattle.domain_script.specs.declared.event.Event.TheVariants as line
 use Rattle.recorded_lanes.specs.kept_requests.Kept.{HasFewBytes}
 
--- A LINE that makes one entry at most, and keeps at most 16 bytes beside it: any other line than these does
+-- A LINE that makes one entry at most, and has at most 16 bytes to keep beside it: each that isn't named here does
 abbrev pub MakesOneEntry : Event → Type 0
 MakesOneEntry (line.Issue disk request) = HasFewBytes request
 MakesOneEntry (line.Poke end at bytes) = bytes.len ≤ 16

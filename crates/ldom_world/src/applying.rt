@@ -20,8 +20,9 @@ use vio_io::Store;
 
 impl<D: Store> World<D> {
     /// Does what a line of the script says, and adds its part to the journal. A blank line and a declaration say nothing
-    /// and want no memory. A line that makes one entry, and keeps at most 16 bytes beside it, wants none either, where the
-    /// journal has room for the entry. After want of memory the journal holds every step that was made and no other.
+    /// and want no memory. Nor does another line than `step`, `round` and `settle`, where the journal has room for an
+    /// entry and the line has at most 16 bytes to keep beside it. After want of memory the journal holds every step that
+    /// was made and no other.
     #[tactic(auto, using(crate::proofs::NumbersStay::line_many, crate::proofs::Calling::calls_on))]
     pub fn apply(&mut self, event: &Event, journal: &mut Journal) -> Result<(), NoMemory>
         requires event { IsForLanes self.old event.now }
